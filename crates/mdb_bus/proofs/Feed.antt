@@ -275,7 +275,7 @@ module _ (old new : Bus) (row : Event) (scope : new.scope ≡ old.scope) (last :
         scope = scope;
         advanced = advanced;
         last = last;
-        levels = rw (advanced.act, tells_none (profile_of old.scope.begins) At next old.levels quiet)
+        levels = rw (advanced.act, tells_none _ At next old.levels quiet)
             levels;
         options = options;
         asked = asked;
@@ -316,7 +316,8 @@ module _ (old new : Bus) (row : Event) (scope : new.scope ≡ old.scope) (last :
       gone_break found ended act is options asked advanced =
           each_break found row _ is (λ start length there at.
           gone_settling (step.Break length) ended act (acts.Break length) tt
-          (ap (λ (p : List Event → Piece). act_in (p [])) (break_after old.scope At length)) options asked
+          (ap (λ (p : List Event → Piece). act_in (p [])) (break_after old.scope At length)) options
+          asked
           ((rw (is, there) at advanced) at))
 
       -- by a foreign word
@@ -333,7 +334,8 @@ module _ (old new : Bus) (row : Event) (scope : new.scope ≡ old.scope) (last :
           → Goes found act
       gone_on judged.Ask act ask ack foreign pause options asked advanced = absurd (ask refl)
       gone_on judged.Ack act ask ack foreign pause options asked advanced = absurd (ack refl)
-      gone_on judged.Foreign act ask ack foreign pause options asked advanced = absurd (foreign refl)
+      gone_on judged.Foreign act ask ack foreign pause options asked advanced =
+          absurd (foreign refl)
       gone_on judged.Break act ask ack foreign pause options asked advanced = absurd (pause refl)
       gone_on judged.Reply act ask ack foreign pause options asked advanced = tt
       gone_on found act ask ack foreign pause options asked advanced =

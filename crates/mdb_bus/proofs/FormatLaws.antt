@@ -308,7 +308,8 @@ module _ (one other : Reading) where
   plain_in : is_extended other ≡ true → (command : Command) (reply : Reply) → IsPlainList reply
       → IsIn one command reply → IsIn other command reply
   plain_in extended command (replies.Reader list) same is =
-      (list_stays list.id list.text list.messages [] same is.0, λ base. absurd (cc (extended, base)))
+      let stays = list_stays list.id list.text list.messages [] same is.0 in
+      (stays, λ base. absurd (cc (extended, base)))
   plain_in extended command reply same is = absurd same
 
 -- so open bytes are it

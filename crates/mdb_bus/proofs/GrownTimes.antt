@@ -117,8 +117,7 @@ asked_stays : (tail : Piece) (earlier : List Piece) → IsTail tail
 asked_stays (Whole act events) earlier open_end = absurd open_end
 asked_stays tail earlier open_end = refl
 
--- what is told of grown pieces by the rows of the newest: of one row alone, and of a tail's with one
--- more
+-- what is told of grown pieces by the rows of the newest: of one row, and of a tail's with one more
 by_rows : {X : Type 0} (With : List Piece → List Event → X) (After : List Piece → X)
     (pieces longer : List Piece) (row : Event) (act : Option Act) (g : Grown pieces row act longer)
     → With pieces (row ∷ []) ≡ After pieces

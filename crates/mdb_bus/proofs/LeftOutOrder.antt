@@ -368,7 +368,8 @@ module _ (law : FirstTells) (less more : Scope) (wider : LeavesOutMore less more
   )
   said_stays (Whole acts.Foreign events) kept said = foreign_stays less more wider events kept said
   said_stays (AskTail bytes events) kept said =
-      (front_followed law more bytes (rw wider.begins at (plain_front less bytes said.0)) kept, said.1)
+      let front = rw wider.begins at (plain_front less bytes said.0) in
+      (front_followed law more bytes front kept, said.1)
   said_stays (Whole (acts.Break length) events) kept said =
       (said.0, said.1, rw wider.begins at said.2)
   said_stays piece kept said = said
@@ -385,9 +386,10 @@ module _ (law : FirstTells) (less more : Scope) (wider : LeavesOutMore less more
       let moved = moves pieces order.2 in
       let from = last_of (events_of pieces) in
       let spaced = rw wider.begins at order.0.spaced in
-      let came : MayCome (profile_of more.begins) piece (position_of less pieces) from stands.first =
-      subst (λ begins. MayCome (profile_of begins) piece (position_of less pieces) from stands.first)
-      wider.begins stands.comes in
+      let at = position_of less pieces in
+      let came : MayCome (profile_of more.begins) piece at from stands.first =
+      subst (λ begins. MayCome (profile_of begins) piece at from stands.first) wider.begins
+      stands.comes in
       let fits : PieceFits more.begins
       (levels_of (profile_of more.begins) (levels_before more) pieces) piece =
       rw (← wider.begins, ← wider.levels) stands.levels in

@@ -175,4 +175,5 @@ module _ (scope : Scope) (position : Position) (from : Option Event) (first : Ev
       let same : further.0 ≡ first = cc in
       let alone : [] ≡ others = cc in
       let word : IsForeignWord first = rw same at further.2 in
-      record { act = inr (first, refl, word); comes = comes; words = subst AreForeignWords alone tt }
+      let none : AreForeignWords others = subst AreForeignWords alone tt in
+      record { act = inr (first, refl, word); comes = comes; words = none }

@@ -91,7 +91,8 @@ module _ (scope : Scope) where
       rw (order.1.begins, rest_last) (rw order.1.begins at (piece_long piece order.0.said))
 
   -- after a reply or a repeat, and where it was asked for again, there is a reply
-  pub has_reply : (pieces : List Piece) → ArePieces scope pieces → HasReply (position_of scope pieces)
+  pub has_reply : (pieces : List Piece) → ArePieces scope pieces
+      → HasReply (position_of scope pieces)
   has_reply [] order = at_first HasReply tt tt scope.begins
   has_reply (Whole (acts.Reply command reply) events ∷ pieces) order = order.0.said.0
   has_reply (Whole (acts.VmcRet command reply) events ∷ pieces) order =

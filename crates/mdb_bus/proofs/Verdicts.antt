@@ -245,7 +245,8 @@ module _ (profile : Profile) where
     second_foreign out =
         let same : word ≡ byte = omega (arith, low) in
         let foreign : needed_by profile (first ∷ byte ∷ []) ≡ Foreign = sym tell ∙ out in
-        rw is (rw same (left_foreign first byte (rw is at begun) foreign, foreign, omega (arith, low)))
+        let more = left_foreign first byte (rw is at begun) foreign in
+        rw is (rw same (more, foreign, omega (arith, low)))
 
     -- one that leaves the command open
     pub second_front : OpenIsAFront → TwoTell → (alone : Need) → first < 256

@@ -247,7 +247,8 @@ module _ (old front : List ℕ) (n : ℕ) where
   module _ (ten : 10 ≤ n) (small : n < 2 ^ 64) (is : front ≡ old ++ decimal (n / 10)) where
     pub decimal_append_room : length old + length (decimal n) ≤ 32 → length front < 32
     decimal_append_room room =
-        omega (arith, ap length is, length-append old (decimal (n / 10)), decimal_longer n ten small)
+        let longer = decimal_longer n ten small in
+        omega (arith, ap length is, length-append old (decimal (n / 10)), longer)
 
     pub decimal_append : (new : List ℕ) → new ≡ front ++ digit_glyph true (n % 10) ∷ []
         → new ≡ old ++ decimal n
