@@ -46,10 +46,8 @@ made position asked row broken =
     record { rule = broken; blame = blame_of position asked row broken }
 
 pub first_counts : (scope : Scope) (pieces : List Piece) (row : Event) (first : Rule)
-    → profile_of scope.begins ≡ Base
-    → fault_of scope pieces row first
+    → profile_of scope.begins ≡ Base → fault_of scope pieces row first
     ≡ made (position_of scope pieces) (asked_device pieces) row first
 first_counts scope pieces row first is =
-    no_haste scope pieces row _ is
-    ∙ ap (made (position_of scope pieces) (asked_device pieces) row)
+    no_haste scope pieces row _ is ∙ ap (made (position_of scope pieces) (asked_device pieces) row)
     (counts_plainly scope pieces first (position_of scope pieces) (options_known scope.begins is))

@@ -44,6 +44,5 @@ by_device first None at more = cc more
 
 pub more_low : (scope : Scope) (first : ℕ) → needed_in scope (first ∷ []) ≡ More → first < 256
 more_low scope first more =
-    by_device first (device_at first) refl
-    (sym (one_need (profile_of scope.begins) first)
+    by_device first (device_at first) refl (sym (one_need (profile_of scope.begins) first)
     ∙ (within scope (first ∷ []) More more (λ same. cc same)).1)

@@ -32,8 +32,7 @@ some_place r = omega arith
 
 not_below : (Breaks : Rule → Type 0) (bound : ℕ) (rules : List Rule)
     → ((other : Rule) → Breaks other → bound ≤ place_of other)
-    → AllByRecursion (λ r. place_of r < bound) rules
-    → AllByRecursion (λ r. Breaks r → ⊥) rules
+    → AllByRecursion (λ r. place_of r < bound) rules → AllByRecursion (λ r. Breaks r → ⊥) rules
 not_below Breaks bound [] first low = tt
 not_below Breaks bound (r ∷ rules) first low =
     (λ breaks. omega (arith, low.0, first r breaks), not_below Breaks bound rules first low.1)

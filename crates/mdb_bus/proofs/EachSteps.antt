@@ -1,5 +1,5 @@
 -- What each step has, and some step has.
-use Rattle.std.proofs.Common.{refl, ◌≡◌, ◌%◌, ℕ, Ok}
+use Rattle.std.proofs.Common.{refl, ◌≡◌, ℕ, Ok}
 use Rattle.mdb_words.specs.declared.event.Event.{Event}
 use Rattle.mdb_words.specs.declared.event.Event.TheVariants.{Word, Break}
 use Rattle.mdb_bus.specs.LinkFaults.{Situation}
@@ -12,38 +12,15 @@ use Rattle.mdb_bus.specs.shared.Step as step
 -- a step that has what some step has and what each step has
 pub some_each : (found : Judged) (row : Event) (One Two : Step → Type 0) → SomeStep found row One
     → EachStep found row Two → (next : Step) × One next × Two next
-some_each judged.AskByte row One Two one two = (step.AskByte (word_in row % 256), one, two)
 some_each judged.Ask row One Two one two = (step.Ask one.0, one.1, two one.0)
-some_each judged.Foreign row One Two one two = (step.Foreign, one, two)
-some_each judged.Ack row One Two one two = (step.Ack, one, two)
-some_each judged.Nak row One Two one two = (step.Nak, one, two)
-some_each judged.ReplyByte row One Two one two = (step.ReplyByte (word_in row % 256), one, two)
-some_each judged.Reply row One Two one two = absurd one
-some_each judged.VmcAck row One Two one two = (step.VmcAck, one, two)
-some_each judged.VmcNak row One Two one two = (step.VmcNak, one, two)
-some_each judged.VmcRet row One Two one two = (step.VmcRet, one, two)
-some_each judged.RepeatWord row One Two one two = (step.RepeatWord (word_in row), one, two)
-some_each judged.Repeat row One Two one two = (step.Repeat, one, two)
-some_each judged.Break (Break at length) One Two one two = (step.Break length, one, two)
-some_each judged.Break (Word at line word) One Two one two = absurd one
+some_each judged.Break (Break at length) One Two one two = search
+some_each found row One Two one two = search
 
 -- what is made of a row that ends no reply is where it leads
 pub leads_of : (found : Judged) (s : Situation) (row : Event) → (found ≡ judged.Reply → ⊥)
-    → IsJudged s row (Ok found)
-    → SomeStep found row (Leads s row)
-leads_of judged.AskByte s row other h = h
-leads_of judged.Ask s row other h = h
-leads_of judged.Foreign s row other h = h
-leads_of judged.Ack s row other h = h
-leads_of judged.Nak s row other h = h
-leads_of judged.ReplyByte s row other h = h
+    → IsJudged s row (Ok found) → SomeStep found row (Leads s row)
 leads_of judged.Reply s row other h = absurd (other refl)
-leads_of judged.VmcAck s row other h = h
-leads_of judged.VmcNak s row other h = h
-leads_of judged.VmcRet s row other h = h
-leads_of judged.RepeatWord s row other h = h
-leads_of judged.Repeat s row other h = h
-leads_of judged.Break s row other h = h
+leads_of found s row other h = h
 
 -- a break's step has what it has by the length that the row says
 pub each_break : (found : Judged) (row : Event) (Has : Step → Type 0) → found ≡ judged.Break

@@ -1,5 +1,5 @@
 -- What is said to a device that is followed: bytes need what they need of anybody.
-use Rattle.std.proofs.Common.{ap, refl, sym, ◌∙◌, ◌≡◌, ◌≢◌, ◌++◌, ◌∷◌, [], Bool, true, false, ℕ, List, slice_index, if◌then◌else◌}
+use Rattle.std.proofs.Common.{ap, refl, sym, ◌∙◌, ◌≡◌, ◌≢◌, ◌++◌, ◌∷◌, [], Bool, false, ℕ, List, slice_index, if◌then◌else◌}
 use Rattle.mdb_msgs.specs.declared.command.Command.{Command}
 use Rattle.mdb_msgs.specs.declared.device_set.DeviceSet.{DeviceSet}
 use Rattle.mdb_msgs.specs.declared.need.Need.{Need}
@@ -11,7 +11,7 @@ use Rattle.mdb_bus.specs.declared.scope.Scope.{Scope}
 use Rattle.mdb_bus.specs.Acts.{IsForeignOpening}
 use Rattle.mdb_bus.specs.ActLists.{IsAskFront}
 use Rattle.mdb_bus.specs.Scopes.{Asks, HasCommand, needed_by, needed_in, profile_of}
-use Rattle.mdb_bus.proofs.Masked.{one_need}
+use Rattle.mdb_bus.proofs.Masked.{otherwise, one_need}
 use Rattle.mdb_bus.specs.shared.Steps.{IsCommandFront, IsUnknownExpansion}
 
 -- a law of mdb_msgs: the first byte of a command's block is to its device
@@ -31,20 +31,14 @@ needed_followed scope bytes followed =
     bytes) followed
 
 -- what needs anything that isn't foreign is to a device that is followed
-otherwise : (left_out : Bool) (need told : Need) → (if left_out then Foreign else need) ≡ told
-    → told ≢ Foreign → (left_out ≡ false) × (need ≡ told)
-otherwise true need told is other = absurd (other (sym is))
-otherwise false need told is other = (refl, is)
-
 pub within : (scope : Scope) (bytes : List ℕ) (told : Need) → needed_in scope bytes ≡ told
-    → told ≢ Foreign
-    → AreFollowed scope bytes × (needed_by (profile_of scope.begins) bytes ≡ told)
+    → told ≢ Foreign → AreFollowed scope bytes × (needed_by (profile_of scope.begins) bytes ≡ told)
 within scope bytes told is other =
     otherwise (is_to_one_of scope.without (slice_index bytes 0))
     (needed_by (profile_of scope.begins) bytes) told is other
 
 -- more bytes are to whom the first is
-pub first_stays : (bytes rest : List ℕ) → bytes ≢ []
+first_stays : (bytes rest : List ℕ) → bytes ≢ []
     → slice_index (bytes ++ rest) 0 ≡ slice_index bytes 0
 first_stays [] rest some = absurd (some refl)
 first_stays (first ∷ bytes) rest some = refl
@@ -59,40 +53,38 @@ pub was_followed : (scope : Scope) (bytes rest : List ℕ) → bytes ≢ []
 was_followed scope bytes rest some followed =
     ap (is_to_one_of scope.without) (sym (first_stays bytes rest some)) ∙ followed
 
--- a command's block is to a device that is followed exactly where the command's is
-pub block_followed : FirstTells → (scope : Scope) (command : Command) (block : List ℕ)
-    → Asks scope command block → AreFollowed scope block
-block_followed law scope command block asks =
-    law block command asks.spells scope.without ∙ asks.followed
+module _ (law : FirstTells) (scope : Scope) where
+  -- a command's block is to a device that is followed exactly where the command's is
+  pub block_followed : (command : Command) (block : List ℕ) → Asks scope command block
+      → AreFollowed scope block
+  block_followed command block asks = law block command asks.spells scope.without ∙ asks.followed
 
-pub asks_followed : FirstTells → (scope : Scope) (command : Command) (block : List ℕ)
-    → Spells command block → HasCommand (profile_of scope.begins) command
-    → AreFollowed scope block → Asks scope command block
-asks_followed law scope command block spells known followed = record {
-  spells = spells;
-  known = known;
-  followed = sym (law block command spells scope.without) ∙ followed;
-}
+  pub asks_followed : (command : Command) (block : List ℕ) → Spells command block
+      → HasCommand (profile_of scope.begins) command → AreFollowed scope block
+      → Asks scope command block
+  asks_followed command block spells known followed = record {
+    spells = spells;
+    known = known;
+    followed = sym (law block command spells scope.without) ∙ followed;
+  }
 
--- the front of an ask is to a device that is followed
-pub ask_front_followed : FirstTells → (scope : Scope) (bytes : List ℕ) → IsAskFront scope bytes
-    → AreFollowed scope bytes
-ask_front_followed law scope bytes front =
-    was_followed scope bytes front.rest front.some
-    (block_followed law scope front.command (bytes ++ front.rest) front.spelled)
+  -- the front of an ask is to a device that is followed
+  pub ask_front_followed : (bytes : List ℕ) → IsAskFront scope bytes → AreFollowed scope bytes
+  ask_front_followed bytes front =
+      was_followed scope bytes front.rest front.some
+      (block_followed front.command (bytes ++ front.rest) front.spelled)
 
--- and the front of a command to such a device is one of an ask
-pub front_followed : FirstTells → (scope : Scope) (bytes : List ℕ)
-    → IsCommandFront (profile_of scope.begins) bytes
-    → AreFollowed scope bytes → IsAskFront scope bytes
-front_followed law scope bytes front followed = record {
-  some = front.some;
-  command = front.command;
-  rest = front.rest;
-  open_end = front.open_end;
-  spelled = asks_followed law scope front.command (bytes ++ front.rest) front.spelled front.known
-      (still_followed scope bytes front.rest front.some followed);
-}
+  -- and the front of a command to such a device is one of an ask
+  pub front_followed : (bytes : List ℕ) → IsCommandFront (profile_of scope.begins) bytes
+      → AreFollowed scope bytes → IsAskFront scope bytes
+  front_followed bytes front followed = record {
+    some = front.some;
+    command = front.command;
+    rest = front.rest;
+    open_end = front.open_end;
+    spelled = asks_followed front.command (bytes ++ front.rest) front.spelled front.known
+        (still_followed scope bytes front.rest front.some followed);
+  }
 
 pub plain_front : (scope : Scope) (bytes : List ℕ) → IsAskFront scope bytes
     → IsCommandFront (profile_of scope.begins) bytes
@@ -109,12 +101,10 @@ plain_front scope bytes front = record {
 pub expansion_opens : (scope : Scope) (bytes : List ℕ)
     → IsUnknownExpansion (profile_of scope.begins) bytes
     → AreFollowed scope bytes → IsForeignOpening scope bytes
-expansion_opens scope [] unknown followed = absurd unknown
-expansion_opens scope (first ∷ []) unknown followed = absurd unknown
 expansion_opens scope (first ∷ second ∷ []) unknown followed = (
   needed_followed scope (first ∷ []) followed
       ∙ (one_need (profile_of scope.begins) first ∙ unknown.0),
   needed_followed scope (first ∷ second ∷ []) followed ∙ unknown.1,
   unknown.2,
 )
-expansion_opens scope (first ∷ second ∷ third ∷ bytes) unknown followed = absurd unknown
+expansion_opens scope bytes unknown followed = absurd unknown

@@ -1,12 +1,11 @@
 -- What is said where further devices are left out: the words of a piece that stays, and those of
 -- one that becomes foreign acts.
-use Rattle.std.proofs.Common.{ap, refl, sym, subst, ◌∙◌, ◌≡◌, ◌<◌, ◌-◌, ◌+◌, arith, inl, inr, Bool, true, false, ◌&&◌, nat_le, le-leb, ℕ, List, [], ◌∷◌, Option, Some, None, All, slice_index, if◌then◌else◌}
+use Rattle.std.proofs.Common.{ap, refl, sym, subst, ◌∙◌, ◌≡◌, ◌<◌, ◌-◌, ◌+◌, arith, inl, inr, Bool, true, false, nat_le, le-leb, ℕ, List, [], ◌∷◌, Option, Some, None, All, slice_index, if◌then◌else◌}
 use Rattle.std.specs.List.{AllByRecursion}
 use Rattle.std.proofs.lemmas.Bool.{false_from_ne_true}
 use Rattle.std.proofs.lemmas.List.Elements.{recursion_from_All}
 use Rattle.mdb_words.specs.declared.event.Event.{Event}
 use Rattle.mdb_words.specs.declared.event.Event.TheVariants.{Word, Break}
-use Rattle.mdb_words.specs.declared.word.Line.{Line}
 use Rattle.mdb_words.specs.declared.word.Line.TheVariants.{Controller, Peripheral}
 use Rattle.mdb_blocks.specs.Block.{controller_words}
 use Rattle.mdb_msgs.specs.declared.command.Device.{Device}
@@ -19,50 +18,11 @@ use Rattle.mdb_words.specs.declared.limits.TheConstants.{WORD_GAP_MIN}
 use Rattle.mdb_bus.specs.ActLists.{Position, InForeign, BlockMayCome, ForeignMayCome, NotBefore}
 use Rattle.mdb_bus.specs.Acts.{IsForeign, IsForeignOpening, IsForeignWord, Say, said_by}
 use Rattle.mdb_bus.specs.LeavingOut.{LeavesOutMore, begin_left_out}
-use Rattle.mdb_bus.specs.Scopes.{IsFollowed, needed_by, needed_in, profile_of}
+use Rattle.mdb_bus.specs.Scopes.{needed_by, needed_in, profile_of}
 use Rattle.mdb_bus.specs.Times.{rest_after}
 use Rattle.mdb_bus.proofs.Followed.{AreFollowed, needed_followed}
 use Rattle.mdb_bus.proofs.Rows.{begins_block}
-
--- what is followed without further devices is followed with them
-pub also_followed : (less more : Scope) → LeavesOutMore less more → (device : Device)
-    → IsFollowed more device → IsFollowed less device
-also_followed less more wider device followed =
-    false_from_ne_true (has less.without device)
-    (λ out. let also = wider.left_out device out in cc)
-
--- and so is what is said to it, by its first byte
-to_more : (less more : Scope) → LeavesOutMore less more → (first : ℕ)
-    → is_to_one_of more.without first ≡ false → is_to_one_of less.without first ≡ false
-to_more less more wider first none =
-    by_device (device_at first) none
-  where
-    by_device : (device : Option Device)
-        → (elim device [ Some device ↦ has more.without device | None ↦ false ]) ≡ false
-        → (elim device [ Some device ↦ has less.without device | None ↦ false ]) ≡ false
-    by_device (Some device) followed = also_followed less more wider device followed
-    by_device None followed = refl
-
--- bytes to a device that stays followed need what they needed
-same_need : (less more : Scope) → LeavesOutMore less more → (bytes : List ℕ)
-    → AreFollowed more bytes → needed_in less bytes ≡ needed_in more bytes
-same_need less more wider bytes followed =
-    needed_followed less bytes (to_more less more wider (slice_index bytes 0) followed)
-    ∙ (ap (λ begins. needed_by (profile_of begins) bytes) wider.begins
-    ∙ sym (needed_followed more bytes followed))
-
--- so what opened a foreign block opens one
-opening_stays : (less more : Scope) → LeavesOutMore less more → (bytes : List ℕ)
-    → AreFollowed more bytes → IsForeignOpening less bytes → IsForeignOpening more bytes
-opening_stays less more wider [] followed opening = absurd opening
-opening_stays less more wider (first ∷ []) followed opening =
-    sym (same_need less more wider (first ∷ []) followed) ∙ opening
-opening_stays less more wider (first ∷ second ∷ []) followed opening = (
-  sym (same_need less more wider (first ∷ []) followed) ∙ opening.0,
-  sym (same_need less more wider (first ∷ second ∷ []) followed) ∙ opening.1,
-  opening.2,
-)
-opening_stays less more wider (first ∷ second ∷ third ∷ bytes) followed opening = absurd opening
+use Rattle.mdb_bus.proofs.Lists.{heard}
 
 -- the first byte of a block to a device that is left out opens one by itself
 left_out_opens : (scope : Scope) (byte : ℕ) → is_to_one_of scope.without byte ≡ true
@@ -76,48 +36,23 @@ abbrev pub AreForeignWords : List Event → Type 0
 AreForeignWords [] = Unit {0}
 AreForeignWords (event ∷ events) = IsForeignWord event × AreForeignWords events
 
--- a word's number, by what its event says
-pub low_word : (event : Event) (byte : ℕ) → said_by event ≡ Some (Controller, byte) → byte < 256
-    → IsForeignWord event
-low_word (Word at Controller word) byte says low =
-    let one : Line × ℕ = (Controller, word) in
-    let other : Line × ℕ = (Controller, byte) in
-    let same : one ≡ other = cc in
-    let is : word ≡ byte = ap (λ (p : Line × ℕ). p.1) same in
-    omega (arith, is, low)
-low_word (Word at Peripheral word) byte says low = tt
-low_word (Break at length) byte says low = cc
-
 -- the controller's words after the first of a block are foreign words
 pub low_words : (bytes : List ℕ) (events : List Event) → AllByRecursion IsByte bytes
     → Say Controller bytes events → AreForeignWords events
 low_words bytes [] low says = tt
 low_words [] (event ∷ events) low says = cc
 low_words (byte ∷ bytes) (event ∷ events) low says =
-    let one : said_by event ≡ Some (Controller, byte) = cc in
-    let rest : Say Controller bytes events = cc in
-    (low_word event byte one low.0, low_words bytes events low.1 rest)
+    let is = heard event Controller byte (cc) in
+    (rw is.1 low.0, low_words bytes events low.1 (cc))
 
 -- and so are all words of a peripheral
-pub a_peripheral_word : (event : Event) (word : ℕ) → said_by event ≡ Some (Peripheral, word)
-    → IsForeignWord event
-a_peripheral_word (Word at Controller said) word says =
-    let one : Line × ℕ = (Controller, said) in
-    let other : Line × ℕ = (Peripheral, word) in
-    let same : one ≡ other = cc in
-    let line : Controller ≡ Peripheral = ap (λ (p : Line × ℕ). p.0) same in
-    cc line
-a_peripheral_word (Word at Peripheral said) word says = tt
-a_peripheral_word (Break at length) word says = cc
-
 pub peripheral_foreign : (words : List ℕ) (events : List Event) → Say Peripheral words events
     → AreForeignWords events
 peripheral_foreign words [] says = tt
 peripheral_foreign [] (event ∷ events) says = cc
 peripheral_foreign (word ∷ words) (event ∷ events) says =
-    let one : said_by event ≡ Some (Peripheral, word) = cc in
-    let rest : Say Peripheral words events = cc in
-    (a_peripheral_word event word one, peripheral_foreign words events rest)
+    let is = heard event Peripheral word (cc) in
+    (rw is.1 tt, peripheral_foreign words events (cc))
 
 -- an answer of the controller is a foreign word
 pub answer_foreign : (word : ℕ) (events : List Event) → word < 256
@@ -129,67 +64,11 @@ begin_to : (scope : Scope) (byte : ℕ) (bytes : List ℕ) (events : List Event)
     → Say Controller ((256 + byte) ∷ bytes) events
     → begin_left_out scope events ≡ is_to_one_of scope.without byte
 begin_to scope byte bytes [] says = cc
-begin_to scope byte bytes (Word at Controller word ∷ events) says =
-    let one : Line × ℕ = (Controller, word) in
-    let other : Line × ℕ = (Controller, 256 + byte) in
-    let same : one ≡ other = cc in
-    let is : word ≡ 256 + byte = ap (λ (p : Line × ℕ). p.1) same in
-    let marked : nat_le 256 word ≡ true = le-leb 256 word (omega (arith, is)) in
-    let rest : word - 256 ≡ byte = omega (arith, is) in
-    ap (λ b. b && is_to_one_of scope.without (word - 256)) marked
-    ∙ ap (is_to_one_of scope.without) rest
-begin_to scope byte bytes (Word at Peripheral word ∷ events) says =
-    let one : Line × ℕ = (Peripheral, word) in
-    let other : Line × ℕ = (Controller, 256 + byte) in
-    let same : one ≡ other = cc in
-    let line : Peripheral ≡ Controller = ap (λ (p : Line × ℕ). p.0) same in
-    cc line
-begin_to scope byte bytes (Break at length ∷ events) says = cc
-
--- a foreign act that doesn't begin a block to a device that is left out is foreign as it was
-pub foreign_stays : (less more : Scope) → LeavesOutMore less more → (events : List Event)
-    → begin_left_out more events ≡ false → IsForeign less events → IsForeign more events
-foreign_stays less more wider events kept (inl ([], opening, says)) = absurd opening
-foreign_stays less more wider events kept (inl (byte ∷ bytes, opening, says)) =
-    let followed : AreFollowed more (byte ∷ bytes) = sym (begin_to more byte bytes events says)
-    ∙ kept in
-    inl (byte ∷ bytes, opening_stays less more wider (byte ∷ bytes) followed opening, says)
-foreign_stays less more wider events kept (inr further) = inr further
-
--- The first event of a piece and the others, as foreign acts where the bus is.
-pub record Becomes (scope : Scope) (position : Position) (from : Option Event) (first : Event)
-    (others : List Event) : Type 0 where
-  pub act : IsForeign scope (first ∷ [])
-  pub comes : ForeignMayCome (profile_of scope.begins) position from first
-  pub words : AreForeignWords others
-
--- a block to a device that is left out opens foreign traffic by its first word
-first_opens : (scope : Scope) (byte : ℕ) (rest : List ℕ) (position : Position)
-    (from : Option Event) (first : Event) (others : List Event)
-    → is_to_one_of scope.without byte ≡ true → AllByRecursion IsByte rest
-    → Say Controller ((256 + byte) ∷ rest) (first ∷ others)
-    → ForeignMayCome (profile_of scope.begins) position from first
-    → Becomes scope position from first others
-first_opens scope byte rest position from first others out low says comes =
-    let one : said_by first ≡ Some (Controller, 256 + byte) = cc in
-    let more : Say Controller rest others = cc in
-    record {
-      act = inl (byte ∷ [], left_out_opens scope byte out, ap (λ s. s ∷ []) one);
-      comes = comes;
-      words = low_words rest others low more;
-    }
-
-pub as_block : (scope : Scope) (bytes : List ℕ) (position : Position) (from : Option Event)
-    (first : Event) (others : List Event)
-    → is_to_one_of scope.without (slice_index bytes 0) ≡ true → All IsByte bytes
-    → Say Controller (controller_words bytes) (first ∷ others)
-    → BlockMayCome (profile_of scope.begins) position from first
-    → Becomes scope position from first others
-as_block scope [] position from first others out low says comes = cc
-as_block scope (byte ∷ rest) position from first others out low says comes =
-    first_opens scope byte rest position from first others out
-    (recursion_from_All IsByte (byte ∷ rest) low).1 says
-    (inl (begins_block (byte ∷ rest) first others (λ none. cc) says, comes))
+begin_to scope byte bytes (event ∷ events) says =
+    let is = heard event Controller (256 + byte) (cc) in
+    let marked : nat_le 256 (256 + byte) ≡ true = le-leb 256 (256 + byte) (omega arith) in
+    let rest : 256 + byte - 256 ≡ byte = omega arith in
+    rw is.1 (rw (marked, rest))
 
 -- a word waits for another no less than for a break
 pub word_waits : (from : Option Event) (to : Event) → NotBefore WORD_GAP_MIN from to
@@ -198,41 +77,103 @@ word_waits None to late = tt
 word_waits (Some (Word at line word)) to late = late
 word_waits (Some (Break at length)) to late = omega (arith, late)
 
--- words inside foreign traffic are foreign words
-pub as_words : (scope : Scope) (position : Position) (from : Option Event) (first : Event)
-    (others : List Event)
-    → AreForeignWords (first ∷ others) → position ≡ InForeign → NotBefore WORD_GAP_MIN from first
-    → Becomes scope position from first others
-as_words scope position from first others words here late = record {
-  act = inr (first, refl, words.0);
-  comes = inr (words.0, here, word_waits from first late);
-  words = words.1;
-}
+module _ (less more : Scope) (wider : LeavesOutMore less more) where
+  -- what is followed without further devices is followed with them, by its first byte
+  to_more : (first : ℕ) → is_to_one_of more.without first ≡ false
+      → is_to_one_of less.without first ≡ false
+  to_more first none = by_device (device_at first) none
+    where
+      by_device : (device : Option Device)
+          → (elim device [ Some device ↦ has more.without device | None ↦ false ]) ≡ false
+          → (elim device [ Some device ↦ has less.without device | None ↦ false ]) ≡ false
+      by_device (Some device) followed = false_from_ne_true (has less.without device)
+          (λ out. let also = wider.left_out device out in cc)
+      by_device None followed = refl
 
--- a foreign act that begins a block to such a device is one for each of its words
-pub as_foreign : (less more : Scope) (position : Position) (from : Option Event) (first : Event)
-    (others : List Event)
-    → begin_left_out more (first ∷ others) ≡ true → IsForeign less (first ∷ others)
-    → ForeignMayCome (profile_of more.begins) position from first
-    → Becomes more position from first others
-as_foreign less more position from first others out (inl ([], opening, says)) comes =
-    absurd opening
-as_foreign less more position from first others out (inl (byte ∷ [], opening, says)) comes =
-    first_opens more byte [] position from first others
-    (sym (begin_to more byte [] (first ∷ others) says) ∙ out) tt says comes
-as_foreign less more position from first others out (inl (byte ∷ next ∷ [], opening, says)) comes =
-    first_opens more byte (next ∷ []) position from first others
-    (sym (begin_to more byte (next ∷ []) (first ∷ others) says) ∙ out) (opening.2, tt) says comes
-as_foreign less more position from first others out
-    (inl (byte ∷ next ∷ third ∷ bytes, opening, says)) comes =
-    absurd opening
-as_foreign less more position from first others out (inr further) comes =
-    let is : first ∷ others ≡ further.0 ∷ [] = further.1 in
-    let same : further.0 ≡ first = cc in
-    let alone : [] ≡ others = cc in
-    let word : IsForeignWord first = subst IsForeignWord same further.2 in
-    record {
-      act = inr (first, refl, word);
-      comes = comes;
-      words = subst AreForeignWords alone tt;
-    }
+  -- bytes to a device that stays followed need what they needed
+  same_need : (bytes : List ℕ) → AreFollowed more bytes
+      → needed_in less bytes ≡ needed_in more bytes
+  same_need bytes followed =
+      needed_followed less bytes (to_more (slice_index bytes 0) followed)
+      ∙ (ap (λ begins. needed_by (profile_of begins) bytes) wider.begins
+      ∙ sym (needed_followed more bytes followed))
+
+  -- so what opened a foreign block opens one
+  opening_stays : (bytes : List ℕ) → AreFollowed more bytes → IsForeignOpening less bytes
+      → IsForeignOpening more bytes
+  opening_stays (first ∷ []) followed opening = sym (same_need (first ∷ []) followed) ∙ opening
+  opening_stays (first ∷ second ∷ []) followed opening = (
+    sym (same_need (first ∷ []) followed) ∙ opening.0,
+    sym (same_need (first ∷ second ∷ []) followed) ∙ opening.1,
+    opening.2,
+  )
+  opening_stays bytes followed opening = absurd opening
+
+  -- a foreign act that doesn't begin a block to a device that is left out is foreign as it was
+  pub foreign_stays : (events : List Event) → begin_left_out more events ≡ false
+      → IsForeign less events → IsForeign more events
+  foreign_stays events kept (inl ([], opening, says)) = absurd opening
+  foreign_stays events kept (inl (byte ∷ bytes, opening, says)) =
+      let followed : AreFollowed more (byte ∷ bytes) =
+      sym (begin_to more byte bytes events says) ∙ kept in
+      inl (byte ∷ bytes, opening_stays (byte ∷ bytes) followed opening, says)
+  foreign_stays events kept (inr further) = inr further
+
+-- The first event of a piece and the others, as foreign acts where the bus is.
+pub record Becomes (scope : Scope) (position : Position) (from : Option Event) (first : Event)
+    (others : List Event) : Type 0 where
+  pub act : IsForeign scope (first ∷ [])
+  pub comes : ForeignMayCome (profile_of scope.begins) position from first
+  pub words : AreForeignWords others
+
+module _ (scope : Scope) (position : Position) (from : Option Event) (first : Event)
+    (others : List Event) where
+  -- a block to a device that is left out opens foreign traffic by its first word
+  first_opens : (byte : ℕ) (rest : List ℕ) → is_to_one_of scope.without byte ≡ true
+      → AllByRecursion IsByte rest → Say Controller ((256 + byte) ∷ rest) (first ∷ others)
+      → ForeignMayCome (profile_of scope.begins) position from first
+      → Becomes scope position from first others
+  first_opens byte rest out low says comes =
+      let one : said_by first ≡ Some (Controller, 256 + byte) = cc in
+      record {
+        act = inl (byte ∷ [], left_out_opens scope byte out, ap (λ s. s ∷ []) one);
+        comes = comes;
+        words = low_words rest others low (cc);
+      }
+
+  pub as_block : (bytes : List ℕ) → is_to_one_of scope.without (slice_index bytes 0) ≡ true
+      → All IsByte bytes → Say Controller (controller_words bytes) (first ∷ others)
+      → BlockMayCome (profile_of scope.begins) position from first
+      → Becomes scope position from first others
+  as_block [] out low says comes = cc
+  as_block (byte ∷ rest) out low says comes =
+      first_opens byte rest out (recursion_from_All IsByte (byte ∷ rest) low).1 says
+      (inl (begins_block (byte ∷ rest) first others (λ none. cc) says, comes))
+
+  -- words inside foreign traffic are foreign words
+  pub as_words : AreForeignWords (first ∷ others) → position ≡ InForeign
+      → NotBefore WORD_GAP_MIN from first → Becomes scope position from first others
+  as_words words here late = record {
+    act = inr (first, refl, words.0);
+    comes = inr (words.0, here, word_waits from first late);
+    words = words.1;
+  }
+
+  -- a foreign act that begins a block to such a device is one for each of its words
+  pub as_foreign : (less : Scope) → begin_left_out scope (first ∷ others) ≡ true
+      → IsForeign less (first ∷ others)
+      → ForeignMayCome (profile_of scope.begins) position from first
+      → Becomes scope position from first others
+  as_foreign less out (inl (byte ∷ [], opening, says)) comes =
+      first_opens byte [] (sym (begin_to scope byte [] (first ∷ others) says) ∙ out) tt says comes
+  as_foreign less out (inl (byte ∷ next ∷ [], opening, says)) comes =
+      first_opens byte (next ∷ []) (sym (begin_to scope byte (next ∷ []) (first ∷ others) says)
+      ∙ out) (opening.2, tt) says comes
+  as_foreign less out (inl (bytes, opening, says)) comes = absurd opening
+  as_foreign less out (inr further) comes =
+      let is : first ∷ others ≡ further.0 ∷ [] = further.1 in
+      let same : further.0 ≡ first = cc in
+      let alone : [] ≡ others = cc in
+      let word : IsForeignWord first = rw same at further.2 in
+      let none : AreForeignWords others = subst AreForeignWords alone tt in
+      record { act = inr (first, refl, word); comes = comes; words = none }

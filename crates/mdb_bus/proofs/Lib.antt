@@ -21,9 +21,7 @@ pub mod OneActList
 pub mod OneFault
 pub mod OneStep
 pub mod PlainMoney
-pub mod Polls
 pub mod Promises
 pub mod Rows
-pub mod RuleLaws
 pub mod Sound
 pub mod Stops

@@ -1,15 +1,22 @@
 -- Lists of events and of words, with their last element apart.
-use Rattle.std.proofs.Common.{arith, refl, ap, sym, subst, ◌∙◌, ◌≡◌, ◌≢◌, ◌+◌, ◌≤◌, ℕ, List, [], ◌∷◌, ◌++◌, Option, Some, length, All, append_assoc, length-append}
-use Rattle.std.specs.List.{AllByRecursion}
-use Rattle.std.proofs.lemmas.List.{length-map}
-use Rattle.std.proofs.lemmas.List.Elements.{recursion_from_All, All-from_recursion}
+use Rattle.std.proofs.Common.{arith, refl, ap, sym, subst, ◌∙◌, ◌≡◌, ◌≢◌, ◌+◌, ◌≤◌, ℕ, List, [], ◌∷◌, ◌++◌, Some, length, All, append_assoc, length-append}
+use Rattle.std.proofs.lemmas.List.{get_or_append_left, get_or-append-add, length-map}
 use Rattle.mdb_words.specs.declared.event.Event.{Event}
+use Rattle.mdb_words.specs.declared.event.Event.TheVariants.{Word, Break}
 use Rattle.mdb_words.specs.declared.word.Line.{Line}
 use Rattle.mdb_words.specs.declared.word.Line.TheVariants.{Controller}
 use Rattle.mdb_blocks.specs.Block.{controller_words, peripheral_words}
 use Rattle.mdb_bus.specs.Acts.{Say, said_by}
 use Rattle.mdb_bus.specs.declared.scope.Profile.{Profile}
-use Rattle.mdb_bus.specs.ActLists.{AreSpaced, InBlockTime, last_of}
+use Rattle.mdb_bus.specs.declared.scope.Beginning.{Beginning}
+use Rattle.mdb_bus.specs.declared.scope.Beginning.TheVariants.{PowerOn, Joined}
+use Rattle.mdb_bus.specs.ActLists.{Position, Quiet, InForeign, first_position, AreSpaced, InBlockTime, last_of}
+
+-- a recording begins in quiet or in foreign traffic
+pub at_first : (P : Position → Type 0) → P Quiet → P InForeign → (begins : Beginning)
+    → P (first_position begins)
+at_first P quiet foreign (PowerOn profile) = quiet
+at_first P quiet foreign (Joined setups profile) = foreign
 
 -- a list that isn't empty has a last element
 pub front_and_last : {X : Type 0} (xs : List X) → xs ≢ [] → (front : List X) × (last : X)
@@ -27,8 +34,7 @@ not_empty (y ∷ xs) x none = cc
 
 -- a list begins with what it begins with when an element stands after it
 pub first_stays : {X : Type 0} (xs : List X) (x to : X) (back : List X) → xs ≢ []
-    → xs ++ x ∷ [] ≡ to ∷ back
-    → (rest : List X) × (xs ≡ to ∷ rest)
+    → xs ++ x ∷ [] ≡ to ∷ back → (rest : List X) × (xs ≡ to ∷ rest)
 first_stays [] x to back some is = absurd (some refl)
 first_stays (y ∷ ys) x to back some is = (ys, cc)
 
@@ -42,11 +48,26 @@ pub some_length : {X : Type 0} (xs : List X) → xs ≢ [] → 1 ≤ length xs
 some_length [] some = absurd (some refl)
 some_length (x ∷ xs) some = omega arith
 
+-- and a list that has a length isn't empty
+pub some_there : {X : Type 0} (xs : List X) → 1 ≤ length xs → xs ≢ []
+some_there [] some none = absurd (omega (arith, some))
+some_there (x ∷ xs) some none = cc none
+
 -- the last row is the one after the others
 pub last_push : (events : List Event) (event : Event) → last_of (events ++ event ∷ []) ≡ Some event
 last_push [] event = refl
 last_push (x ∷ []) event = refl
 last_push (x ∷ y ∷ ys) event = last_push (y ∷ ys) event
+
+-- an event that says a word is that word
+pub heard : (event : Event) (line : Line) (word : ℕ) → said_by event ≡ Some (line, word)
+    → (at : ℕ) × (event ≡ Word at line word)
+heard (Word at on said) line word says =
+    let one : Line × ℕ = (on, said) in
+    let other : Line × ℕ = (line, word) in
+    let same : one ≡ other = cc in
+    (at, ap (λ (p : Line × ℕ). Word at p.0 p.1) same)
+heard (Break at length) line word says = cc
 
 -- events say as many words as they are
 pub say_length : (line : Line) (words : List ℕ) (events : List Event) → Say line words events
@@ -70,9 +91,8 @@ say_last line (w ∷ words) (f ∷ events) event says =
     (w ∷ rest.0, rest.1, cc, cc, rest.4)
 
 -- one word is one event
-pub one_alone : (line : Line) (word : ℕ) (front : List Event) (event : Event)
-    → Say line (word ∷ []) (front ++ event ∷ [])
-    → front ≡ []
+pub one_alone : (line : Line) (word : ℕ) (front : List Event) (event : Event) → Say line (word ∷ [])
+    (front ++ event ∷ []) → front ≡ []
 one_alone line word [] event says = refl
 one_alone line word (f ∷ front) event says =
     absurd (omega (
@@ -137,29 +157,21 @@ pub inside : (profile : Profile) (before front : List Event) (event : Event) →
     → AreSpaced profile front × InBlockTime profile (last_of (before ++ front)) event
 inside profile before front event some spaced =
     let split = front_and_last front some in
-    let Longer : List Event → Type 0 = λ es. AreSpaced profile (es ++ event ∷ []) in
-    let Alone : List Event → Type 0 = λ es. AreSpaced profile es in
-    let In : Option Event → Type 0 = λ from. InBlockTime profile from event in
-    let apart = spaced_front profile split.0 split.1 event (subst Longer split.2 spaced) in
-    let joined : before ++ front ≡ (before ++ split.0) ++ split.1 ∷ [] =
-    ap (λ es. before ++ es) split.2 ∙ sym (append_assoc before split.0 (split.1 ∷ [])) in
-    let last : last_of (before ++ front) ≡ Some split.1 = ap last_of joined
-    ∙ last_push (before ++ split.0) split.1 in
-    (subst Alone (sym split.2) apart.0, subst In (sym last) apart.1)
+    let apart = spaced_front profile split.0 split.1 event
+    (subst (λ es. AreSpaced profile (es ++ event ∷ [])) split.2 spaced) in
+    let joined = ap (λ es. before ++ es) split.2
+    ∙ sym (append_assoc before split.0 (split.1 ∷ [])) in
+    let last = ap last_of joined ∙ last_push (before ++ split.0) split.1 in (
+      subst (AreSpaced profile) (sym split.2) apart.0,
+      subst (λ from. InBlockTime profile from event) (sym last) apart.1,
+    )
 
 -- what holds of each element holds of each in a front, and of the last
-front_by_recursion : (P : ℕ → Type 0) (xs ys : List ℕ) → AllByRecursion P (xs ++ ys)
-    → AllByRecursion P xs
-front_by_recursion P [] ys all = tt
-front_by_recursion P (x ∷ xs) ys all = (all.0, front_by_recursion P xs ys all.1)
-
-last_by_recursion : (P : ℕ → Type 0) (xs : List ℕ) (x : ℕ) → AllByRecursion P (xs ++ x ∷ []) → P x
-last_by_recursion P [] x all = all.0
-last_by_recursion P (y ∷ xs) x all = last_by_recursion P xs x all.1
-
 pub all_front : (P : ℕ → Type 0) (xs ys : List ℕ) → All P (xs ++ ys) → All P xs
-all_front P xs ys all =
-    All-from_recursion P xs (front_by_recursion P xs ys (recursion_from_All P (xs ++ ys) all))
+all_front P xs ys all k d lt =
+    rw (get_or_append_left xs ys d k lt) at (all k d (omega (arith, length-append xs ys)))
 
 pub all_last : (P : ℕ → Type 0) (xs : List ℕ) (x : ℕ) → All P (xs ++ x ∷ []) → P x
-all_last P xs x all = last_by_recursion P xs x (recursion_from_All P (xs ++ x ∷ []) all)
+all_last P xs x all =
+    rw (get_or-append-add xs (x ∷ []) 0 x) at
+    (all (length xs + 0) x (omega (arith, length-append xs (x ∷ []))))

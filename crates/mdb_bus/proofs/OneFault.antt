@@ -6,7 +6,7 @@ use Rattle.mdb_words.specs.declared.event.Event.{Event}
 use Rattle.mdb_bus.specs.declared.fault.Blame.{Blame}
 use Rattle.mdb_bus.specs.declared.fault.Rule.{Rule}
 use Rattle.mdb_bus.specs.ActLists.{Piece}
-use Rattle.mdb_bus.specs.LinkFaults.{IsFirstBroken, IsLinkFault, RowBreaks, Situation, fault_of}
+use Rattle.mdb_bus.specs.LinkFaults.{situation_of, IsLinkFault, RowBreaks, fault_of}
 use Rattle.mdb_bus.specs.declared.scope.Scope.{Scope}
 
 -- of rules in an order, one is the first that is broken
@@ -24,20 +24,15 @@ one_first Breaks r s (x ∷ before) (y ∷ other) after rest same breaks too kee
     let others : before ++ r ∷ after ≡ other ++ s ∷ rest = cc in
     one_first Breaks r s before other after rest others breaks too keeps.1 also.1
 
-one_broken : (s : Situation) (row : Event) (one other : Rule) → IsFirstBroken s row one
-    → IsFirstBroken s row other → one ≡ other
-one_broken s row one other first second =
-    one_first (RowBreaks s row) one other first.before second.before first.after second.after
-    (sym first.stands ∙ second.stands) first.breaks second.breaks
-    (recursion_from_All _ first.before first.keeps)
-    (recursion_from_All _ second.before second.keeps)
-
 pub one_fault : (scope : Scope) (pieces : List Piece) (row : Event) (r s : Rule) (a b : Blame)
-    → IsLinkFault scope pieces row r a
-    → IsLinkFault scope pieces row s b → (r ≡ s) × (a ≡ b)
+    → IsLinkFault scope pieces row r a → IsLinkFault scope pieces row s b → (r ≡ s) × (a ≡ b)
 one_fault scope pieces row r s a b first second =
+    let p = first.rule in
+    let q = second.rule in
     let one : first.first ≡ second.first =
-    one_broken _ row first.first second.first first.rule second.rule in (
+    one_first (RowBreaks (situation_of scope pieces) row) first.first second.first p.before
+    q.before p.after q.after (sym p.stands ∙ q.stands) p.breaks q.breaks
+    (recursion_from_All _ p.before p.keeps) (recursion_from_All _ q.before q.keeps) in (
       first.counts ∙ (ap (λ x. (fault_of scope pieces row x).rule) one ∙ sym second.counts),
       first.blame ∙ (ap (λ x. (fault_of scope pieces row x).blame) one ∙ sym second.blame),
     )

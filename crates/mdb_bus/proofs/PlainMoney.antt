@@ -1,5 +1,5 @@
 -- Where all options are known, the rule that counts is the first one that is broken.
-use Rattle.std.proofs.Common.{refl, ap, ◌∙◌, ◌≡◌, Bool, false, if◌then◌else◌, List, [], ◌∷◌}
+use Rattle.std.proofs.Common.{refl, ap, ◌∙◌, ◌≡◌, false, List, [], ◌∷◌}
 use Rattle.std.proofs.lemmas.Bool.{cond_both}
 use Rattle.mdb_msgs.specs.declared.command.Command.{Command}
 use Rattle.mdb_msgs.specs.declared.command.Command.TheVariants as commands
@@ -13,14 +13,13 @@ use Rattle.mdb_bus.specs.declared.fault.Rule.TheVariants as rule
 use Rattle.mdb_bus.specs.declared.levels.Levels.{Levels}
 use Rattle.mdb_bus.specs.declared.options.KnownOptions.{KnownOptions}
 use Rattle.mdb_bus.specs.declared.scope.Scope.{Scope}
-use Rattle.mdb_bus.specs.ActLists.{Asked, InAsk, InReply, Piece, Position, acts_of, levels_of}
+use Rattle.mdb_bus.specs.ActLists.{Asked, InAsk, InReply, Piece, Position, levels_of}
 use Rattle.mdb_bus.specs.Scopes.{levels_before, profile_of}
 use Rattle.mdb_bus.specs.ExtendedMoney.{all_known, amounts_to, asked_with_amounts, counted_as, first_known, is_wide, known_after, known_by, known_of, reader_asked, refuses, wide_at, wide_of}
 
 -- options that are all known stay so
 after_all : (command : Command) → known_after command all_known ≡ all_known
 after_all (commands.Reader First command) = refl
-after_all (commands.Reader Second command) = refl
 after_all command = refl
 
 stay_known : (act : Act) → known_by act all_known ≡ all_known
@@ -37,31 +36,20 @@ all_stay (act ∷ acts) = ap (known_by act) (all_stay acts) ∙ stay_known act
 -- so no money is wide
 none_wide : (levels : Levels) (unit : Option ReaderUnit)
     → is_wide (wide_at all_known levels) unit ≡ false
-none_wide levels None = refl
 none_wide levels (Some First) = refl
-none_wide levels (Some Second) = refl
+none_wide levels unit = refl
 
 -- and each rule counts as it is
-plain : (wide : Bool) (broken : Rule) → wide ≡ false
-    → (if wide then rule.Profile else broken) ≡ broken
-plain wide broken is = ap (λ w. if w then rule.Profile else broken) is
-
 as_it_is : (broken : Rule) (position : Position) (levels : Levels)
     → counted_as broken position (wide_at all_known levels) ≡ broken
-as_it_is rule.Sum (InAsk bytes) levels =
-    plain _ rule.Sum (none_wide levels (asked_with_amounts bytes))
-as_it_is rule.Mode (Asked command) levels = plain _ rule.Mode (none_wide levels (amounts_to
-    command))
-as_it_is rule.Message (InReply command bytes) levels =
-    plain _ rule.Message (none_wide levels (reader_asked command))
+as_it_is rule.Sum (InAsk bytes) levels = rw (none_wide levels (asked_with_amounts bytes))
+as_it_is rule.Mode (Asked command) levels = rw (none_wide levels (amounts_to command))
+as_it_is rule.Message (InReply command bytes) levels = rw (none_wide levels (reader_asked command))
 as_it_is broken position levels = refl
 
 pub counts_plainly : (scope : Scope) (pieces : List Piece) (broken : Rule) (position : Position)
     → first_known scope.begins ≡ all_known
     → counted_as broken position (wide_of scope pieces) ≡ broken
 counts_plainly scope pieces broken position known =
-    let levels = levels_of (profile_of scope.begins) (levels_before scope) pieces in
-    ap (λ first.
-    counted_as broken position (wide_at (known_of first (acts_of pieces)) levels)) known
-    ∙ (ap (λ all. counted_as broken position (wide_at all levels)) (all_stay (acts_of pieces))
-    ∙ as_it_is broken position levels)
+    rw (known, all_stay) (as_it_is broken position
+    (levels_of (profile_of scope.begins) (levels_before scope) pieces))

@@ -1,73 +1,49 @@
 -- The laws of mdb_msgs, put together, of the devices that are followed.
-use Rattle.std.proofs.Common.{arith, refl, ap, ◌∙◌, ◌∷◌, ◌≡◌, ◌≢◌, ◌<◌, ℕ, List, [], ◌++◌, length, sym, subst, ◌&&◌, ◌%◌, Bool, true, false, All, sum, length-append}
+use Rattle.std.proofs.Common.{refl, ap, ◌∙◌, ◌≡◌, ◌≢◌, ◌<◌, ℕ, List, [], ◌++◌, length, ◌&&◌, ◌%◌, Bool, true, false, All, sum}
 use Rattle.mdb_blocks.specs.Block.{block_of}
 use Rattle.mdb_msgs.specs.declared.command.Command.{Command}
-use Rattle.mdb_msgs.specs.declared.need.Need.{Need}
-use Rattle.mdb_msgs.specs.declared.need.Need.TheVariants.{Exactly, Foreign, More, Outside}
+use Rattle.mdb_msgs.specs.declared.need.Need.TheVariants.{Exactly, Foreign}
 use Rattle.mdb_msgs.specs.declared.reading.Reading.{Reading}
 use Rattle.mdb_msgs.specs.declared.reply.Reply.{Reply}
 use Rattle.mdb_msgs.specs.Commands.{IsByte, Spells, command_bytes, is_enable_options}
 use Rattle.mdb_msgs.specs.Laws.{BlockHasOneReply, OpenIsAFront as PlainOpenIsAFront, OpenIsAnothersFront}
 use Rattle.mdb_msgs.specs.Needs.{begins_options, needed}
-use Rattle.mdb_msgs.specs.OpenBlocks.{IsOpen, IsShort, IsTold, TellsLength}
+use Rattle.mdb_msgs.specs.OpenBlocks.{IsOpen, IsTold, TellsLength}
 use Rattle.mdb_msgs.specs.Replies.{IsIn, IsReplyTo, reply_bytes}
 use Rattle.mdb_bus.specs.declared.scope.Scope.{Scope}
 use Rattle.mdb_bus.specs.Scopes.{Asks, leaves_options, needed_in, profile_of}
 use Rattle.mdb_bus.proofs.Masked.{TwoTell, block_known, front_known, known_need, unmasked}
 use Rattle.mdb_bus.specs.shared.Grammar.{OpenIsAFront}
-use Rattle.mdb_bus.proofs.Followed.{AreFollowed, FirstTells, asks_followed, block_followed, needed_followed, still_followed, was_followed, within}
-
-not_empty : (bytes : List ℕ) → 0 < length bytes → bytes ≢ []
-not_empty [] some none = omega (arith, some)
-not_empty (byte ∷ bytes) some none = cc none
-
--- a block has at most one command
-pub one_command : (scope : Scope)
-    → ((block : List ℕ) (one other : Command) → Spells one block → Spells other block
-    → one ≡ other)
-    → (block : List ℕ) (one other : Command) → Asks scope one block → Asks scope other block
-    → one ≡ other
-one_command scope law block one other first second = law block one other first.spells second.spells
+use Rattle.mdb_bus.proofs.Followed.{FirstTells, asks_followed, block_followed, needed_followed, still_followed, was_followed, within}
+use Rattle.mdb_bus.proofs.Lists.{not_empty, some_there}
+use Rattle.mdb_bus.proofs.Verdicts.{some_bytes}
 
 -- the first two bytes of a command's block tell its length
-pub needs : FirstTells → TwoTell
-    → ((block : List ℕ) (command : Command) → Spells command block
+pub needs : FirstTells → TwoTell → ((block : List ℕ) (command : Command) → Spells command block
     → needed block ≡ Exactly (length block))
     → (scope : Scope) (block : List ℕ) (command : Command) → Asks scope command block
     → needed_in scope block ≡ Exactly (length block)
 needs first two law scope block command asks =
+    let content = command_bytes command in
+    let some : block ≢ [] = rw asks.spells.bytes (not_empty content (sum content % 256)) in
     needed_followed scope block (block_followed first scope command block asks)
     ∙ (known_need (profile_of scope.begins) block
-    (block_known two (profile_of scope.begins) block command (has_bytes block asks.spells.bytes)
-    asks.spells asks.known)
+    (block_known two (profile_of scope.begins) block command some asks.spells asks.known)
     ∙ law block command asks.spells)
-  where
-    has_bytes : (block : List ℕ) → block ≡ block_of (command_bytes command) → block ≢ []
-    has_bytes [] is none =
-        omega (
-          arith,
-          ap length is,
-          length-append (command_bytes command) ((sum (command_bytes command) % 256) ∷ []),
-        )
-    has_bytes (byte ∷ block) is none = cc none
 
 -- its first bytes tell it, or leave it to the second
-pub tells : FirstTells → TwoTell
-    → ((prefix rest : List ℕ) (command : Command) → 0 < length prefix
+pub tells : FirstTells → TwoTell → ((prefix rest : List ℕ) (command : Command) → 0 < length prefix
     → Spells command (prefix ++ rest) → TellsLength prefix (length (prefix ++ rest)))
     → (scope : Scope) (prefix rest : List ℕ) (command : Command) → 0 < length prefix
     → Asks scope command (prefix ++ rest)
     → IsTold (needed_in scope prefix) (length prefix) (length (prefix ++ rest))
 tells first two law scope prefix rest command some asks =
-    let Told : Need → Type 0 = λ n. IsTold n (length prefix) (length (prefix ++ rest)) in
-    let followed : AreFollowed scope prefix =
-    was_followed scope prefix rest (not_empty prefix some)
+    let there = some_there prefix some in
+    let followed = was_followed scope prefix rest there
     (block_followed first scope command (prefix ++ rest) asks) in
-    let known = front_known two (profile_of scope.begins) prefix rest command
-    (not_empty prefix some) asks.spells asks.known in
-    subst Told
-    (sym (needed_followed scope prefix followed
-    ∙ known_need (profile_of scope.begins) prefix known))
+    let known = front_known two (profile_of scope.begins) prefix rest command there asks.spells
+    asks.known in
+    rw (needed_followed scope prefix followed, known_need (profile_of scope.begins) prefix known)
     (law prefix rest command some asks.spells)
 
 -- open bytes are the front of the block of a command that is had
@@ -84,32 +60,17 @@ pub open_front : FirstTells → PlainOpenIsAFront → OpenIsAnothersFront → (s
     → OpenIsAFront scope
 open_front first law another scope bytes all wanting =
     let profile = profile_of scope.begins in
-    let there =
-    within scope bytes (needed_in scope bytes) refl (is_some (needed_in scope bytes) wanting) in
-    let plain = unmasked profile bytes (needed_in scope bytes) there.1
-    (is_some (needed_in scope bytes) wanting) in
-    let Short : Need → Type 0 = λ n. IsShort n (length bytes) in
-    let found = open_one law another (leaves_options profile) bytes all
-    (subst Short (sym plain.1) wanting) plain.0 in (
+    let other : needed_in scope bytes ≢ Foreign = λ is. rw is at wanting in
+    let there = within scope bytes (needed_in scope bytes) refl other in
+    let plain = unmasked profile bytes (needed_in scope bytes) there.1 other in
+    let begun : IsOpen bytes = rw plain.1 wanting in
+    let found = open_one law another (leaves_options profile) bytes all begun plain.0 in (
       found.0,
       found.1,
       found.2,
       asks_followed first scope found.0 (bytes ++ found.1) found.3 found.4
-          (still_followed scope bytes found.1 (some_there bytes plain.1 wanting) there.0),
+          (still_followed scope bytes found.1 (some_bytes bytes begun) there.0),
     )
-  where
-    is_some : (n : Need) → IsShort n (length bytes) → n ≢ Foreign
-    is_some More short is = cc is
-    is_some (Exactly n) short is = cc is
-    is_some Foreign short is = short
-    is_some Outside short is = short
-
-    -- no bytes need nothing
-    some_there : (bs : List ℕ) → needed bs ≡ needed_in scope bs
-        → IsShort (needed_in scope bs) (length bs) → bs ≢ []
-    some_there [] is short none =
-        let Short : Need → Type 0 = λ n. IsShort n 0 in subst Short (sym is) short
-    some_there (byte ∷ bs) is short none = cc none
 
 -- for a command and a reading, data bytes have at most one reply
 pub one_reply : BlockHasOneReply → (reading : Reading) (command : Command) (one other : Reply)

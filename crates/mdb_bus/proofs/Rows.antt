@@ -1,43 +1,29 @@
 -- Lists of rows and of words, with one more at the end.
-use Rattle.std.proofs.Common.{arith, refl, ap, sym, subst, ◌∙◌, ◌≡◌, ◌≢◌, ◌+◌, ◌%◌, ℕ, List, [], ◌∷◌, ◌++◌, Option, Some, length, map, sum, append_assoc}
+use Rattle.std.proofs.Common.{arith, refl, ap, sym, subst, ◌∙◌, ◌≡◌, ◌≢◌, ◌+◌, ◌%◌, ℕ, List, [], ◌∷◌, ◌++◌, Some, sum, append_assoc}
 use Rattle.std.proofs.lemmas.List.{map-append}
 use Rattle.mdb_words.specs.declared.event.Event.{Event}
-use Rattle.mdb_words.specs.declared.event.Event.TheVariants.{Word, Break}
+use Rattle.mdb_words.specs.declared.event.Event.TheVariants.{Word}
 use Rattle.mdb_words.specs.declared.word.Line.{Line}
 use Rattle.mdb_words.specs.declared.word.Line.TheVariants.{Controller, Peripheral}
 use Rattle.mdb_blocks.specs.Block.{block_of, controller_words, peripheral_words}
 use Rattle.mdb_bus.specs.Acts.{IsBlockWord, Say, said_by}
 use Rattle.mdb_bus.specs.declared.scope.Profile.{Profile}
 use Rattle.mdb_bus.specs.ActLists.{AreSpaced, InBlockTime, last_of}
-use Rattle.mdb_bus.proofs.Lists.{last_push, peripheral_push}
-
--- a list that begins with an element has a last one
-front_and_last : {X : Type 0} (x : X) (xs : List X) → (front : List X) × (last : X)
-    × (x ∷ xs ≡ front ++ last ∷ [])
-front_and_last x [] = ([], x, refl)
-front_and_last x (y ∷ ys) =
-    let rest = front_and_last y ys in
-    (x ∷ rest.0, rest.1, ap (λ zs. x ∷ zs) rest.2)
+use Rattle.mdb_bus.proofs.Lists.{front_and_last, heard, last_push, peripheral_push}
 
 -- words with one more are said by events with one more
 say_push : (line : Line) (words : List ℕ) (events : List Event) (word : ℕ) (event : Event)
     → Say line words events
     → said_by event ≡ Some (line, word) → Say line (words ++ word ∷ []) (events ++ event ∷ [])
 say_push line words events word event says said =
-    let told = map-append said_by events (event ∷ []) in
-    let say : ℕ → Option (Line × ℕ) = λ w. Some (line, w) in
-    let meant : map say (words ++ word ∷ []) ≡ map say words ++ Some (line, word) ∷ [] =
-    map-append say words (word ∷ []) in
-    let here : said_by event ∷ [] ≡ Some (line, word) ∷ [] = ap (λ x. x ∷ []) said in
-    told ∙ (ap (λ xs. xs ++ said_by event ∷ []) says
-    ∙ (ap (λ xs. map say words ++ xs) here ∙ sym meant))
+    let meant = map-append (λ w. Some (line, w)) words (word ∷ []) in
+    rw (map-append, says, said) (sym meant)
 
 -- the same on one line, for a word as it stands in a row
 pub say_word : (line : Line) (words : List ℕ) (events : List Event) (at word : ℕ)
-    → Say line words events
-    → Say line (words ++ word ∷ []) (events ++ Word at line word ∷ [])
-say_word line words events at word says = say_push line words events word (Word at line word) says
-    refl
+    → Say line words events → Say line (words ++ word ∷ []) (events ++ Word at line word ∷ [])
+say_word line words events at word says =
+    say_push line words events word (Word at line word) says refl
 
 -- a block of the controller with one byte more
 pub say_byte : (bytes : List ℕ) (events : List Event) (at word : ℕ) → bytes ≢ []
@@ -53,28 +39,14 @@ pub say_sum : (bytes : List ℕ) (events : List Event) (at word : ℕ) → word 
     → Say Peripheral bytes events
     → Say Peripheral (peripheral_words (block_of bytes)) (events ++ Word at Peripheral word ∷ [])
 say_sum bytes events at word is says =
-    let Spoken : List ℕ
-    → Type 0 = λ ws. Say Peripheral ws (events ++ Word at Peripheral word ∷ []) in
-    subst Spoken (ap (λ w. bytes ++ w ∷ []) is ∙ sym (peripheral_push bytes (sum bytes % 256)))
-    (say_word Peripheral bytes events at word says)
+    rw (peripheral_push, ← is) (say_word Peripheral bytes events at word says)
 
 -- the first event of a block of the controller is a marked word
 pub begins_block : (bytes : List ℕ) (first : Event) (others : List Event) → bytes ≢ []
     → Say Controller (controller_words bytes) (first ∷ others) → IsBlockWord first
 begins_block [] first others some says = absurd (some refl)
-begins_block (byte ∷ bytes) (Word at Controller word) others some says =
-    let one : Line × ℕ = (Controller, word) in
-    let other : Line × ℕ = (Controller, 256 + byte) in
-    let same : one ≡ other = cc in
-    let is : word ≡ 256 + byte = ap (λ (p : Line × ℕ). p.1) same in
-    omega (arith, is)
-begins_block (byte ∷ bytes) (Word at Peripheral word) others some says =
-    let one : Line × ℕ = (Peripheral, word) in
-    let other : Line × ℕ = (Controller, 256 + byte) in
-    let same : one ≡ other = cc in
-    let line : Peripheral ≡ Controller = ap (λ (p : Line × ℕ). p.0) same in
-    cc
-begins_block (byte ∷ bytes) (Break at length) others some says = cc
+begins_block (byte ∷ bytes) first others some says =
+    let is = heard first Controller (256 + byte) (cc) in rw is.1 (omega arith)
 
 -- spaced events with one more in time
 spaced_push : (profile : Profile) (events : List Event) (from to : Event)
@@ -87,19 +59,14 @@ spaced_push profile (x ∷ y ∷ ys) from to spaced near =
 
 -- the same where they stand after others
 pub spaced_more : (profile : Profile) (rows : List Event) (first : Event) (others : List Event)
-    (row : Event)
-    → AreSpaced profile (first ∷ others)
+    (row : Event) → AreSpaced profile (first ∷ others)
     → InBlockTime profile (last_of (rows ++ first ∷ others)) row
     → AreSpaced profile ((first ∷ others) ++ row ∷ [])
 spaced_more profile rows first others row spaced gap =
-    let split = front_and_last first others in
+    let split = front_and_last (first ∷ others) (λ none. cc none) in
     let joined : rows ++ first ∷ others ≡ (rows ++ split.0) ++ split.1 ∷ [] =
     ap (λ es. rows ++ es) split.2 ∙ sym (append_assoc rows split.0 (split.1 ∷ [])) in
-    let last : last_of (rows ++ first ∷ others) ≡ Some split.1 =
-    ap last_of joined ∙ last_push (rows ++ split.0) split.1 in
-    let Near : Option Event → Type 0 = λ from. InBlockTime profile from row in
-    let here : InBlockTime profile (Some split.1) row = subst Near last gap in
-    let Spaced : List Event → Type 0 = λ es. AreSpaced profile es in
-    let Longer : List Event → Type 0 = λ es. AreSpaced profile (es ++ row ∷ []) in
-    subst Longer (sym split.2)
-    (spaced_push profile split.0 split.1 row (subst Spaced split.2 spaced) here)
+    let last : last_of (rows ++ first ∷ others) ≡ Some split.1 = rw (joined, last_push) in
+    subst (λ es. AreSpaced profile (es ++ row ∷ [])) (sym split.2)
+    (spaced_push profile split.0 split.1 row (subst (AreSpaced profile) split.2 spaced)
+    (rw last at gap))

@@ -1,8 +1,8 @@
 -- What is made of a word, position by position.
-use Rattle.std.proofs.Common.{rules, arith, refl, ap, sym, subst, ◌∙◌, ◌≡◌, ◌≢◌, ◌+◌, ◌<◌, ◌≤◌, ◌%◌, ◌⊎◌, inl, inr, ℕ, zero, suc, List, [], ◌∷◌, ◌++◌, length, take, drop, slice_index, slice_get, sum, Option, Some, None, Result, Ok, Err, IfOk, OnOk, get_or, append_assoc, length-append, length-drop, Fits, w8, ◌&&◌, ◌↔◌, Bool, true, false, IsTrue}
-use Rattle.std.proofs.lemmas.List.{same_from_push}
+use Rattle.std.proofs.Common.{rules, arith, refl, ap, sym, ◌∙◌, ◌≡◌, ◌≢◌, ◌+◌, ◌<◌, ◌≤◌, ◌%◌, ◌⊎◌, inl, inr, ℕ, zero, suc, List, [], ◌∷◌, ◌++◌, length, take, drop, slice_index, slice_get, sum, Option, Some, None, Result, Ok, Err, IfOk, OnOk, get_or, append_assoc, length-append, length-drop, Fits, w8, ◌&&◌, ◌↔◌, Bool, true, false, IsTrue}
+use Rattle.std.proofs.lemmas.List.{nil_from_length, same_from_push}
 use Rattle.std.proofs.lemmas.List.Elements.{All-append, All-from_get_or, All-from_recursion}
-use Rattle.std.proofs.lemmas.Option.{slice_get-get_or, slice_get_past, slice_get_within}
+use Rattle.std.proofs.lemmas.Option.{slice_get-get_or, slice_get_past}
 use Rattle.std.specs.List.{All}
 use Rattle.mdb_words.specs.declared.limits.TheConstants.{WORD_GAP_MIN}
 use Rattle.mdb_words.specs.declared.event.Event.{Event}
@@ -33,14 +33,13 @@ use Rattle.mdb_bus.specs.Acts.{reply_words}
 use Rattle.mdb_bus.specs.ActLists.{Asked, InAsk, InBlockTime, InReply, IsRepeatFront, NotBefore, NotPast, Position, IsAskFront}
 use Rattle.mdb_bus.specs.declared.phase.Phase.{Phase}
 use Rattle.mdb_bus.specs.declared.phase.Phase.TheVariants as phase
-use Rattle.mdb_bus.specs.Bus.{position_at, position_in}
+use Rattle.mdb_bus.specs.Bus.{position_at}
 use Rattle.mdb_bus.specs.LinkFaults.{IsBefore, IsPast, LeavesProfile, OutOfOrder, RowBreaks, Situation, WrongLength}
 use Rattle.mdb_bus.specs.shared.RulePlaces.{IsFirstByPlace, place_of}
-use Rattle.mdb_bus.specs.shared.Steps.{Belongs, Counts, Covers, IsCommandFront, IsGoingOn, IsJudged, IsJudgedBy, IsOpened, IsRead, IsReplyEnd, IsSettled, IsSound, IsTimely, IsUnknownExpansion, MayAsk}
+use Rattle.mdb_bus.specs.shared.Steps.{Belongs, Counts, Covers, IsCommandFront, IsGoingOn, IsJudged, IsOpened, IsRead, IsReplyEnd, IsSettled, IsSound, IsTimely, IsUnknownExpansion, MayAsk}
 use Rattle.mdb_bus.specs.Times.{answer_most, block_most}
 use Rattle.mdb_bus.proofs.Needs.{at_least_two, at_most_32, not_left, stays, narrows}
 use Rattle.mdb_bus.specs.declared.scope.Scope.{Scope}
-use Rattle.mdb_bus.specs.declared.format.Format.{Format}
 use Rattle.mdb_bus.specs.Formats.{HasFault, format_for}
 use Rattle.mdb_bus.proofs.FormatLaws.{none_as, one_bad, bad_length}
 use Rattle.mdb_bus.specs.declared.scope.Profile.{Profile}
@@ -49,55 +48,38 @@ use Rattle.mdb_bus.specs.ExtendedTimes.{is_past, is_untimely}
 use Rattle.mdb_bus.specs.Scopes.{HasCommand, leaves_options, needed_by, needed_in, profile_of}
 use Rattle.mdb_bus.proofs.Masked.{AreKnown, TwoTell, another_known, begins_one, content_tells, front_known, known_front, known_need, more_known, none_of_both, one_need, options_more, unmasked}
 use Rattle.mdb_bus.proofs.Followed.{AreFollowed, FirstTells, ask_front_followed, asks_followed, expansion_opens, front_followed, needed_followed, plain_front, still_followed, within}
-use Rattle.mdb_bus.proofs.Lists.{peripheral_push}
+use Rattle.mdb_bus.proofs.Lists.{not_empty, peripheral_push, some_length, some_there}
 
--- it is one of them, and late or in time
-pub in_time : (least : ℕ) (from : Option Event) (to : Event) → (IsBefore least from to → ⊥)
+-- a row that isn't early comes in time, and one that isn't late
+in_time : (least : ℕ) (from : Option Event) (to : Event) → (IsBefore least from to → ⊥)
     → NotBefore least from to
 in_time least None to early = tt
 in_time least (Some before) to early = omega (arith, early)
 
-pub not_late : (most : Option ℕ) (from : Option Event) (to : Event) → (IsPast most from to → ⊥)
+not_late : (most : Option ℕ) (from : Option Event) (to : Event) → (IsPast most from to → ⊥)
     → NotPast most from to
 not_late None from to late = tt
 not_late (Some most) None to late = tt
 not_late (Some most) (Some before) to late = omega (arith, late)
-
--- and in its block's time
-in_block_time : (profile : Profile) (from : Option Event) (to : Event)
-    → (IsBefore WORD_GAP_MIN from to → ⊥) → (IsPast (block_most profile) from to → ⊥)
-    → InBlockTime profile from to
-in_block_time profile from to early late =
-    (in_time WORD_GAP_MIN from to early, not_late (block_most profile) from to late)
 
 -- times cover those of the same profile
 pub covers_same : (times profile : Profile) → times ≡ profile → Covers times profile
 covers_same Extended Base same = absurd (cc same)
 covers_same times profile same = tt
 
--- what counts for a profile is by times that cover its own
-pub counted : (times profile : Profile) (result : Result Judged Rule)
-    → Counts times profile result → Covers times profile
-counted times profile (Ok found) covers = covers
-counted times profile (Err broken) same = covers_same times profile same
-
--- a word in its block's time, by such times, isn't late
-never_past : (most : Option ℕ) (from : Option Event) (to : Event) → NotPast most from to
-    → IsPast most from to → ⊥
-never_past None from to near past = past
-never_past (Some most) None to near past = past
-never_past (Some most) (Some before) to near past = omega (arith, near, past)
-
+-- a word in its block's time, by times that count for a profile, isn't late by that
 pub block_covered : (times profile : Profile) (from : Option Event) (to : Event)
-    → Covers times profile → InBlockTime times from to → IsPast (block_most profile) from to → ⊥
-block_covered Base Base from to covers near = never_past (block_most Base) from to near.1
-block_covered Extended Base from to covers near = absurd covers
-block_covered times Extended from to covers near = λ past. past
+    (result : Result Judged Rule) → Counts times profile result → InBlockTime times from to
+    → IsPast (block_most profile) from to → ⊥
+block_covered times Extended from to result counts near past = past
+block_covered Base Base None to result counts near past = past
+block_covered Base Base (Some before) to result counts near past = omega (arith, near.1, past)
+block_covered Extended Base from to (Ok found) counts near past = counts
+block_covered Extended Base from to (Err broken) counts near past = cc counts
 
 -- and it is timely
 pub block_timely : (times : Profile) (position : Position) (from : Option Event) (to : Event)
-    (result : Result Judged Rule)
-    → is_untimely position from to ≡ is_past (block_most Base) from to
+    (result : Result Judged Rule) → is_untimely position from to ≡ is_past (block_most Base) from to
     → is_past (block_most times) from to ≡ false → OnOk result (IsTimely times position from to)
 block_timely Base position from to (Ok found) same near = same ∙ near
 block_timely times position from to result same near = search rules
@@ -116,120 +98,22 @@ WhatItNeeds = (content : List ℕ) → All IsByte content
 abbrev Wants : Need → Type 0
 Wants told = (told ≡ More) ⊎ ((n : ℕ) × (told ≡ Exactly n))
 
-some_there : (bytes : List ℕ) → 1 ≤ length bytes → bytes ≢ []
-some_there [] some none = absurd (omega (arith, some))
-some_there (byte ∷ bytes) some none = cc none
-
--- what is open is the front of an ask, and the front of an ask is open
-pub front_of : OpenIsAFront → TwoTell → (profile : Profile) (bytes : List ℕ) → 2 ≤ length bytes
-    → All IsByte bytes → IsOpen bytes → AreKnown profile bytes → IsCommandFront profile bytes
-front_of law tell profile bytes two low wanting known =
-    let found = law bytes low wanting in
-    record {
-      some = some_there bytes (omega (arith, two));
-      command = found.0;
-      known = known_front tell profile bytes found.1 found.0 two found.3 known;
-      rest = found.1;
-      open_end = found.2;
-      spelled = found.3;
-    }
-
-some_long : (bytes : List ℕ) → bytes ≢ [] → 0 < length bytes
-some_long [] some = absurd (some refl)
-some_long (byte ∷ bytes) some = omega arith
-
-pub open_front : FrontIsOpen → (profile : Profile) (bytes : List ℕ) → IsCommandFront profile bytes
-    → IsOpen bytes
-open_front law profile bytes front =
-    law bytes front.rest front.command (some_long bytes front.some) front.open_end front.spelled
-
--- a first byte that leaves a command open begins another ask than ENABLE OPTIONS
-begins : OpenIsAnothersFront → (profile : Profile) (byte : ℕ) (told : Need) → IsByte byte
-    → needed (byte ∷ []) ≡ told → Wants told → IsCommandFront profile (byte ∷ [])
-begins law profile byte told low is wanting =
-    let found = law (byte ∷ []) (All-from_recursion IsByte (byte ∷ []) (low, tt)) (short wanting)
-    (begins_one byte) in
-    record {
-      some = λ none. cc none;
-      command = found.0;
-      known = another_known profile found.0 found.4;
-      rest = found.1;
-      open_end = found.2;
-      spelled = found.3;
-    }
-  where
-    short : Wants told → IsOpen (byte ∷ [])
-    short (inl more) = subst (λ need. IsShort need 1) (sym (is ∙ more)) refl
-    short (inr exact) = subst (λ need. IsShort need 1) (sym (is ∙ exact.1))
-        (let two = at_least_two (byte ∷ []) exact.0 (omega arith) (is ∙ exact.1) in omega arith)
-
--- what leaves a command open isn't foreign
+-- it isn't foreign
 not_foreign : (told : Need) → Wants told → told ≢ Foreign
 not_foreign told (inl more) foreign = cc
 not_foreign told (inr exact) foreign = let is = exact.1 in cc
 
--- the same of a byte that is no address of a device that is left out
-pub begins_followed : FirstTells → OpenIsAnothersFront
-    → (scope : Scope) (word one byte : ℕ) (told : Need)
-    → one ≡ word % 256 → byte ≡ word % 256 → told ≡ needed_in scope (one ∷ [])
-    → (told ≡ More) ⊎ ((n : ℕ) × (told ≡ Exactly n)) → IsAskFront scope (byte ∷ [])
-begins_followed first law scope word one byte told same again is wanting =
-    let plain = within scope (one ∷ []) told (sym is) (not_foreign told wanting) in
-    rw (again ∙ sym same) (front_followed first scope (one ∷ []) (begins law
-    (profile_of scope.begins) one told (omega (arith, same))
-    (sym (one_need (profile_of scope.begins) one) ∙ plain.1) wanting) plain.0)
+-- a need that tells no length
+abbrev TellsNone : Need → Type 0
+TellsNone (Exactly n) = ⊥
+TellsNone _ = Unit {0}
 
 -- what two bytes don't tell a length of, the first leaves to the second
 left_by : (first word : ℕ) (told : Need) → needed (first ∷ []) ≡ told → IsShort told 1
-    → ((n : ℕ) → needed (first ∷ word ∷ []) ≡ Exactly n → ⊥) → needed (first ∷ []) ≡ More
-left_by first word More is short other = is
-left_by first word (Exactly n) is short other = absurd (other n ((narrows first).known word n is))
-left_by first word Foreign is short other = absurd short
-left_by first word Outside is short other = absurd short
-
--- what two bytes make foreign, the first leaves to the second
-left_foreign : (profile : Profile) (first word : ℕ) → IsOpen (first ∷ [])
-    → needed_by profile (first ∷ word ∷ []) ≡ Foreign → needed (first ∷ []) ≡ More
-left_foreign profile first word alone foreign = by (begins_options (first ∷ word ∷ [])) refl
-  where
-    by : (begins : Bool) → begins_options (first ∷ word ∷ []) ≡ begins → needed (first ∷ []) ≡ More
-    by true begins = options_more first word begins
-    by false none = left_by first word (needed (first ∷ [])) refl alone (λ n exact.
-        let clash : Exactly n ≡ Foreign = sym exact
-        ∙ (sym (known_need profile (first ∷ word ∷ [])
-        (none_of_both (leaves_options profile) (begins_options (first ∷ word ∷ [])) none))
-        ∙ foreign) in cc clash)
-
--- a second byte that this profile leaves out
-pub second_outside : (profile : Profile) (bytes : List ℕ) (first byte word : ℕ) (told : Need)
-    → bytes ≡ first ∷ [] → byte ≡ word % 256 → word < 256
-    → told ≡ needed_by profile (first ∷ byte ∷ []) → told ≡ Outside → IsOpen bytes
-    → (needed_by profile bytes ≡ More) × (needed_by profile (bytes ++ word ∷ []) ≡ Outside)
-second_outside profile bytes first byte word told is low small tell out begun =
-    let same : word ≡ byte = omega (arith, low) in
-    let unknown : needed_by profile (first ∷ byte ∷ []) ≡ Outside = sym tell ∙ out in
-    let plain = unmasked profile (first ∷ byte ∷ []) Outside unknown (λ foreign. cc foreign) in
-    let unsaid : (n : ℕ) → needed (first ∷ byte ∷ []) ≡ Exactly n → ⊥ = λ n exact.
-    let clash : Outside ≡ Exactly n = sym plain.1 ∙ exact in cc clash in
-    rw is (rw same (
-      one_need profile first ∙ left_by first byte (needed (first ∷ [])) refl
-          (rw is at begun) unsaid,
-      unknown,
-    ))
-
--- a second byte that makes the block foreign
-pub second_foreign : (profile : Profile) (bytes : List ℕ) (first byte word : ℕ) (told : Need)
-    → bytes ≡ first ∷ [] → byte ≡ word % 256 → word < 256
-    → told ≡ needed_by profile (first ∷ byte ∷ []) → told ≡ Foreign → IsOpen bytes
-    → IsUnknownExpansion profile (bytes ++ word ∷ [])
-second_foreign profile bytes first byte word told is low small tell out begun =
-    let same : word ≡ byte = omega (arith, low) in
-    let foreign : needed_by profile (first ∷ byte ∷ []) ≡ Foreign = sym tell ∙ out in
-    rw is (rw same (
-      left_foreign profile first byte (rw is at begun) foreign,
-      foreign,
-      rw same at small,
-    ))
+    → TellsNone (needed (first ∷ word ∷ [])) → needed (first ∷ []) ≡ More
+left_by first word More is short none = is
+left_by first word (Exactly n) is short none = absurd (rw ((narrows first).known word n is) at none)
+left_by first word other is short none = absurd short
 
 -- a second byte with which a command is open still
 second_short : (first byte : ℕ) (alone told : Need) → needed (first ∷ []) ≡ alone
@@ -246,60 +130,160 @@ second_short first byte (Exactly m) told is tell short other (inr exact) =
     let two = at_least_two (first ∷ []) m (omega arith) is in
     let not_two : m ≡ 2 → ⊥ = λ at. other (ap Exactly at) in
     rw exact.1 (omega arith)
-second_short first byte Foreign told is tell short other (inr exact) = absurd short
-second_short first byte Outside told is tell short other (inr exact) = absurd short
-
-pub second_front : OpenIsAFront → TwoTell → (profile : Profile) (bytes : List ℕ)
-    (first one byte word : ℕ) (alone told : Need)
-    → bytes ≡ first ∷ [] → first < 256
-    → alone ≡ needed (first ∷ []) → (alone ≡ Exactly 2 → ⊥) → one ≡ word % 256 → byte ≡ word % 256
-    → word < 256
-    → told ≡ needed_by profile (first ∷ one ∷ [])
-    → (told ≡ More) ⊎ ((n : ℕ) × (told ≡ Exactly n)) → IsOpen bytes
-    → (word ≡ byte) × IsCommandFront profile (bytes ++ byte ∷ [])
-second_front opens tells profile bytes first one byte word alone told is low lone other same again
-    small tell wanting begun =
-    let fits : byte ≡ one = omega (arith, same, again) in
-    let byte_low : byte < 256 = omega (arith, again) in
-    let plain = unmasked profile (first ∷ one ∷ []) told (sym tell) (not_foreign told wanting) in (
-      omega (arith, again),
-      rw is (rw fits (front_of opens tells profile (first ∷ one ∷ [])
-          (omega arith)
-          (All-from_recursion IsByte (first ∷ one ∷ []) (low, (rw fits at byte_low, tt)))
-          (rw plain.1 (second_short first one alone told (sym lone) plain.1
-          (rw (is, sym lone) at begun) other wanting)) plain.0)),
-    )
-
--- a further byte with which a command is open still
-pub further_front : OpenIsAFront → TwoTell → (profile : Profile) (bytes : List ℕ) (byte n : ℕ)
-    → 2 ≤ length bytes → All IsByte bytes → byte < 256 → AreKnown profile bytes
-    → needed bytes ≡ Exactly n
-    → length bytes + 1 < n → IsCommandFront profile (bytes ++ byte ∷ [])
-further_front opens tells profile bytes byte n two low byte_low known told short =
-    let long = length-append bytes (byte ∷ []) in
-    front_of opens tells profile (bytes ++ byte ∷ []) (omega (arith, long, two))
-    (All-append IsByte bytes (byte ∷ []) low (All-from_recursion IsByte (byte ∷ []) (byte_low, tt)))
-    (subst (λ need. IsShort need (length (bytes ++ byte ∷ [])))
-    (sym (stays bytes (byte ∷ []) two ∙ told)) (omega arith))
-    (more_known profile bytes (byte ∷ []) two known)
+second_short first byte alone told is tell short other (inr exact) = absurd short
 
 -- where no further byte leaves a command open, the next one is its last
 ended : (bytes : List ℕ) (told : Need) → 2 ≤ length bytes → needed bytes ≡ told
-    → IsShort told (length bytes)
-    → ((n : ℕ) → told ≡ Exactly n → n ≤ length bytes + 1)
+    → IsShort told (length bytes) → ((n : ℕ) → told ≡ Exactly n → n ≤ length bytes + 1)
     → needed bytes ≡ Exactly (length bytes + 1)
 ended bytes More two is short most = absurd (not_left bytes two is)
 ended bytes (Exactly n) two is short most =
-    let e : n ≡ length bytes + 1 = omega (arith, most n refl, short) in
-    is ∙ ap Exactly e
-ended bytes Foreign two is short most = absurd short
-ended bytes Outside two is short most = absurd short
+    let e : n ≡ length bytes + 1 = omega (arith, most n refl, short) in is ∙ ap Exactly e
+ended bytes told two is short most = absurd short
 
 pub further_end : (bytes : List ℕ) (told : Need) → 2 ≤ length bytes → told ≡ needed bytes
     → ((n : ℕ) → told ≡ Exactly n → n ≤ length bytes + 1) → IsOpen bytes
     → needed bytes ≡ Exactly (length bytes + 1)
-further_end bytes told two is most begun =
-    ended bytes (needed bytes) two refl begun (λ n exact. most n (is ∙ exact))
+further_end bytes told two is most begun = ended bytes _ two refl begun (rw is at most)
+
+-- bytes with which a command is open are few
+few_open : (bytes : List ℕ) (need : Need) → 0 < length bytes → needed bytes ≡ need
+    → IsShort need (length bytes) → length bytes ≤ 32
+few_open bytes (Exactly n) some is short = omega (arith, short, at_most_32 bytes n some is)
+few_open bytes More some is short = omega (arith, short)
+few_open bytes other some is short = absurd short
+
+-- bytes that leave a command open are some: none need nothing
+pub some_bytes : (bytes : List ℕ) → IsOpen bytes → bytes ≢ []
+some_bytes [] wanting none = wanting
+some_bytes (byte ∷ bytes) wanting none = cc none
+
+-- the last byte of a command's block is its sum
+pub last_is_sum : (bytes : List ℕ) (word : ℕ) (command : Command)
+    → Spells command (bytes ++ word ∷ []) → word ≡ sum bytes % 256
+last_is_sum bytes word command spelled =
+    let content = command_bytes command in
+    let same = same_from_push bytes content word (sum content % 256) spelled.bytes in
+    same.1 ∙ ap (λ bs. sum bs % 256) (sym same.0)
+
+-- so it is the block of the bytes before it
+pub sealed : (bytes : List ℕ) (word : ℕ) (command : Command) → Spells command (bytes ++ word ∷ [])
+    → Spells command (block_of bytes)
+sealed bytes word command spelled = rw (last_is_sum bytes word command spelled) at spelled
+
+module _ (profile : Profile) where
+  -- what is open is the front of an ask
+  front_of : OpenIsAFront → TwoTell → (bytes : List ℕ) → 2 ≤ length bytes → All IsByte bytes
+      → IsOpen bytes → AreKnown profile bytes → IsCommandFront profile bytes
+  front_of law tell bytes two low wanting known =
+      let found = law bytes low wanting in
+      record {
+        some = some_there bytes (omega (arith, two));
+        command = found.0;
+        known = known_front tell profile bytes found.1 found.0 two found.3 known;
+        rest = found.1;
+        open_end = found.2;
+        spelled = found.3;
+      }
+
+  -- and the front of an ask is open
+  open_front : FrontIsOpen → (bytes : List ℕ) → IsCommandFront profile bytes → IsOpen bytes
+  open_front law bytes front =
+      law bytes front.rest front.command (some_length bytes front.some) front.open_end
+      front.spelled
+
+  -- a first byte that leaves a command open begins another ask than ENABLE OPTIONS
+  begins : OpenIsAnothersFront → (byte : ℕ) (told : Need) → IsByte byte
+      → needed (byte ∷ []) ≡ told → Wants told → IsCommandFront profile (byte ∷ [])
+  begins law byte told low is wanting =
+      let found = law (byte ∷ []) (All-from_recursion IsByte (byte ∷ []) (low, tt)) (short wanting)
+      (begins_one byte) in
+      record {
+        some = λ none. cc none;
+        command = found.0;
+        known = another_known profile found.0 found.4;
+        rest = found.1;
+        open_end = found.2;
+        spelled = found.3;
+      }
+    where
+      short : Wants told → IsOpen (byte ∷ [])
+      short (inl more) = rw (is, more) refl
+      short (inr exact) =
+          let two = at_least_two (byte ∷ []) exact.0 (omega arith) (is ∙ exact.1) in
+          rw (is, exact.1) (omega arith)
+
+  -- what two bytes make foreign, the first leaves to the second
+  left_foreign : (first word : ℕ) → IsOpen (first ∷ [])
+      → needed_by profile (first ∷ word ∷ []) ≡ Foreign → needed (first ∷ []) ≡ More
+  left_foreign first word alone foreign = by (begins_options (first ∷ word ∷ [])) refl
+    where
+      by : (begins : Bool) → begins_options (first ∷ word ∷ []) ≡ begins
+          → needed (first ∷ []) ≡ More
+      by true begins = options_more first word begins
+      by false none =
+          let known = none_of_both (leaves_options profile) _ none in
+          left_by first word _ refl alone
+          (rw (sym (known_need profile (first ∷ word ∷ []) known) ∙ foreign) tt)
+
+  -- what is made of a second byte
+  module _ (bytes : List ℕ) (first byte word : ℕ) (told : Need) (is : bytes ≡ first ∷ [])
+      (low : byte ≡ word % 256) (small : word < 256)
+      (tell : told ≡ needed_by profile (first ∷ byte ∷ [])) (begun : IsOpen bytes) where
+    -- one that this profile leaves out
+    pub second_outside : told ≡ Outside
+        → (needed_by profile bytes ≡ More) × (needed_by profile (bytes ++ word ∷ []) ≡ Outside)
+    second_outside out =
+        let same : word ≡ byte = omega (arith, low) in
+        let unknown : needed_by profile (first ∷ byte ∷ []) ≡ Outside = sym tell ∙ out in
+        let plain = unmasked profile (first ∷ byte ∷ []) Outside unknown (λ foreign. cc foreign) in
+        let more = left_by first byte _ refl (rw is at begun) (rw plain.1 tt) in
+        rw is (rw same (one_need profile first ∙ more, unknown))
+
+    -- one that makes the block foreign
+    pub second_foreign : told ≡ Foreign → IsUnknownExpansion profile (bytes ++ word ∷ [])
+    second_foreign out =
+        let same : word ≡ byte = omega (arith, low) in
+        let foreign : needed_by profile (first ∷ byte ∷ []) ≡ Foreign = sym tell ∙ out in
+        let more = left_foreign first byte (rw is at begun) foreign in
+        rw is (rw same (more, foreign, omega (arith, low)))
+
+    -- one that leaves the command open
+    pub second_front : OpenIsAFront → TwoTell → (alone : Need) → first < 256
+        → alone ≡ needed (first ∷ []) → (alone ≡ Exactly 2 → ⊥) → Wants told
+        → (word ≡ word % 256) × IsCommandFront profile (bytes ++ word % 256 ∷ [])
+    second_front opens tells alone fits lone other wanting =
+        let plain = unmasked profile (first ∷ byte ∷ []) told (sym tell)
+        (not_foreign told wanting) in
+        let byte_low : byte < 256 = omega (arith, low) in (
+          omega arith,
+          rw is (rw (← low) (front_of opens tells (first ∷ byte ∷ []) (omega arith)
+              (All-from_recursion IsByte (first ∷ byte ∷ []) (fits, (byte_low, tt)))
+              (rw plain.1 (second_short first byte alone told (sym lone) plain.1
+              (rw (is, sym lone) at begun) other wanting)) plain.0)),
+        )
+
+  -- a further byte with which a command is open still
+  pub further_front : OpenIsAFront → TwoTell → (bytes : List ℕ) (byte n : ℕ) → 2 ≤ length bytes
+      → All IsByte bytes → byte < 256 → AreKnown profile bytes → needed bytes ≡ Exactly n
+      → length bytes + 1 < n → IsCommandFront profile (bytes ++ byte ∷ [])
+  further_front opens tells bytes byte n two low byte_low known told short =
+      let long = length-append bytes (byte ∷ []) in
+      front_of opens tells (bytes ++ byte ∷ []) (omega (arith, long, two))
+      (All-append IsByte bytes (byte ∷ []) low
+      (All-from_recursion IsByte (byte ∷ []) (byte_low, tt)))
+      (rw (stays bytes (byte ∷ []) two, told) (omega arith))
+      (more_known profile bytes (byte ∷ []) two known)
+
+-- a byte that begins an ask, where it is no address of a device that is left out
+pub begins_followed : FirstTells → OpenIsAnothersFront → (scope : Scope) (word one : ℕ)
+    (told : Need) → one ≡ word % 256 → told ≡ needed_in scope (one ∷ []) → Wants told
+    → IsAskFront scope (word % 256 ∷ [])
+begins_followed first law scope word one told same is wanting =
+    let plain = within scope (one ∷ []) told (sym is) (not_foreign told wanting) in
+    rw (← same) (front_followed first scope (one ∷ []) (begins (profile_of scope.begins) law one
+    told (omega (arith, same)) (sym (one_need (profile_of scope.begins) one) ∙ plain.1) wanting)
+    plain.0)
 
 -- bytes that need their sum alone are with it the block of a command
 module _ (law : WhatItNeeds) (tell : TwoTell) (bytes : List ℕ) (word : ℕ) (some : 1 ≤ length bytes)
@@ -312,14 +296,13 @@ module _ (law : WhatItNeeds) (tell : TwoTell) (bytes : List ℕ) (word : ℕ) (s
       let found = law bytes low told in (
         found.0,
         found.1,
-        subst (λ w. Spells found.0 (bytes ++ w ∷ [])) (sym total) found.1,
+        rw total found.1,
         ap (λ b. leaves_options profile && b)
             (sym (content_tells tell bytes found.0 (some_there bytes some) found.1)) ∙ known,
       )
 
   -- which asks for more than is followed, or doesn't
-  module _ (more : Bool)
-      (means : (command : Command) → Spells command (block_of bytes)
+  module _ (more : Bool) (means : (command : Command) → Spells command (block_of bytes)
       → IsTrue more ↔ EnablesMore command) where
     pub ask_more : more ≡ true → (profile : Profile) → AreKnown profile bytes
         → IsGoingOn profile bytes word (Err rule.Profile)
@@ -337,122 +320,81 @@ module _ (law : WhatItNeeds) (tell : TwoTell) (bytes : List ℕ) (word : ℕ) (s
               let clash : true ≡ false = sym ((means ask.0 ask.1).1 enables) ∙ is in cc clash,
         )
 
--- the last byte of a command's block is its sum
-pub last_is_sum : (bytes : List ℕ) (word : ℕ) (command : Command)
-    → Spells command (bytes ++ word ∷ []) → word ≡ sum bytes % 256
-last_is_sum bytes word command spelled =
-    let content = command_bytes command in
-    let same = same_from_push bytes content word (sum content % 256) spelled.bytes in
-    same.1 ∙ ap (λ bs. sum bs % 256) (sym same.0)
-
--- bytes that leave a command open are some: none need nothing
-pub some_bytes : (bytes : List ℕ) → IsOpen bytes → bytes ≢ []
-some_bytes [] wanting none = wanting
-some_bytes (byte ∷ bytes) wanting none = cc none
-
 -- an unmarked word inside a block of the controller, in its time
-module _ (scope : Scope) (bytes : List ℕ) (from : Option Event) (at word : ℕ)
-    (levels : Levels) where
-  abbrev Asking : Situation
-  Asking = record { scope = scope; position = InAsk bytes; last = from; levels = levels }
+module _ (scope : Scope) (bytes : List ℕ) (from : Option Event) (at word : ℕ) (levels : Levels)
+    (order : OutOfOrder from (Word at Controller word) → ⊥)
+    (early : IsBefore WORD_GAP_MIN from (Word at Controller word) → ⊥)
+    (late : IsPast (block_most (profile_of scope.begins)) from (Word at Controller word) → ⊥)
+    (small : word < 256) (law : FirstTells) (some : bytes ≢ []) (followed : AreFollowed scope bytes)
+  where
+    abbrev Asking : Situation
+    Asking = record { scope = scope; position = InAsk bytes; last = from; levels = levels }
 
-  abbrev Said : Event
-  Said = Word at Controller word
+    abbrev Said : Event
+    Said = Word at Controller word
 
-  asks_first : (broken : Rule) → place_of broken ≤ place_of rule.Profile
-      → (OutOfOrder from Said → ⊥) → (IsBefore WORD_GAP_MIN from Said → ⊥)
-      → (IsPast (block_most (profile_of scope.begins)) from Said → ⊥) → word < 256
-      → (RowBreaks Asking Said rule.Sum → place_of broken ≤ place_of rule.Sum)
-      → (other : Rule) → RowBreaks Asking Said other → place_of broken ≤ place_of other
-  asks_first broken most order early late small sum rule.Order b = absurd (order b)
-  asks_first broken most order early late small sum rule.Mode b = absurd (omega (arith, b))
-  asks_first broken most order early late small sum rule.Early b = absurd (early b)
-  asks_first broken most order early late small sum rule.Spacing b = absurd (late b)
-  asks_first broken most order early late small sum rule.Sum b = sum b
-  asks_first broken most order early late small sum rule.Profile b = most
-  asks_first broken most order early late small sum other b = absurd b
+    asks_first : (broken : Rule) → place_of broken ≤ place_of rule.Profile
+        → (RowBreaks Asking Said rule.Sum → place_of broken ≤ place_of rule.Sum)
+        → (other : Rule) → RowBreaks Asking Said other → place_of broken ≤ place_of other
+    asks_first broken most sum rule.Sum b = sum b
+    asks_first broken most sum other b = search arith
 
-  pub going_on : (result : Result Judged Rule)
-      → (OutOfOrder from (Word at Controller word) → ⊥)
-      → (IsBefore WORD_GAP_MIN from (Word at Controller word) → ⊥)
-      → (IsPast (block_most (profile_of scope.begins)) from (Word at Controller word) → ⊥)
-      → word < 256
-      → FirstTells → bytes ≢ [] → AreFollowed scope bytes
-      → IsGoingOn (profile_of scope.begins) bytes word result
-      → IsJudged (record { scope = scope; position = InAsk bytes; last = from; levels = levels })
-      (Word at Controller word) result
-  going_on (Ok judged.AskByte) order early late small law some followed h = (
-    h.0,
-    small,
-    front_followed law scope (bytes ++ word % 256 ∷ []) h.1
-        (still_followed scope bytes (word % 256 ∷ []) some followed),
-    in_block_time (profile_of scope.begins) from Said early late,
-  )
-  going_on (Ok judged.Ask) order early late small law some followed h = (
-    h.0,
-    (
-      small,
-      asks_followed law scope h.0 (bytes ++ word ∷ []) h.1 h.2
-          (still_followed scope bytes (word ∷ []) some followed),
-      h.3,
-      in_block_time (profile_of scope.begins) from Said early late,
-    ),
-  )
-  going_on (Ok judged.Foreign) order early late small law some followed h = (
-    small,
-    expansion_opens scope (bytes ++ word ∷ []) h
-        (still_followed scope bytes (word ∷ []) some followed),
-    in_block_time (profile_of scope.begins) from Said early late,
-  )
-  going_on (Err rule.Sum) order early late small law some followed h = record {
-    breaks = (needed_followed scope bytes followed ∙ h.0, h.1);
-    first = asks_first rule.Sum (omega arith) order early late small (λ b. omega arith);
-  }
-  going_on (Err rule.Profile) order early late small law some followed (inl h) = record {
-    breaks = inl (
-      needed_followed scope bytes followed ∙ h.0,
-      needed_followed scope (bytes ++ word ∷ [])
-          (still_followed scope bytes (word ∷ []) some followed) ∙ h.1,
-    );
-    first = asks_first rule.Profile (omega arith) order early late small (λ b.
-        let clash : More ≡ Exactly (length bytes + 1) =
-        sym h.0 ∙ (sym (needed_followed scope bytes followed) ∙ b.0) in
-        absurd cc);
-  }
-  going_on (Err rule.Profile) order early late small law some followed (inr h) = record {
-    breaks = inr (
+    -- it comes in its block's time, and what goes on to a device that is followed does
+    on_time : InBlockTime (profile_of scope.begins) from Said
+    on_time = (in_time WORD_GAP_MIN from Said early, not_late _ from Said late)
+
+    goes_on : (more : List ℕ) → AreFollowed scope (bytes ++ more)
+    goes_on more = still_followed scope bytes more some followed
+
+    pub going_on : (result : Result Judged Rule)
+        → IsGoingOn (profile_of scope.begins) bytes word result → IsJudged Asking Said result
+    going_on (Ok judged.AskByte) h =
+        (h.0, small, front_followed law scope (bytes ++ word % 256 ∷ []) h.1 (goes_on _), on_time)
+    going_on (Ok judged.Ask) h = (
       h.0,
-      asks_followed law scope h.0 (bytes ++ word ∷ []) h.1 h.2
-          (still_followed scope bytes (word ∷ []) some followed),
-      h.3,
-    );
-    first = asks_first rule.Profile (omega arith) order early late small
-        (λ b. absurd (b.1 (last_is_sum bytes word h.0 h.1)));
-  }
-  going_on result order early late small law some followed h = absurd h
-
--- what isn't read of an allowed number of bytes has no fault in that number
-length_read : (format : Format) (command : Command) (bytes : List ℕ)
-    → HasDataAnswer command (length bytes) → HasFault format command bytes reading.Length → ⊥
-length_read format command bytes has faulty =
-    let bad = (bad_length format command bytes faulty).1 in
-    let both : Some bad.0 ≡ Some has.0 = sym bad.1 ∙ has.1 in
-    let same : has.0 ≡ bad.0 = cc in
-    bad.2 (rw same at has.2)
+      (
+        small,
+        asks_followed law scope h.0 (bytes ++ word ∷ []) h.1 h.2 (goes_on (word ∷ [])),
+        h.3,
+        on_time,
+      ),
+    )
+    going_on (Ok judged.Foreign) h =
+        (small, expansion_opens scope (bytes ++ word ∷ []) h (goes_on (word ∷ [])), on_time)
+    going_on (Err rule.Sum) h = record {
+      breaks = (needed_followed scope bytes followed ∙ h.0, h.1);
+      first = asks_first rule.Sum (omega arith) (λ b. omega arith);
+    }
+    going_on (Err rule.Profile) (inl h) =
+        let more = needed_followed scope bytes followed ∙ h.0 in
+        record {
+          breaks = inl (
+            more,
+            needed_followed scope (bytes ++ word ∷ []) (goes_on (word ∷ [])) ∙ h.1,
+          );
+          first = asks_first rule.Profile (omega arith) (λ b.
+              let clash : More ≡ Exactly (length bytes + 1) = sym more ∙ b.0 in absurd cc);
+        }
+    going_on (Err rule.Profile) (inr h) = record {
+      breaks = inr (
+        h.0,
+        asks_followed law scope h.0 (bytes ++ word ∷ []) h.1 h.2 (goes_on (word ∷ [])),
+        h.3,
+      );
+      first = asks_first rule.Profile (omega arith)
+          (λ b. absurd (b.1 (last_is_sum bytes word h.0 h.1)));
+    }
+    going_on result h = absurd h
 
 -- a marked word that is no answer's
 pub no_answer : (scope : Scope) (command : Command) (from : Option Event) (at word byte : ℕ)
-    (levels : Levels)
-    → (OutOfOrder from (Word at Peripheral word) → ⊥)
+    (levels : Levels) → (OutOfOrder from (Word at Peripheral word) → ⊥)
     → (IsBefore WORD_GAP_MIN from (Word at Peripheral word) → ⊥)
     → (IsPast (answer_most (profile_of scope.begins)) from (Word at Peripheral word) → ⊥)
-    → 256 ≤ word → word < 512
-    → byte ≡ word % 256
-    → ((answer : Answer) → answer_byte answer ≢ byte)
+    → 256 ≤ word → word < 512 → byte ≡ word % 256 → ((answer : Answer) → answer_byte answer ≢ byte)
     → IsFirstByPlace
     (record { scope = scope; position = Asked command; last = from; levels = levels })
-    (Word at Peripheral word)
-    rule.Answer
+    (Word at Peripheral word) rule.Answer
 no_answer scope command from at word byte levels order early late marked small low none = record {
   breaks = inl (
     marked,
@@ -462,26 +404,19 @@ no_answer scope command from at word byte levels order early late marked small l
   first = first;
 }
   where
-    first : (other : Rule)
-        → RowBreaks
+    first : (other : Rule) → RowBreaks
         (record { scope = scope; position = Asked command; last = from; levels = levels })
-        (Word at Peripheral word) other
-        → place_of rule.Answer ≤ place_of other
-    first rule.Order b = absurd (order b)
-    first rule.Early b = absurd (early b)
-    first rule.Late b = absurd (late b)
-    first other b = search rules
-
--- a marked word ends a reply of a right number of bytes
-length_right : (command : Command) (bytes : List ℕ) (at word : ℕ) → 256 ≤ word
-    → HasDataAnswer command (length bytes)
-    → WrongLength (InReply command bytes) (Word at Peripheral word) → ⊥
-length_right command bytes at word marked count (inl wrong) = omega (arith, wrong.0)
-length_right command bytes at word marked count (inr wrong) = wrong.1 count
+        (Word at Peripheral word) other → place_of rule.Answer ≤ place_of other
+    first rule.Answer b = omega arith
+    first other b = search arith
 
 -- a marked word that ends a reply, in its time
 module _ (scope : Scope) (one : BytesHaveOneFault) (none : ReplyHasNoFault) (command : Command)
-    (bytes : List ℕ) (from : Option Event) (at word : ℕ) (levels : Levels) where
+    (bytes : List ℕ) (from : Option Event) (at word : ℕ) (levels : Levels)
+    (order : OutOfOrder from (Word at Peripheral word) → ⊥)
+    (early : IsBefore WORD_GAP_MIN from (Word at Peripheral word) → ⊥)
+    (late : IsPast (block_most (profile_of scope.begins)) from (Word at Peripheral word) → ⊥)
+    (marked : 256 ≤ word) where
   abbrev Replying : Situation
   Replying =
       record { scope = scope; position = InReply command bytes; last = from; levels = levels }
@@ -495,115 +430,101 @@ module _ (scope : Scope) (one : BytesHaveOneFault) (none : ReplyHasNoFault) (com
   -- faults of its bytes are one
   apart : (fault other : MsgFault) → (fault ≢ other) → Bad fault → Bad other → ⊥
   apart fault other differ bad also = differ
-      (one_bad none one (format_for scope.begins levels command) command bytes fault other bad also)
+      (one_bad none command one (format_for scope.begins levels command) bytes fault other bad also)
 
-  module _ (order : OutOfOrder from (Word at Peripheral word) → ⊥)
-      (early : IsBefore WORD_GAP_MIN from (Word at Peripheral word) → ⊥)
-      (late : IsPast (block_most (profile_of scope.begins)) from (Word at Peripheral word) → ⊥)
-      (marked : 256 ≤ word) where
-    replies_first : (broken : Rule) → RowBreaks Replying Told broken
-        → place_of broken ≤ place_of rule.Profile
-        → (WrongLength (InReply command bytes) Told → place_of broken ≤ place_of rule.Length)
-        → (word ≢ 256 + sum bytes % 256 → place_of broken ≤ place_of rule.Sum)
-        → (Bad reading.Answer → place_of broken ≤ place_of rule.Answer)
-        → (Bad reading.Message → place_of broken ≤ place_of rule.Message)
-        → IsFirstByPlace Replying Told broken
-    replies_first broken breaks most length sum answer message =
-        record { breaks = breaks; first = first }
-      where
-        first : (other : Rule) → RowBreaks Replying Told other → place_of broken ≤ place_of other
-        first rule.Order b = absurd (order b)
-        first rule.Early b = absurd (early b)
-        first rule.Spacing b = absurd (late b)
-        first rule.Length b = length b
-        first rule.Sum b = sum b.1
-        first rule.Answer b = answer b.1
-        first rule.Message b = message b.1
-        first rule.Profile b = most
-        first other b = absurd b
+  -- it ends a reply of a right number of bytes
+  length_right : HasDataAnswer command (length bytes) → WrongLength (InReply command bytes) Told → ⊥
+  length_right count (inl wrong) = omega (arith, wrong.0)
+  length_right count (inr wrong) = wrong.1 count
 
-    -- the reply, read
-    reply_read : (result : Result Reply Rule) → HasDataAnswer command (length bytes)
-        → word ≡ 256 + sum bytes % 256 → IsRead scope.begins command bytes levels result
-        → IsSettled Replying Told result
-    reply_read result has total read = by result read
-      where
-        first : (broken : Rule) → RowBreaks Replying Told broken
-            → place_of broken ≤ place_of rule.Profile
-            → (Bad reading.Answer → place_of broken ≤ place_of rule.Answer)
-            → (Bad reading.Message → place_of broken ≤ place_of rule.Message)
-            → IsFirstByPlace Replying Told broken
-        first broken breaks most = replies_first broken breaks most
-            (λ b. absurd (length_right command bytes at word marked has b)) (λ b. absurd (b total))
+  -- what isn't read of an allowed number of bytes has no fault in that number
+  length_read : HasDataAnswer command (length bytes) → Bad reading.Length → ⊥
+  length_read has faulty =
+      let bad = (bad_length (format_for scope.begins levels command) command bytes faulty).1 in
+      let both : Some bad.0 ≡ Some has.0 = sym bad.1 ∙ has.1 in
+      let same : has.0 ≡ bad.0 = cc in
+      bad.2 (rw same at has.2)
 
-        faultless : (h : LeavesProfile scope.begins command bytes levels) (fault : MsgFault)
-            → Bad fault → ⊥
-        faultless h fault bad =
-            let format = format_for scope.begins levels command in
-            none_as none format command h.0 fault h.1.answers h.3 (rw h.2 at bad)
+  -- the first of the rules that it breaks
+  replies_first : (broken : Rule) → RowBreaks Replying Told broken
+      → place_of broken ≤ place_of rule.Profile
+      → (WrongLength (InReply command bytes) Told → place_of broken ≤ place_of rule.Length)
+      → (word ≢ 256 + sum bytes % 256 → place_of broken ≤ place_of rule.Sum)
+      → (Bad reading.Answer → place_of broken ≤ place_of rule.Answer)
+      → (Bad reading.Message → place_of broken ≤ place_of rule.Message)
+      → IsFirstByPlace Replying Told broken
+  replies_first broken breaks most length sum answer message =
+      record { breaks = breaks; first = first }
+    where
+      first : (other : Rule) → RowBreaks Replying Told other → place_of broken ≤ place_of other
+      first rule.Length b = length b
+      first rule.Sum b = sum b.1
+      first rule.Answer b = answer b.1
+      first rule.Message b = message b.1
+      first other b = search
 
-        by : (result : Result Reply Rule) → IsRead scope.begins command bytes levels result
-            → IsSettled Replying Told result
-        by (Ok reply) h = (
-          total,
-          h.0,
-          h.1,
-          h.2,
-          in_block_time (profile_of scope.begins) from Told early late,
-        )
-        by (Err rule.Length) h =
-            absurd (length_read (format_for scope.begins levels command) command bytes has h)
-        by (Err rule.Answer) h = first rule.Answer (marked, h) (omega arith) (λ b. omega arith)
-            (λ b. omega arith)
-        by (Err rule.Message) h = first rule.Message (marked, h) (omega arith)
-            (λ b. absurd (apart reading.Answer reading.Message (λ e. cc) b h)) (λ b. omega arith)
-        by (Err rule.Profile) (inl h) = first rule.Profile (marked, inl h) (omega arith)
-            (λ b. absurd (apart reading.Answer reading.Profile (λ e. cc) b h))
-            (λ b. absurd (apart reading.Message reading.Profile (λ e. cc) b h))
-        by (Err rule.Profile) (inr h) = first rule.Profile (marked, inr h) (omega arith)
-            (λ b. absurd (faultless h reading.Answer b))
-            (λ b. absurd (faultless h reading.Message b))
-        by result h = absurd h
+  -- the reply, read
+  reply_read : (result : Result Reply Rule) → HasDataAnswer command (length bytes)
+      → word ≡ 256 + sum bytes % 256 → IsRead scope.begins command bytes levels result
+      → IsSettled Replying Told result
+  reply_read result has total read = by result read
+    where
+      first : (broken : Rule) → RowBreaks Replying Told broken
+          → place_of broken ≤ place_of rule.Profile
+          → (Bad reading.Answer → place_of broken ≤ place_of rule.Answer)
+          → (Bad reading.Message → place_of broken ≤ place_of rule.Message)
+          → IsFirstByPlace Replying Told broken
+      first broken breaks most = replies_first broken breaks most
+          (λ b. absurd (length_right has b)) (λ b. absurd (b total))
 
-  pub reply_ended : (result : Result Judged Rule)
-      → (OutOfOrder from (Word at Peripheral word) → ⊥)
-      → (IsBefore WORD_GAP_MIN from (Word at Peripheral word) → ⊥)
-      → (IsPast (block_most (profile_of scope.begins)) from (Word at Peripheral word) → ⊥)
-      → 256 ≤ word → IsReplyEnd command bytes word result
-      → IsJudged
-      (record { scope = scope; position = InReply command bytes; last = from; levels = levels })
-      (Word at Peripheral word)
-      result
-  reply_ended (Ok judged.Reply) order early late marked h =
-      λ result is. reply_read order early late marked result h.0 h.1 is
-  reply_ended (Err rule.Length) order early late marked h =
-      replies_first order early late marked rule.Length (inr (marked, h)) (omega arith)
-      (λ b. omega arith) (λ b. omega arith) (λ b. omega arith) (λ b. omega arith)
-  reply_ended (Err rule.Sum) order early late marked h =
-      replies_first order early late marked rule.Sum (marked, h.1) (omega arith)
-      (λ b. absurd (length_right command bytes at word marked h.0 b)) (λ b. omega arith)
-      (λ b. omega arith) (λ b. omega arith)
-  reply_ended result order early late marked h = absurd h
+      faultless : (h : LeavesProfile scope.begins command bytes levels) (fault : MsgFault)
+          → Bad fault → ⊥
+      faultless h fault bad = none_as none command (format_for scope.begins levels command) h.0
+          fault h.1.answers h.3 (rw h.2 at bad)
+
+      by : (result : Result Reply Rule) → IsRead scope.begins command bytes levels result
+          → IsSettled Replying Told result
+      by (Ok reply) h = (
+        total,
+        h.0,
+        h.1,
+        h.2,
+        (in_time WORD_GAP_MIN from Told early, not_late _ from Told late),
+      )
+      by (Err rule.Length) h = absurd (length_read has h)
+      by (Err rule.Answer) h =
+          first rule.Answer (marked, h) (omega arith) (λ b. omega arith) (λ b. omega arith)
+      by (Err rule.Message) h = first rule.Message (marked, h) (omega arith)
+          (λ b. absurd (apart reading.Answer reading.Message (λ e. cc) b h)) (λ b. omega arith)
+      by (Err rule.Profile) (inl h) = first rule.Profile (marked, inl h) (omega arith)
+          (λ b. absurd (apart reading.Answer reading.Profile (λ e. cc) b h))
+          (λ b. absurd (apart reading.Message reading.Profile (λ e. cc) b h))
+      by (Err rule.Profile) (inr h) = first rule.Profile (marked, inr h) (omega arith)
+          (λ b. absurd (faultless h reading.Answer b)) (λ b. absurd (faultless h reading.Message b))
+      by result h = absurd h
+
+  -- what is made of that word
+  pub reply_ended : (result : Result Judged Rule) → IsReplyEnd command bytes word result
+      → IsJudged Replying Told result
+  reply_ended (Ok judged.Reply) h = λ result is. reply_read result h.0 h.1 is
+  reply_ended (Err rule.Length) h =
+      replies_first rule.Length (inr (marked, h)) (omega arith) (λ b. omega arith)
+      (λ b. omega arith) (λ b. omega arith) (λ b. omega arith)
+  reply_ended (Err rule.Sum) h =
+      replies_first rule.Sum (marked, h.1) (omega arith) (λ b. absurd (length_right h.0 b))
+      (λ b. omega arith) (λ b. omega arith) (λ b. omega arith)
+  reply_ended result h = absurd h
 
 -- the word at an index splits words
-pub split_at : (words : List ℕ) (n word : ℕ) → slice_get words n ≡ Some word
+split_at : (words : List ℕ) (n word : ℕ) → slice_get words n ≡ Some word
     → take n words ++ word ∷ drop (suc n) words ≡ words
 split_at [] n word is = cc
 split_at (w ∷ words) zero word is = let same : word ≡ w = cc in ap (λ x. x ∷ words) same
 split_at (w ∷ words) (suc n) word is = ap (λ ws. w ∷ ws) (split_at words n word is)
 
-not_empty : (words : List ℕ) (word : ℕ) → words ++ word ∷ [] ≢ []
-not_empty [] word none = cc
-not_empty (w ∷ words) word none = cc
-
-empty : (words : List ℕ) → length words ≡ 0 → words ≡ []
-empty [] none = refl
-empty (w ∷ words) none = absurd (omega (arith, none))
-
 -- a word of a reply in its place, with more to come
 pub repeats : (reply : Reply) (n word count : ℕ) → length (reply_words reply) ≡ count + 1
-    → n < count
-    → slice_get (reply_words reply) n ≡ Some word
+    → n < count → slice_get (reply_words reply) n ≡ Some word
     → IsRepeatFront reply (take n (reply_words reply) ++ word ∷ [])
 repeats reply n word count long more is =
     let rest : List ℕ = drop (suc n) (reply_words reply) in
@@ -619,10 +540,9 @@ repeats reply n word count long more is =
 pub repeated : (words : List ℕ) (n word count : ℕ) → length words ≡ count + 1 → count ≤ n
     → slice_get words n ≡ Some word → take n words ++ word ∷ [] ≡ words
 repeated words n word count long most is =
-    let within : n < length words = slice_get_within words n word is in
     let none : drop (suc n) words ≡ [] =
-    empty (drop (suc n) words) (omega (arith, length-drop (suc n) words)) in
-    ap (λ rest. take n words ++ word ∷ rest) (sym none) ∙ split_at words n word is
+    nil_from_length (drop (suc n) words) (omega (arith, length-drop (suc n) words)) in
+    rw none at (split_at words n word is)
 
 -- the words of a reply are one more than its bytes
 pub words_count : (bytes : List ℕ) → length (peripheral_words (block_of bytes)) ≡ length bytes + 1
@@ -631,120 +551,53 @@ words_count bytes =
     ∙ length-append bytes ((256 + sum bytes % 256) ∷ [])
 
 -- the word at an index of a sealed reply
-pub word_there : (bytes content block : List ℕ) (i word : ℕ) → content ≡ bytes
-    → block ≡ block_of content
-    → i < length block → word ≡ slice_index (peripheral_words block) i
-    → Some word ≡ slice_get (peripheral_words (block_of bytes)) i
-word_there bytes content block i word same sealed within is =
-    let whole : block ≡ block_of bytes = sealed ∙ ap block_of same in
-    let long = ap length whole ∙ length-append bytes ((sum bytes % 256) ∷ []) in
-    ap Some (rw whole at is)
-    ∙ sym (slice_get-get_or (peripheral_words (block_of bytes)) i 0
-    (omega (arith, within, words_count bytes, long)))
+module _ (bytes content block : List ℕ) (i : ℕ) (same : content ≡ bytes)
+    (sealed : block ≡ block_of content) where
+  whole : block ≡ block_of bytes
+  whole = sealed ∙ ap block_of same
 
-pub word_after : (bytes content block : List ℕ) (i : ℕ) → content ≡ bytes → block ≡ block_of content
-    → length block ≤ i
-    → None ≡ slice_get (peripheral_words (block_of bytes)) i
-word_after bytes content block i same sealed past =
-    let whole : block ≡ block_of bytes = sealed ∙ ap block_of same in
-    let long = ap length whole ∙ length-append bytes ((sum bytes % 256) ∷ []) in
-    sym (slice_get_past (peripheral_words (block_of bytes)) i
-    (omega (arith, past, words_count bytes, long)))
+  long : length block ≡ length bytes + 1
+  long = ap length whole ∙ length-append bytes ((sum bytes % 256) ∷ [])
 
--- what is made of a row at a place that is another's
-pub judged_at : (times : Profile) (scope : Scope) (place : Place) (other : Phase)
-    (from : Option Event) (levels : Levels) (row : Event) (result : Result Judged Rule)
-    → place.phase ≡ other
-    → IsJudgedBy times (record {
-      scope = scope;
-      position = position_in other place.bytes place.command place.last_reply.reply;
-      last = from;
-      levels = levels;
-    }) row result
-    → IsJudgedBy times
-    (record { scope = scope; position = position_at place; last = from; levels = levels }) row
-    result
-judged_at times scope place other from levels row result is judged = rw is judged
+  pub word_there : (word : ℕ) → i < length block → word ≡ slice_index (peripheral_words block) i
+      → Some word ≡ slice_get (peripheral_words (block_of bytes)) i
+  word_there word within is =
+      ap Some (rw whole at is) ∙ sym (slice_get-get_or (peripheral_words (block_of bytes)) i 0
+      (omega (arith, within, words_count bytes, long)))
 
--- inside a block of the controller, the bytes so far begin an ask
-asking_front : (scope : Scope) (place : Place) → place.phase ≡ phase.InAsk
-    → IsSound scope (position_at place) → IsAskFront scope place.bytes
-asking_front scope place asking sound = rw asking at sound
+  pub word_after : length block ≤ i → None ≡ slice_get (peripheral_words (block_of bytes)) i
+  word_after past = sym (slice_get_past (peripheral_words (block_of bytes)) i
+      (omega (arith, past, words_count bytes, long)))
 
--- the bytes so far are to a device that is followed
+-- inside a block of the controller, the bytes so far begin an ask to a device that is followed
 pub asking_followed : FirstTells → (scope : Scope) (place : Place) → place.phase ≡ phase.InAsk
     → IsSound scope (position_at place) → AreFollowed scope place.bytes
 asking_followed law scope place asking sound =
-    ask_front_followed law scope place.bytes (asking_front scope place asking sound)
+    ask_front_followed law scope place.bytes (rw asking at sound)
 
 -- and of a command that the profile has
 pub asking_known : TwoTell → (scope : Scope) (place : Place) → place.phase ≡ phase.InAsk
     → IsSound scope (position_at place) → AreKnown (profile_of scope.begins) place.bytes
 asking_known law scope place asking sound =
-    let front = asking_front scope place asking sound in
+    let front : IsAskFront scope place.bytes = rw asking at sound in
     front_known law (profile_of scope.begins) place.bytes front.rest front.command front.some
     front.spelled.spells front.spelled.known
 
--- what is made of a row that is another
-pub judged_row : (times : Profile) (situation : Situation) (row other : Event)
-    (result : Result Judged Rule) → row ≡ other
-    → IsJudgedBy times situation other result → IsJudgedBy times situation row result
-judged_row times situation row other result is judged = rw is judged
-
--- what was judged belongs to a phase, or is of a row, that is another
-pub belongs_at : (here other : Phase) (bytes : List ℕ) (row : Event) (result : Result Judged Rule)
-    → here ≡ other
-    → IfOk result (Belongs other bytes row) → IfOk result (Belongs here bytes row)
-belongs_at here other bytes row result is belongs = rw is belongs
-
-pub belongs_row : (here : Phase) (bytes : List ℕ) (row other : Event) (result : Result Judged Rule)
-    → row ≡ other
-    → IfOk result (Belongs here bytes other) → IfOk result (Belongs here bytes row)
-belongs_row here bytes row other result is belongs = rw is belongs
-
--- a phase that is another's is not inside a block of the controller
-pub not_asking : (here other : Phase) → here ≡ other → (other ≡ phase.InAsk → ⊥)
-    → here ≡ phase.InAsk → ⊥
-not_asking here other is apart asking = apart (sym is ∙ asking)
-
--- where no block of the controller is open, one may begin with a byte that leaves a command open
-may_begin : (here : Phase) (bytes : List ℕ) (byte : ℕ) → (here ≡ phase.InAsk → ⊥)
-    → IsOpen (byte ∷ []) → MayAsk here bytes byte
-may_begin phase.InAsk bytes byte other begun = absurd (other refl)
-may_begin here bytes byte other begun = begun
-
 -- what was judged of a word that may begin a block
 pub opened_belongs : (scope : Scope) → FrontIsOpen → (least : ℕ) (from : Option Event) (at word : ℕ)
-    (result : Result Judged Rule)
-    → IsOpened scope least from (Word at Controller word) word result
+    (result : Result Judged Rule) → IsOpened scope least from (Word at Controller word) word result
     → (here : Phase) (bytes : List ℕ) → (here ≡ phase.InAsk → ⊥)
     → IfOk result (Belongs here bytes (Word at Controller word))
-opened_belongs scope law least from at word (Ok judged.AskByte) opened here bytes other = (
-  tt,
-  may_begin here bytes (word % 256) other (open_front law (profile_of scope.begins)
-      (word % 256 ∷ []) (plain_front scope (word % 256 ∷ []) opened.1)),
-)
-opened_belongs scope law least from at word (Ok judged.Foreign) opened here bytes other = tt
-opened_belongs scope law least from at word (Ok found) opened here bytes other = absurd opened
+opened_belongs scope law least from at word (Ok judged.AskByte) opened here bytes other =
+    (tt, may_begin here other)
+  where
+    -- where no block of the controller is open, one may begin with a byte that leaves it open
+    may_begin : (here : Phase) → (here ≡ phase.InAsk → ⊥) → MayAsk here bytes (word % 256)
+    may_begin phase.InAsk other = absurd (other refl)
+    may_begin here other = open_front (profile_of scope.begins) law (word % 256 ∷ [])
+        (plain_front scope (word % 256 ∷ []) opened.1)
+opened_belongs scope law least from at word (Ok found) opened here bytes other = search
 opened_belongs scope law least from at word (Err broken) opened here bytes other = tt
-
--- bytes with which a command is open are few
-few_open : (bytes : List ℕ) (need : Need) → 0 < length bytes → needed bytes ≡ need
-    → IsShort need (length bytes) → length bytes ≤ 32
-few_open bytes (Exactly n) some is short = omega (arith, short, at_most_32 bytes n some is)
-few_open bytes More some is short = omega (arith, short)
-few_open bytes Foreign some is short = absurd short
-few_open bytes Outside some is short = absurd short
-
--- the block of a command is its bytes so far and their sum
-pub sealed : (bytes : List ℕ) (word : ℕ) (command : Command) → Spells command (bytes ++ word ∷ [])
-    → Spells command (block_of bytes)
-sealed bytes word command spelled =
-    let content = command_bytes command in
-    record {
-      fields = spelled.fields;
-      bytes = ap block_of (same_from_push bytes content word (sum content % 256) spelled.bytes).0;
-    }
 
 -- what was judged of a word inside a block of the controller
 pub asking_belongs : FrontIsOpen → (profile : Profile) (bytes : List ℕ) (at word : ℕ)
@@ -752,13 +605,11 @@ pub asking_belongs : FrontIsOpen → (profile : Profile) (bytes : List ℕ) (at 
     → IfOk result (Belongs phase.InAsk bytes (Word at Controller word))
 asking_belongs law profile bytes at word (Ok judged.AskByte) going =
     let longer : List ℕ = bytes ++ word % 256 ∷ [] in
-    let begun : IsOpen longer = open_front law profile longer going.1 in
+    let begun : IsOpen longer = open_front profile law longer going.1 in
     let long : length longer ≡ length bytes + 1 = length-append bytes (word % 256 ∷ []) in
-    let few : length longer ≤ 32 = few_open longer (needed longer) (omega (arith, long)) refl
-    begun in
+    let few = few_open longer (needed longer) (omega (arith, long)) refl begun in
     (tt, (omega (arith, long, few), begun))
 asking_belongs law profile bytes at word (Ok judged.Ask) going =
     (refl, going.0, sealed bytes word going.0 going.1)
-asking_belongs law profile bytes at word (Ok judged.Foreign) going = tt
-asking_belongs law profile bytes at word (Ok found) going = absurd going
+asking_belongs law profile bytes at word (Ok found) going = search
 asking_belongs law profile bytes at word (Err broken) going = tt

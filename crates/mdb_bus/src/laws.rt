@@ -130,6 +130,7 @@ pub fn rows_have_one_fault()
 
 /// Where the options of all readers are known, as from power-on and by the base profile, a row's
 /// fault is the first rule that it breaks.
+#[tactic(auto, using(crate::proofs::PlainMoney::counts_plainly))]
 pub fn first_broken_rules_count_where_options_are_known()
     ensures { (scope : Scope) (pieces : List Piece) (broken : Rule) (position : Position)
         → first_known scope.begins ≡ all_known
@@ -138,6 +139,7 @@ pub fn first_broken_rules_count_where_options_are_known()
 
 /// The base profile needs nothing of the extended one (`Extended*.antt`): a reply is read in one
 /// way, and a row's fault is the first rule that it breaks, blamed on who broke it.
+#[tactic(auto, using(crate::proofs::BaseAlone::one_format, crate::proofs::BaseAlone::first_counts, crate::proofs::BaseAlone::no_haste, crate::proofs::BaseAlone::no_times))]
 pub fn the_base_profile_stands_alone()
     ensures formats { (begins : Beginning) (levels : Levels) (command : Command)
         → profile_of begins ≡ Base → format_for begins levels command ≡ As base }
@@ -202,6 +204,7 @@ pub fn act_lists_without_further_devices_are_what_is_left()
 
 /// A device that is followed keeps its part in the same acts if further devices are left out. A
 /// device that is left out has a part in breaks only.
+#[tactic(auto, using(crate::proofs::LeftOutActs::own_acts_stay, crate::proofs::LeftOutActs::breaks_left))]
 pub fn acts_of_followed_devices_stay()
     ensures followed { (scope : Scope) (pieces : List Piece) (device : Device)
         → IsFollowed scope device
@@ -212,6 +215,7 @@ pub fn acts_of_followed_devices_stay()
 {}
 
 /// In an act list, a device that is left out has a part in breaks only.
+#[tactic(auto, using(crate::proofs::LeftOutActs::breaks_alone))]
 pub fn devices_left_out_have_a_part_in_breaks_alone()
     ensures { (scope : Scope) (pieces : List Piece) (device : Device) → ArePieces scope pieces
         → IsLeftOut scope device

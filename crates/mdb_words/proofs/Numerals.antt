@@ -36,19 +36,27 @@ pub positional_is : (base : ℕ) (ds : List ℕ)
     → positional base (map digit_value ds) ≡ digits_value base ds
 positional_is base ds = omega (arith, positional_after base 0 ds)
 
+-- digits of a base are bytes of a kind, where each is
+from_values : (base : ℕ) (Kind : ℕ → Type 0) → ((c : ℕ) → digit_value c < base → Kind c)
+    → (ds : List ℕ) → AllDigits base ds → All Kind ds
+from_values base Kind each [] all = All-nil Kind
+from_values base Kind each (c ∷ cs) all =
+    All-cons Kind c cs (each c all.0) (from_values base Kind each cs all.1)
+
+from_kind : (base : ℕ) (Kind : ℕ → Type 0) → ((c : ℕ) → Kind c → digit_value c < base)
+    → (ds : List ℕ) → All Kind ds → AllDigits base ds
+from_kind base Kind each [] all = tt
+from_kind base Kind each (c ∷ cs) all =
+    (each c (All-head Kind c cs all), from_kind base Kind each cs (All-tail Kind c cs all))
+
 -- decimal digits
 
 digits_from_values : (ds : List ℕ) → AllDigits 10 ds → All IsAsciiDigit ds
-digits_from_values [] all = All-nil IsAsciiDigit
-digits_from_values (c ∷ cs) all =
-    All-cons IsAsciiDigit c cs (digit_from_value c all.0) (digits_from_values cs all.1)
+digits_from_values = from_values 10 IsAsciiDigit digit_from_value
 
 values_from_digits : (ds : List ℕ) → All IsAsciiDigit ds → AllDigits 10 ds
-values_from_digits [] all = tt
-values_from_digits (c ∷ cs) all =
-    let first = All-head IsAsciiDigit c cs all in
-    let value = digit_value_digit c first in
-    (omega (arith, first, value), values_from_digits cs (All-tail IsAsciiDigit c cs all))
+values_from_digits =
+    from_kind 10 IsAsciiDigit (λ c is. omega (arith, is, digit_value_digit c is))
 
 pub IsDecimal-from : (most : ℕ) (field : List ℕ) (n : ℕ) → 1 ≤ length field → length field ≤ most
     → AllDigits 10 field → n ≡ digits_value 10 field → IsDecimal most field n
@@ -83,8 +91,7 @@ is_digit base none value count other small =
 abbrev pub AreCounts : List ℕ → List ℕ → Type 0
 AreCounts [] [] = ⊤
 AreCounts (c ∷ cs) (n ∷ ns) = IsCount 10 100000000 (length cs) c n × AreCounts cs ns
-AreCounts [] (n ∷ ns) = ⊥
-AreCounts (c ∷ cs) [] = ⊥
+AreCounts cs ns = ⊥
 
 abbrev pub sum_of : List ℕ → ℕ
 sum_of [] = 0
@@ -111,8 +118,7 @@ counted_from (c ∷ cs) (n ∷ ns) counts =
       );
       number = λ all. omega (arith, counts.0.digit all.0, rest.number all.1, value_front 10 c cs);
     }
-counted_from [] (n ∷ ns) counts = absurd counts
-counted_from (c ∷ cs) [] counts = absurd counts
+counted_from ds ns counts = absurd counts
 
 -- the elements of a list, from an index on
 abbrev pub elements : ℕ → ℕ → List ℕ → List ℕ
@@ -237,32 +243,32 @@ decimal_longer n ten small =
 digit_glyph_decimal : (d : ℕ) → d < 10 → digit_glyph true d ≡ 48 + d
 digit_glyph_decimal d h = grind (arith, nat_tests)
 
-pub decimal_append_room : (old front : List ℕ) (n : ℕ) → 10 ≤ n → n < 2 ^ 64
-    → front ≡ old ++ decimal (n / 10) → length old + length (decimal n) ≤ 32 → length front < 32
-decimal_append_room old front n ten small is room =
-    omega (arith, ap length is, length-append old (decimal (n / 10)), decimal_longer n ten small)
+module _ (old front : List ℕ) (n : ℕ) where
+  module _ (ten : 10 ≤ n) (small : n < 2 ^ 64) (is : front ≡ old ++ decimal (n / 10)) where
+    pub decimal_append_room : length old + length (decimal n) ≤ 32 → length front < 32
+    decimal_append_room room =
+        let longer = decimal_longer n ten small in
+        omega (arith, ap length is, length-append old (decimal (n / 10)), longer)
 
-pub decimal_append_digit_room : (old front : List ℕ) (n : ℕ) → n < 10 → front ≡ old
-    → length old + length (decimal n) ≤ 32 → length front < 32
-decimal_append_digit_room old front n ten is room =
-    omega (arith, ap length is, ap length (decimal_digit n ten))
+    pub decimal_append : (new : List ℕ) → new ≡ front ++ digit_glyph true (n % 10) ∷ []
+        → new ≡ old ++ decimal n
+    decimal_append new appends =
+        let glyph = digit_glyph_decimal (n % 10) (omega arith) in
+        let step = decimal_step n ten small in
+        let regroup = append_assoc old (decimal (n / 10)) ((48 + n % 10) ∷ []) in
+        cc
 
-pub decimal_append : (old front new : List ℕ) (n : ℕ) → 10 ≤ n → n < 2 ^ 64
-    → front ≡ old ++ decimal (n / 10) → new ≡ front ++ digit_glyph true (n % 10) ∷ []
-    → new ≡ old ++ decimal n
-decimal_append old front new n ten small is appends =
-    let glyph = digit_glyph_decimal (n % 10) (omega arith) in
-    let step = decimal_step n ten small in
-    let regroup = append_assoc old (decimal (n / 10)) ((48 + n % 10) ∷ []) in
-    cc
+  module _ (ten : n < 10) (is : front ≡ old) where
+    pub decimal_append_digit_room : length old + length (decimal n) ≤ 32 → length front < 32
+    decimal_append_digit_room room = omega (arith, ap length is, ap length (decimal_digit n ten))
 
-pub decimal_append_digit : (old front new : List ℕ) (n : ℕ) → n < 10 → front ≡ old
-    → new ≡ front ++ digit_glyph true (n % 10) ∷ [] → new ≡ old ++ decimal n
-decimal_append_digit old front new n ten is appends =
-    let whole : n % 10 ≡ n = omega arith in
-    let glyph = digit_glyph_decimal n ten in
-    let digit = decimal_digit n ten in
-    cc
+    pub decimal_append_digit : (new : List ℕ) → new ≡ front ++ digit_glyph true (n % 10) ∷ []
+        → new ≡ old ++ decimal n
+    decimal_append_digit new appends =
+        let whole : n % 10 ≡ n = omega arith in
+        let glyph = digit_glyph_decimal n ten in
+        let digit = decimal_digit n ten in
+        cc
 
 -- a start alone takes 15 bytes at most
 pub length_start : (start : ℕ) (new text : List ℕ) → new ≡ [] → text ≡ new ++ decimal start
@@ -287,58 +293,37 @@ hex_from_value c h = grind (arith, nat_tests)
 value_from_hex : (c : ℕ) → IsAsciiHexdigit c → digit_value c < 16
 value_from_hex c h = grind (arith, nat_tests)
 
-hex_from_values : (ds : List ℕ) → AllDigits 16 ds → All IsAsciiHexdigit ds
-hex_from_values [] all = All-nil IsAsciiHexdigit
-hex_from_values (c ∷ cs) all =
-    All-cons IsAsciiHexdigit c cs (hex_from_value c all.0) (hex_from_values cs all.1)
-
-values_from_hex : (ds : List ℕ) → All IsAsciiHexdigit ds → AllDigits 16 ds
-values_from_hex [] all = tt
-values_from_hex (c ∷ cs) all = (
-  value_from_hex c (All-head IsAsciiHexdigit c cs all),
-  values_from_hex cs (All-tail IsAsciiHexdigit c cs all),
-)
-
 pub IsHexWord-from : (field : List ℕ) (word : ℕ) → length field ≡ 3 → AllDigits 16 field
     → word ≡ digits_value 16 field → word < 512 → IsHexWord field word
 IsHexWord-from field word three all is small =
     record {
       three = three;
-      digits = hex_from_values field all;
+      digits = from_values 16 IsAsciiHexdigit hex_from_value field all;
       value = is ∙ sym (positional_is 16 field);
       small = small;
     }
 
 pub IsHexWord-digits : (field : List ℕ) (word : ℕ) → IsHexWord field word
     → AllDigits 16 field × (word ≡ digits_value 16 field)
-IsHexWord-digits field word h = (values_from_hex field h.digits, h.value ∙ positional_is 16 field)
+IsHexWord-digits field word h =
+    (from_kind 16 IsAsciiHexdigit value_from_hex field h.digits, h.value ∙ positional_is 16 field)
 
 -- what the counts of a field's three bytes tell
 
 pub hex_some : (field : List ℕ) (a b c : ℕ) → length field ≡ 3
     → IsCount 16 512 2 (get_or field 0 0) a → IsCount 16 512 1 (get_or field 1 0) b
     → IsCount 16 512 0 (get_or field 2 0) c → a + b + c < 512 → IsHexWord field (a + b + c)
-hex_some [] a b c three first second third small = absurd (omega arith)
-hex_some (x ∷ []) a b c three first second third small = absurd (omega arith)
-hex_some (x ∷ y ∷ []) a b c three first second third small = absurd (omega arith)
-hex_some (x ∷ y ∷ z ∷ w ∷ rest) a b c three first second third small = absurd (omega arith)
 hex_some (x ∷ y ∷ z ∷ []) a b c three first second third small =
     let p = is_digit 16 512 (digit_value x) a first.other (omega arith) in
     let q = is_digit 16 512 (digit_value y) b second.other (omega arith) in
     let r = is_digit 16 512 (digit_value z) c third.other (omega arith) in
     IsHexWord-from (x ∷ y ∷ z ∷ []) _ refl (p, (q, (r, tt)))
     (omega (arith, first.digit p, second.digit q, third.digit r)) small
+hex_some field a b c three first second third small = absurd (omega arith)
 
 pub hex_none : (field : List ℕ) (a b c : ℕ) → IsCount 16 512 2 (get_or field 0 0) a
     → IsCount 16 512 1 (get_or field 1 0) b → IsCount 16 512 0 (get_or field 2 0) c
     → 512 ≤ a + b + c → (word : ℕ) → IsHexWord field word → ⊥
-hex_none [] a b c first second third large word hex = absurd (let three = hex.three in omega arith)
-hex_none (x ∷ []) a b c first second third large word hex =
-    absurd (let three = hex.three in omega arith)
-hex_none (x ∷ y ∷ []) a b c first second third large word hex =
-    absurd (let three = hex.three in omega arith)
-hex_none (x ∷ y ∷ z ∷ w ∷ rest) a b c first second third large word hex =
-    absurd (let three = hex.three in omega arith)
 hex_none (x ∷ y ∷ z ∷ []) a b c first second third large word hex =
     let read = IsHexWord-digits (x ∷ y ∷ z ∷ []) word hex in
     omega (
@@ -349,6 +334,8 @@ hex_none (x ∷ y ∷ z ∷ []) a b c first second third large word hex =
       read.1,
       hex.small,
     )
+hex_none field a b c first second third large word hex =
+    absurd (let three = hex.three in omega arith)
 
 glyph_value : (d : ℕ) → d < 16 → digit_value (digit_glyph true d) ≡ d
 glyph_value d h = grind (arith, nat_tests)

@@ -1,5 +1,5 @@
 -- What reading and writing rows answer: one event or one refusal, and the row as it is written.
-use Rattle.std.proofs.Common.{◌≡◌, ◌≢◌, ℕ, ◌/◌, ◌%◌, ◌^◌, true, All, ◌<◌, ◌≤◌, List, [], ◌∷◌, length, get_or, map, inl, inr, refl, ap, subst, arith, Option, None, Some, IfSome, IfNone, Result, Ok, Err, IfErr}
+use Rattle.std.proofs.Common.{◌≡◌, ◌≢◌, ℕ, ◌/◌, ◌%◌, ◌^◌, true, All, ◌<◌, ◌≤◌, List, [], ◌∷◌, length, get_or, map, inl, inr, refl, ap, arith, Option, None, Some, IfSome, IfNone, Result, Ok, Err, IfErr}
 use Rattle.std.specs.Borrow.{Bor}
 use Rattle.std.specs.Option.{ok_or}
 use Rattle.std.proofs.lemmas.Bool.Decides.{nat_tests}
@@ -58,11 +58,8 @@ three_fields : (fields : List (Bor (List ℕ))) (none : Bor (List ℕ)) → 3 �
     → length fields < 4
     → texts fields
     ≡ (get_or fields 0 none).now ∷ (get_or fields 1 none).now ∷ (get_or fields 2 none).now ∷ []
-three_fields [] none some few = absurd (omega arith)
-three_fields (time ∷ []) none some few = absurd (omega arith)
-three_fields (time ∷ letter ∷ []) none some few = absurd (omega arith)
 three_fields (time ∷ letter ∷ value ∷ []) none some few = refl
-three_fields (time ∷ letter ∷ value ∷ more ∷ rest) none some few = absurd (omega arith)
+three_fields fields none some few = absurd (omega arith)
 
 pub refuses_time : (fields : List (Bor (List ℕ))) (none : Bor (List ℕ)) (read : Option ℕ)
     (fault : RowFault) → 3 ≤ length fields → length fields < 4
@@ -70,8 +67,8 @@ pub refuses_time : (fields : List (Bor (List ℕ))) (none : Bor (List ℕ)) (rea
     → IfNone read ((n : ℕ) → IsDecimal 15 (get_or fields 0 none).now n → ⊥)
     → IsRefusal (texts fields) fault
 refuses_time fields none None fault some few is bad =
-    let same : BadTime ≡ fault = cc in
-    subst (IsRefusal (texts fields)) same (_, _, _, three_fields fields none some few, bad)
+    let same : fault ≡ BadTime = cc in
+    rw same (_, _, _, three_fields fields none some few, bad)
 refuses_time fields none (Some n) fault some few is bad = absurd (cc)
 
 pub tells_fields : (fields : List (Bor (List ℕ))) (none : Bor (List ℕ)) (read : Option ℕ) (at : ℕ)
@@ -84,8 +81,7 @@ pub tells_fields : (fields : List (Bor (List ℕ))) (none : Bor (List ℕ)) (rea
 tells_fields fields none None at told some few is decimal rest = absurd (cc)
 tells_fields fields none (Some n) at told some few is decimal rest =
     let same : n ≡ at = cc in
-    rw (three_fields fields none some few) (rest (get_or fields 0 none).now
-    (subst (IsDecimal 15 (get_or fields 0 none).now) same decimal))
+    rw (three_fields fields none some few) (rest (get_or fields 0 none).now (rw same at decimal))
 
 pub err_from : (fields : List (List ℕ)) (read : Result Event RowFault) → Tells read fields
     → IfErr read (IsRefusal fields)

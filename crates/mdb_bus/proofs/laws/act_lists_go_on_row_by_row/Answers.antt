@@ -1,5 +1,6 @@
+-- An act list of one row more goes on from one of the rows.
 use Rattle.mdb_bus.proofs.OneActList.{goes_on_from}
 use Rattle.mdb_bus.proofs.laws.act_lists_go_on_row_by_row.Goals as goal
 
 pub returns : goal.returns
-returns c scope = goes_on_from scope (c.grammar.ensures scope).open_front
+returns c scope = goes_on_from scope (c.grammar.ensures scope)

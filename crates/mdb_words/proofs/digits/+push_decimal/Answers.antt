@@ -26,9 +26,9 @@ returns t c =
     let old = c.args.text.now.bytes in
     elim c.if-number-ge10.branch [
       | then-number-ge10 w ↦
-          decimal_append old _ _ c.args.number w.if-number-ge10.true c.ranges.number.fits
-          (ap (λ text. text.bytes) w.text-is ∙ w.push_decimal.ensures) c.push_digit.ensures
+          decimal_append old _ c.args.number w.if-number-ge10.true c.ranges.number.fits
+          (ap (λ text. text.bytes) w.text-is ∙ w.push_decimal.ensures) _ c.push_digit.ensures
       | else-number-ge10 w ↦
-          decimal_append_digit old _ _ c.args.number w.if-number-ge10.false
-          (ap (λ text. text.bytes) w.text-is) c.push_digit.ensures
+          decimal_append_digit old _ c.args.number w.if-number-ge10.false
+          (ap (λ text. text.bytes) w.text-is) _ c.push_digit.ensures
     ]

@@ -1,8 +1,4 @@
-use Rattle.std.proofs.Common.{◌≡◌, subst}
-use Rattle.mdb_bus.specs.declared.bus.Bus.{Bus}
-use Rattle.mdb_bus.specs.Bus.{position_at}
-use Rattle.mdb_bus.specs.LinkFaults.{fault_at}
-use Rattle.mdb_bus.specs.ExtendedMoney.{wide_at}
+-- A row that is taken goes on, and one that is refused has its fault.
 use Rattle.mdb_bus.proofs.Feed.{has_fault}
 use Rattle.mdb_bus.proofs.Verdicts.{covers_same}
 use Rattle.mdb_bus.proofs.bus.Bus.feed_slowly.Goals as goal
@@ -14,12 +10,9 @@ returns-in-Ok-clause-goes_on c pieces stands =
 
 pub returns-in-Err-clause-faults : goal.returns-in-Err-clause-faults
 returns-in-Err-clause-faults c pieces stands =
-    let Told : Bus → Type 0 = λ b. c.fault.result
-    ≡ fault_at (position_at b.place) b.asked (wide_at b.options b.levels) b.haste c.args.event.now
-    c.in-Err.rule in
-    has_fault c.args.self.now pieces c.args.event.now c.in-Err.rule c.fault.result stands
+    has_fault c.args.self.now pieces stands c.args.event.now c.in-Err.rule c.fault.result
     (c.in-Err.ensures.breaks pieces stands c.profile-times.ensures)
-    (subst Told c.in-Err.ensures.unchanged c.fault.ensures)
+    (rw c.in-Err.ensures.unchanged at c.fault.ensures)
 
 pub returns-in-Err-clause-impossible : goal.returns-in-Err-clause-impossible
 returns-in-Err-clause-impossible c pieces stands has =

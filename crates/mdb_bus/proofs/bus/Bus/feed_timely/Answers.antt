@@ -1,3 +1,4 @@
+-- A row in its time goes on, and leaves no haste.
 use Rattle.std.proofs.Common.{◌∙◌}
 use Rattle.mdb_bus.specs.Bus.{position_at}
 use Rattle.mdb_bus.specs.Scopes.{profile_of}
@@ -13,5 +14,4 @@ returns-in-Ok-clause-goes_on c pieces stands =
 
 pub returns-in-Ok-clause-timely : goal.returns-in-Ok-clause-timely
 returns-in-Ok-clause-timely c pieces stands =
-    sends_none c.args.self.now pieces c.args.event.now stands
-    (c.in-Ok.ensures.timely pieces stands)
+    sends_none c.args.self.now pieces stands c.args.event.now (c.in-Ok.ensures.timely pieces stands)

@@ -1,3 +1,4 @@
+-- The bus goes a step as its place advances.
 use Rattle.std.proofs.Common.{refl}
 use Rattle.mdb_bus.specs.Bus.{ended_act}
 use Rattle.mdb_bus.proofs.Feed.{gone_ack, gone_ask, gone_break, gone_foreign, gone_on}
@@ -5,38 +6,32 @@ use Rattle.mdb_bus.proofs.bus.Bus.go.Goals as goal
 
 pub returns-in-Ask-clause-gone : goal.returns-in-Ask-clause-gone
 returns-in-Ask-clause-gone c =
-    gone_ask c.args.self.now c.note_ask.new.self c.advance-ended.new.self c.args.event.now
-    c.args.judged c.advance-ended.result
-    c.advance-ended.new.act c.in-Ask.is c.note_ask.ensures.place c.note_ask.ensures.scope
-    c.note_ask.ensures.last c.note_ask.ensures.options
-    c.note_ask.ensures.levels
-    c.note_ask.ensures.asked c.advance-ended.ensures.advanced
+    gone_ask c.args.self.now c.note_ask.new.self c.args.event.now c.note_ask.ensures.scope
+    c.note_ask.ensures.last c.args.judged c.advance-ended.new.self c.advance-ended.result
+    c.advance-ended.new.act c.in-Ask.is c.note_ask.ensures.place c.note_ask.ensures.options
+    c.note_ask.ensures.levels c.note_ask.ensures.asked c.advance-ended.ensures.advanced
 
 pub returns-in-Ack-clause-gone : goal.returns-in-Ack-clause-gone
 returns-in-Ack-clause-gone c =
-    gone_ack c.args.self.now _ c.args.event.now c.args.judged c.advance-ended.result
-    c.advance-ended.new.act c.in-Ack.is refl refl refl c.note.ensures
-    refl
+    gone_ack c.args.self.now _ c.args.event.now refl refl refl c.args.judged
+    c.advance-ended.result c.advance-ended.new.act c.in-Ack.is c.note.ensures refl
     c.advance-ended.ensures.advanced
 
 pub returns-in-Foreign-clause-gone : goal.returns-in-Foreign-clause-gone
 returns-in-Foreign-clause-gone c =
-    gone_foreign c.args.self.now _ c.args.event.now c.args.judged
-    (ended_act c.advance-ended.result c.advance-ended.new.act)
-    c.in-Foreign.is refl refl refl refl refl
+    gone_foreign c.args.self.now _ c.args.event.now refl refl refl c.args.judged
+    (ended_act c.advance-ended.result c.advance-ended.new.act) c.in-Foreign.is refl refl
     c.advance-ended.ensures.advanced
 
 pub returns-in-Break-clause-gone : goal.returns-in-Break-clause-gone
 returns-in-Break-clause-gone c =
-    gone_break c.args.self.now _ c.args.event.now c.args.judged c.advance-ended.result
-    c.advance-ended.new.act c.in-Break.is refl refl refl
-    c.note-in-Break.ensures refl
+    gone_break c.args.self.now _ c.args.event.now refl refl refl c.args.judged
+    c.advance-ended.result c.advance-ended.new.act c.in-Break.is c.note-in-Break.ensures refl
     c.advance-ended.ensures.advanced
 
 pub returns-in_default-clause-gone : goal.returns-in_default-clause-gone
 returns-in_default-clause-gone c =
-    gone_on c.args.self.now _ c.args.event.now c.args.judged
-    (ended_act c.advance-ended.result c.advance-ended.new.act)
-    c.in_default.not-Ask c.in_default.not-Ack c.in_default.not-Foreign c.in_default.not-Break
-    refl refl refl refl refl
+    gone_on c.args.self.now _ c.args.event.now refl refl refl c.args.judged
+    (ended_act c.advance-ended.result c.advance-ended.new.act) c.in_default.not-Ask
+    c.in_default.not-Ack c.in_default.not-Foreign c.in_default.not-Break refl refl
     c.advance-ended.ensures.advanced

@@ -1,20 +1,20 @@
+-- A row is judged, and the bus goes on, or the row breaks a rule.
 use Rattle.mdb_bus.specs.Bus.{ended_act}
-use Rattle.mdb_bus.proofs.Feed.{ended_by, on_ok, read_breaks, read_goes_on, sound_at, stands_on}
+use Rattle.mdb_bus.proofs.Feed.{on_ok, read_breaks, read_goes_on, sound_at, stands_on}
 use Rattle.mdb_bus.proofs.Verdicts.{covers_same}
 use Rattle.mdb_bus.proofs.bus.Bus.step.Goals as goal
 
 pub returns-in-Err-clause-breaks : goal.returns-in-Err-clause-breaks
 returns-in-Err-clause-breaks c pieces stands same =
-    (c.in-Err.ensures.judged c.args.self.now.levels
-    (sound_at c.args.self.now pieces stands)).judged same
+    (c.in-Err.ensures.judged c.args.self.now.levels (sound_at c.args.self.now pieces stands)).judged
+    same
 
 pub returns-in-Reply-clause-goes_on : goal.returns-in-Reply-clause-goes_on
 returns-in-Reply-clause-goes_on c pieces haste stands covers hastens =
     let by = c.in-Ok.ensures.judged c.args.self.now.levels
     (sound_at c.args.self.now pieces stands) in
-    read_goes_on c.args.self.now c.take_reply.new.self haste pieces c.args.event.now
-    c.take_reply.new.act c.take_reply.result stands
-    (ended_by c.args.self.now c.args.event.now _ c.in-Reply.is (by.judged covers)) hastens
+    read_goes_on c.args.self.now c.take_reply.new.self haste pieces c.args.event.now stands hastens
+    c.take_reply.new.act c.take_reply.result (rw c.in-Reply.is at (by.judged covers))
     c.take_reply.ensures.taken
 
 pub returns-in-Reply-clause-timely : goal.returns-in-Reply-clause-timely
@@ -27,18 +27,16 @@ returns-in-Reply-clause-breaks c pieces stands same =
     let by = c.in-Ok.ensures.judged c.args.self.now.levels
     (sound_at c.args.self.now pieces stands) in
     read_breaks c.args.self.now c.args.event.now c.take_reply.result
-    (ended_by c.args.self.now c.args.event.now _ c.in-Reply.is
-    (by.judged (covers_same _ _ same))) c.take_reply.ensures.rule
+    (rw c.in-Reply.is at (by.judged (covers_same _ _ same))) c.take_reply.ensures.rule
 
 pub returns-in_default-clause-goes_on : goal.returns-in_default-clause-goes_on
 returns-in_default-clause-goes_on c pieces haste stands covers hastens =
     let by = c.in-Ok.ensures.judged c.args.self.now.levels
     (sound_at c.args.self.now pieces stands) in
-    stands_on c.args.self.now c.go.new.self haste pieces c.args.event.now _
-    (ended_act c.go.result c.go.new.act) stands c.in_default.not-Reply (by.judged covers)
-    c.go.ensures.gone hastens
+    stands_on c.args.self.now c.go.new.self haste pieces c.args.event.now stands hastens _
+    (ended_act c.go.result c.go.new.act) c.in_default.not-Reply (by.judged covers)
+    c.go.ensures.gone
 
 pub returns-in_default-clause-timely : goal.returns-in_default-clause-timely
 returns-in_default-clause-timely c pieces stands =
-    (c.in-Ok.ensures.judged c.args.self.now.levels
-    (sound_at c.args.self.now pieces stands)).timely
+    (c.in-Ok.ensures.judged c.args.self.now.levels (sound_at c.args.self.now pieces stands)).timely

@@ -1,4 +1,5 @@
-use Rattle.std.proofs.Common.{rules, refl, ◌%◌, Ok}
+-- A marked word begins the block of a command.
+use Rattle.std.proofs.Common.{rules, Ok}
 use Rattle.mdb_bus.specs.declared.judged.Judged.TheVariants.{AskByte}
 use Rattle.mdb_bus.proofs.Verdicts.{begins_followed, opened_belongs}
 use Rattle.mdb_bus.proofs.judging.asking.begin_block.Goals as goal
@@ -7,9 +8,8 @@ pub returns-in-More-clause-opened : goal.returns-in-More-clause-opened
 returns-in-More-clause-opened c = (
   search rules,
   begins_followed c.first_byte_tells_the_device.ensures
-      c.need_leaves_another_command_open.ensures
-      c.args.scope.now c.args.word c.byte.result (c.args.word % 256) c.first_need.result
-      c.byte.ensures.value refl c.first_need.ensures c.in-More.is,
+      c.need_leaves_another_command_open.ensures c.args.scope.now c.args.word c.byte.result
+      c.first_need.result c.byte.ensures.value c.first_need.ensures c.in-More.is,
   search rules,
 )
 

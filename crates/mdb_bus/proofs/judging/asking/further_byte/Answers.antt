@@ -1,8 +1,7 @@
-use Rattle.std.proofs.Common.{rules, arith, ◌%◌, ap, ◌≡◌, ◌≤◌, ◌+◌, ◌++◌, ◌∷◌, [], length, sym, subst, ◌∙◌, List, ℕ}
+-- A further byte of a block leaves a command open, or is its last.
+use Rattle.std.proofs.Common.{rules, arith, ◌%◌, ap, ◌≡◌, ◌≤◌, ◌+◌, length, sym, ◌∙◌, ℕ}
 use Rattle.mdb_msgs.specs.declared.need.Need.TheVariants.{Exactly}
 use Rattle.mdb_msgs.specs.Needs.{needed}
-use Rattle.mdb_bus.specs.shared.Steps.{IsCommandFront}
-use Rattle.mdb_bus.proofs.Masked.{AreKnown}
 use Rattle.mdb_bus.proofs.Verdicts.{are_bytes, further_end, further_front}
 use Rattle.mdb_bus.proofs.judging.asking.further_byte.Goals.{in_default-via-in-Exactly+else-so_far-length, in_default-via-in_default}
 use Rattle.mdb_bus.proofs.judging.asking.further_byte.Goals as goal
@@ -15,16 +14,11 @@ pub returns-in-Exactly : goal.returns-in-Exactly
 returns-in-Exactly c profile known =
     let told : needed c.args.so_far.now ≡ Exactly c.in-Exactly.length = sym c.need_of.ensures
     ∙ c.in-Exactly.is in
-    let Known : List ℕ → Type 0 = λ bytes. AreKnown profile bytes in
-    let front : IsCommandFront profile (c.args.so_far.now ++ (c.args.word % 256) ∷ []) =
-    further_front c.need_leaves_a_command_open.ensures
-    c.first_two_bytes_tell_enable_options.ensures profile c.args.so_far.now (c.args.word % 256)
-    c.in-Exactly.length
-    c.requires.two (are_bytes c.args.so_far.now c.type_inv.so_far) (omega arith)
-    (subst Known c.requires.is known) told
-    c.if-so_far-length.true in
-    let P : List ℕ → Type 0 = λ bytes. IsCommandFront profile (bytes ++ (c.args.word % 256) ∷ []) in
-    (omega (arith, c.requires.unmarked), subst P (sym c.requires.is) front)
+    let front = further_front profile c.need_leaves_a_command_open.ensures
+    c.first_two_bytes_tell_enable_options.ensures c.args.so_far.now (c.args.word % 256)
+    c.in-Exactly.length c.requires.two (are_bytes c.args.so_far.now c.type_inv.so_far)
+    (omega arith) (rw c.requires.is at known) told c.if-so_far-length.true in
+    (omega (arith, c.requires.unmarked), rw c.requires.is front)
 
 pub judge_end_of_ask-requires-clause-last : goal.judge_end_of_ask-requires-clause-last
 judge_end_of_ask-requires-clause-last c =

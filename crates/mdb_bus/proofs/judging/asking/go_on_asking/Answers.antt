@@ -1,35 +1,33 @@
-use Rattle.std.proofs.Common.{rules, refl, ◌<◌}
+-- A word inside a block of the controller is judged as a second byte or a further one.
+use Rattle.std.proofs.Common.{rules, refl}
 use Rattle.mdb_bus.specs.declared.scope.Profile.TheVariants.{Extended}
 use Rattle.mdb_bus.specs.Scopes.{profile_of}
-use Rattle.mdb_bus.proofs.Verdicts.{asking_belongs, block_covered, block_timely, counted, going_on, some_bytes}
+use Rattle.mdb_bus.proofs.Verdicts.{asking_belongs, block_covered, block_timely, going_on, some_bytes}
 use Rattle.mdb_bus.proofs.judging.asking.go_on_asking.Goals as goal
 
 pub returns-in-len1-clause-judged : goal.returns-in-len1-clause-judged
 returns-in-len1-clause-judged c =
-    let small : c.args.word < 256 = search rules in
-    let profile = profile_of c.args.scope.now.begins in
     λ levels known followed. record {
       judged = λ counts. going_on c.args.scope.now c.args.bytes.now c.args.last.now c.args.at
-          c.args.word levels c.second_byte.result c.requires.in_order (search rules)
-          (block_covered c.args.times profile c.args.last.now _
-          (counted c.args.times profile c.second_byte.result counts) (search rules))
-          small c.first_byte_tells_the_device.ensures
-          (some_bytes c.args.bytes.now c.requires.begun) followed c.second_byte.ensures;
+          c.args.word levels c.requires.in_order (search rules)
+          (block_covered c.args.times (profile_of c.args.scope.now.begins) c.args.last.now _
+          c.second_byte.result counts (search rules)) (search rules)
+          c.first_byte_tells_the_device.ensures
+          (some_bytes c.args.bytes.now c.requires.begun) followed c.second_byte.result
+          c.second_byte.ensures;
       timely = block_timely c.args.times _ c.args.last.now _ c.second_byte.result refl
           (search rules);
     }
 
 pub returns-in_default-clause-judged : goal.returns-in_default-clause-judged
 returns-in_default-clause-judged c =
-    let small : c.args.word < 256 = search rules in
     let profile = profile_of c.args.scope.now.begins in
     λ levels known followed. record {
       judged = λ counts. going_on c.args.scope.now c.args.bytes.now c.args.last.now c.args.at
-          c.args.word levels c.further_byte.result c.requires.in_order (search rules)
-          (block_covered c.args.times profile c.args.last.now _
-          (counted c.args.times profile c.further_byte.result counts) (search rules))
-          small c.first_byte_tells_the_device.ensures
-          (some_bytes c.args.bytes.now c.requires.begun) followed
+          c.args.word levels c.requires.in_order (search rules)
+          (block_covered c.args.times profile c.args.last.now _ c.further_byte.result counts
+          (search rules)) (search rules) c.first_byte_tells_the_device.ensures
+          (some_bytes c.args.bytes.now c.requires.begun) followed c.further_byte.result
           (c.further_byte.ensures profile known);
       timely = block_timely c.args.times _ c.args.last.now _ c.further_byte.result refl
           (search rules);
@@ -43,5 +41,4 @@ returns-in-len1-clause-belongs c =
 pub returns-in_default-clause-belongs : goal.returns-in_default-clause-belongs
 returns-in_default-clause-belongs c =
     asking_belongs c.front_of_a_command_is_open.ensures Extended c.args.bytes.now c.args.at
-    c.args.word c.further_byte.result
-    (c.further_byte.ensures Extended refl)
+    c.args.word c.further_byte.result (c.further_byte.ensures Extended refl)

@@ -1,22 +1,32 @@
-use Rattle.std.proofs.Common.{subst, sym, ap, List, ℕ}
+-- A block has one command, so an ask of a POLL's block is that POLL.
+use Rattle.std.proofs.Common.{◌≡◌, ◌∙◌, ap, ℕ, List, Option, Some}
 use Rattle.mdb_blocks.specs.Block.{block_of}
 use Rattle.mdb_msgs.specs.Commands.{Spells}
 use Rattle.mdb_msgs.specs.declared.command.Command.{Command}
-use Rattle.mdb_bus.specs.declared.phase.Phase.{Phase}
-use Rattle.mdb_bus.specs.ActLists.{Position}
-use Rattle.mdb_bus.specs.Bus.{ended_act, position_at, position_in}
-use Rattle.mdb_bus.proofs.Polls.{asked_poll}
+use Rattle.mdb_bus.specs.declared.act.Act.{Act}
+use Rattle.mdb_bus.specs.declared.act.Act.TheVariants as acts
+use Rattle.mdb_bus.specs.ActLists.{Position, InAsk, Asked}
+use Rattle.mdb_bus.specs.Bus.{ended_act, position_at}
+use Rattle.mdb_bus.specs.shared.Step as step
+use Rattle.mdb_bus.specs.shared.Steps.{HasAdvanced, IsAt}
 use Rattle.mdb_bus.proofs.place.Place.end_ask.Goals as goal
+
+asked_poll : (at new : Position) (bytes : List ℕ) (poll : Command) (ended : Option Act)
+    → at ≡ InAsk bytes
+    → ((block : List ℕ) (one other : Command) → Spells one block → Spells other block → one ≡ other)
+    → Spells poll (block_of bytes) → new ≡ Asked poll → ended ≡ Some (acts.Ask poll)
+    → (command : Command) → IsAt at (step.Ask command) → HasAdvanced at (step.Ask command) new ended
+asked_poll at new bytes poll ended is one_command spells opened told command is_at =
+    let same = one_command (block_of bytes) poll command spells (rw is at is_at) in
+    rw is (record {
+      position = opened ∙ ap Asked same;
+      act = told ∙ ap (λ c. Some (acts.Ask c)) same;
+    })
 
 pub returns-in-Some-clause-advanced : goal.returns-in-Some-clause-advanced
 returns-in-Some-clause-advanced c =
-    let At : Phase → Position = λ p.
-    position_in p c.args.self.now.bytes c.args.self.now.command c.args.self.now.last_reply.reply in
-    let Poll : Command → Type 0 = λ p. Spells p (block_of c.as_slice.result.now) in
-    let Spelled : List ℕ → Type 0 = λ bytes. Spells c.poll.result (block_of bytes) in
     asked_poll (position_at c.args.self.now) (position_at c.ask.new.self) c.args.self.now.bytes
-    c.poll.result
-    (ended_act c.ask.result c.ask.new.act) (ap At c.requires.asking) c.block_has_one_command.ensures
-    (subst Spelled c.as_slice.ensures.bytes
-    (subst Poll (sym c.poll.ensures) c.in-Some.ensures.some))
+    c.poll.result (ended_act c.ask.result c.ask.new.act) (rw c.requires.asking)
+    c.block_has_one_command.ensures
+    (rw (c.poll.ensures, ← c.as_slice.ensures.bytes) c.in-Some.ensures.some)
     c.ask.ensures.asked c.ask.ensures.ended

@@ -1,11 +1,23 @@
-use Rattle.std.proofs.Common.{◌≡◌, length, length-append, ap, arith}
+-- A row is written as the event says, and has room.
+use Rattle.std.proofs.Common.{◌≡◌, ◌≤◌, length, length-append, ap, arith}
 use Rattle.std.proofs.lemmas.Fmt.{length-decimal-le}
 use Rattle.std.specs.Fmt.{decimal}
 use Rattle.mdb_words.specs.RowsWritten.{hex_word}
 use Rattle.mdb_words.proofs.Numerals.{length_start}
 use Rattle.mdb_words.proofs.Rows.{break_written, word_written}
 use Rattle.mdb_words.proofs.event.Event.row_text.Goals as goal
-use Rattle.mdb_words.proofs.event.Event.row_text.Goals.{in-Controller, in-Peripheral}
+use Rattle.mdb_words.proofs.event.Event.row_text.Goals.{Joined-line, in-Controller, in-Peripheral}
+
+-- before the word a row has its time and three bytes
+before : (c : Joined-line)
+    → (length c.push_decimal.new.text.bytes ≤ 15) × (length c.match-line.push_str.now ≡ 3)
+before c = (
+  length_start c.value.result _ _ c.new-text.ensures c.push_decimal.ensures (omega arith),
+  elim c.match-line.branch [
+    | in-Controller w ↦ ap (λ s. length s.now) w.push_str-is
+    | in-Peripheral w ↦ ap (λ s. length s.now) w.push_str-is
+  ],
+)
 
 pub push_decimal-requires : goal.push_decimal-requires
 push_decimal-requires c =
@@ -17,22 +29,12 @@ push_decimal-requires c =
 
 pub push_str-requires : goal.push_str-requires
 push_str-requires c =
-    let start =
-    length_start c.value.result _ _ c.new-text.ensures c.push_decimal.ensures (omega arith) in
-    let letter : length c.match-line.push_str.now ≡ 3 = elim c.match-line.branch [
-      | in-Controller w ↦ ap (λ s. length s.now) w.push_str-is
-      | in-Peripheral w ↦ ap (λ s. length s.now) w.push_str-is
-    ] in
+    let start = before (goal.at.push_str-requires c).Joined-line in
     (omega arith, omega arith)
 
 pub push_hex_word-requires-clause-room : goal.push_hex_word-requires-clause-room
 push_hex_word-requires-clause-room c =
-    let start =
-    length_start c.value.result _ _ c.new-text.ensures c.push_decimal.ensures (omega arith) in
-    let letter : length c.match-line.push_str.now ≡ 3 = elim c.match-line.branch [
-      | in-Controller w ↦ ap (λ s. length s.now) w.push_str-is
-      | in-Peripheral w ↦ ap (λ s. length s.now) w.push_str-is
-    ] in
+    let start = before (goal.at.push_hex_word-requires-clause-room c).Joined-line in
     omega arith
 
 pub returns-after-line-clause-row : goal.returns-after-line-clause-row
@@ -47,12 +49,7 @@ returns-after-line-clause-apart c =
 
 pub returns-after-line-clause-short : goal.returns-after-line-clause-short
 returns-after-line-clause-short c =
-    let start =
-    length_start c.value.result _ _ c.new-text.ensures c.push_decimal.ensures (omega arith) in
-    let letter : length c.match-line.push_str.now ≡ 3 = elim c.match-line.branch [
-      | in-Controller w ↦ ap (λ s. length s.now) w.push_str-is
-      | in-Peripheral w ↦ ap (λ s. length s.now) w.push_str-is
-    ] in
+    let start = before (goal.at.returns-after-line-clause-short c).Joined-line in
     omega (
       arith,
       ap length c.push_hex_word.ensures,

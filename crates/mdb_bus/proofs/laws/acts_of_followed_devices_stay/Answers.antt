@@ -1,5 +1,0 @@
-use Rattle.mdb_bus.proofs.LeftOutActs.{breaks_left, own_acts_stay}
-use Rattle.mdb_bus.proofs.laws.acts_of_followed_devices_stay.Goals as goal
-
-pub returns : goal.returns
-returns c = record { followed = own_acts_stay; left_out = breaks_left }
