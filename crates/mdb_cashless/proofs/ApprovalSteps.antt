@@ -64,12 +64,9 @@ pub ack_unheeded : (facts : Facts) (reply : Reply) (choice : Choice) (before aft
     (gains : Gains) → before.again ≡ false → VmcAckStep facts reply choice before after gains
     → VmcAckStep facts reply Plain before after gains
 ack_unheeded facts reply choice before after gains is step =
-    let told = approvals_in (messages_of reply) in (
-      step.0,
-      step.1,
-      step.2 ∙ heard_free choice told before is ∙ sym (heard_free Plain told before is),
-      step.3,
-    )
+    let told = approvals_in (messages_of reply) in
+    let same = heard_free choice told before is ∙ sym (heard_free Plain told before is) in
+    (step.0, step.1, step.2 ∙ same, step.3)
 
 -- a reply that tells of no restart, where not both are possible
 kept : (out : Bool) (its : ReaderCommand) (before : ApprovalState)

@@ -43,10 +43,9 @@ all_new choice before told plain = by before.again
 
 front_is : (last told : List ℕ) (amount : ℕ) → told ≡ last ++ (amount ∷ []) → last ≡ front_of told
 front_is last told amount begins =
-    let count : length told - 1 ≡ length last =
-    (let whole = ap length begins ∙ length-append last (amount ∷ []) in omega (arith, whole)) in
-    sym (take-append_seam last (amount ∷ [])) ∙ ap (λ l. take (length last) l) (sym begins)
-    ∙ ap (λ n. take n told) (sym count)
+    let count : length (last ++ (amount ∷ [])) - 1 ≡ length last =
+    simp length-append (omega arith) in
+    rw (begins, count, take-append_seam) refl
 
 begins : (before : ApprovalState) (last told : List ℕ) → may_be_again before last told ≡ true
     → told ≡ last ++ drop (length last) told
@@ -62,13 +61,8 @@ either_is before last told is =
   where
     by : length last ≡ 1 → length told ≡ 1 → (rest : List ℕ) → told ≡ last ++ rest → last ≡ told
     by one single [] is = sym (is ∙ append-nil last)
-    by one single (amount ∷ rest) is = absurd (omega (
-      arith,
-      one,
-      single,
-      ap length is,
-      length-append last (amount ∷ rest),
-    ))
+    by one single (amount ∷ rest) is =
+        absurd (omega (arith, one, single, ap length is, length-append last (amount ∷ rest)))
 
 -- so the news are those after one of the three
 after_last : (before after : ApprovalState) (last told rest : List ℕ) → told ≡ last ++ rest
@@ -255,19 +249,4 @@ module _ (unit : ReaderUnit) (facts : ApprovalFacts) (choice : Choice)
 pub three_added : {none one two three First Second Third All : Type 0} → (none → ⊥)
     → one ↔ (none ⊎ First) → two ↔ (one ⊎ Second) → three ↔ (two ⊎ Third)
     → All ↔ ((First ⊎ Second) ⊎ Third) → three ↔ All
-three_added empty first second third all = (
-  λ among. all.1 (elim (third.0 among) [
-    | inl among ↦ inl (elim (second.0 among) [
-      | inl among ↦ inl (elim (first.0 among) [ inl old ↦ absurd (empty old) | inr is ↦ is ])
-      | inr is ↦ inr is
-    ])
-    | inr is ↦ inr is
-  ]),
-  λ is. elim (all.0 is) [
-    | inl is ↦ third.1 (inl (elim is [
-      | inl is ↦ second.1 (inl (first.1 (inr is)))
-      | inr is ↦ second.1 (inr is)
-    ]))
-    | inr is ↦ third.1 (inr is)
-  ],
-)
+three_added empty first second third all = grind arith
