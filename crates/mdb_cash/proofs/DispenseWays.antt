@@ -36,8 +36,11 @@ module _ (setups : Setups) (profile : Profile) (so_far : List Act) (coins : ℕ)
   pub owed_ways : AsksNone tables so_far → before.dispense_owed ≡ true
       → Asks ↔ (after ≡ before) × ((gains ≡ no_gains) ⊎ (gains ≡ paid))
   owed_ways none owed = (
-    λ step. (step.step.0 ∙ still_owed owed, by (is_last step.facts.last_asked coins)
-        (rw (owed, step.allowed.setup) at step.step.1)),
+    λ step. (
+      step.step.0 ∙ still_owed owed,
+      by (is_last step.facts.last_asked coins)
+          (rw (owed, step.allowed.setup) at step.step.1),
+    ),
     back,
   )
     where

@@ -1,3 +1,4 @@
+-- What acts tell of the facts of a reader, for the function that keeps them.
 use Rattle.std.proofs.Common.{◌≡◌, ◌∙◌, ◌||◌, Bool, true, false, List, [], Option, Some, None, refl, ap, sym, map, if◌then◌else◌}
 use Rattle.mdb_msgs.specs.declared.command.Command.{Command}
 use Rattle.mdb_msgs.specs.declared.command.ReaderCommand.{ReaderCommand}

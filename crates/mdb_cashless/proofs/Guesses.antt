@@ -1,5 +1,6 @@
 -- That a step of a reader depends on what may not be known as far as it can be guessed: few guesses
 -- of it are enough.
+use Rattle.std.proofs.lemmas.Grind.{common_steps}
 use Rattle.std.proofs.Common.{◌≡◌, ◌≢◌, ◌⊎◌, ◌<◌, ◌==◌, ◌&&◌, ℕ, suc, Bool, true, false, List, [], ◌∷◌, ◌++◌, length, take, Option, Some, None, refl, if◌then◌else◌, arith, ap, sym, subst, ◌∙◌, inl, inr}
 use Rattle.std.proofs.Math.Seq.{take-append_seam}
 use Rattle.std.proofs.lemmas.Bool.{eq-eqb}
@@ -41,8 +42,7 @@ is_itself t = refl
 -- what is sent after some last transaction command is sent after itself
 where_sent : (is : Bool) (to : View) {after : View}
     → (if is then Some to else None) ≡ Some after → Some to ≡ Some after
-where_sent true to e = e
-where_sent false to e = absurd cc
+where_sent is to e = grind arith
 
 sent_again : (last : Option Transaction) (t : Transaction) (before : View) {after : View}
     → sent last t before ≡ Some after → sent (Some t) t before ≡ Some after
@@ -95,12 +95,7 @@ module _ (last : Option Transaction) (price item : ℕ) where
   told_request : (message : ReaderActivity) (before after : DeviceState)
       → told last message before ≡ Some after
       → told (Some (Request price item)) message before ≡ Some after
-  told_request (VendApproved amount) (device.Vend back) after e = where_request (is_request last) e
-    where
-      where_request : (is : Bool) → (if is then Some (device.Approved back) else None) ≡ Some after
-          → Some (device.Approved back) ≡ Some after
-      where_request true e = e
-      where_request false e = absurd cc
+  told_request (VendApproved amount) (device.Vend back) after e = grind (arith, common_steps)
   told_request message before after e = e
 
   all_told_request : (news : List ReaderActivity) (before after : DeviceState)
@@ -216,17 +211,7 @@ module _ (one other : Facts) (like : Alike one other) where
 held_taken : (facts : Facts) (its : Option ReaderCommand) (before : ReaderState)
     → (take_any facts its before).holds ≡ true → before.holds ≡ true
 held_taken facts None before holds = holds
-held_taken facts (Some command) before holds =
-    by (is_repeated facts command before.holds) (drops command) holds
-  where
-    by : (repeated dropped : Bool) → (if repeated then before else record {
-      device = effect command before.device;
-      view = before.view;
-      holds = if dropped then false else before.holds;
-    }).holds ≡ true → before.holds ≡ true
-    by true dropped holds = holds
-    by false true holds = absurd cc
-    by false false holds = holds
+held_taken facts (Some command) before holds = grind (arith, common_steps)
 
 held_read : (choice : Choice) (before : ReaderState) → (read choice before).holds ≡ true
     → before.holds ≡ true

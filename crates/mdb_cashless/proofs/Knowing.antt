@@ -1,4 +1,5 @@
 -- The facts that may be are those that are kept, with guesses of what isn't known.
+use Rattle.std.proofs.lemmas.Grind.{common_steps}
 use Rattle.std.proofs.Common.{add-one, ◌≡◌, ◌≢◌, ◌⊎◌, ◌↔◌, ◌<◌, ◌+◌, ◌&&◌, ◌||◌, ℕ, suc, Bool, true, false, List, [], ◌∷◌, length, take, Option, Some, None, refl, if◌then◌else◌, arith, ap, sym, subst, ◌∙◌, inl, inr}
 use Rattle.std.specs.Option.{is_none}
 use Rattle.mdb_msgs.specs.declared.command.ReaderCommand.{ReaderCommand}
@@ -40,8 +41,7 @@ Same unit one other (acts.Reply command reply) = (its : ReaderCommand)
 Same unit one other act = Unit {0}
 
 either_back : {X : Type 0} {x y : X} {P : Type 0} → (x ≡ y) ⊎ P → (y ≡ x) ⊎ P
-either_back (inl same) = inl (sym same)
-either_back (inr other) = inr other
+either_back either = grind arith
 
 same_back : (unit : ReaderUnit) (one other : Facts) (act : Act) → Same unit one other act
     → Same unit other one act
@@ -108,17 +108,14 @@ asks_any base kept command before after gains is allowed = (
 
 -- what is kept may be, where it is known, and anything where it isn't
 itself_allowed : {X : Type 0} (knows : Bool) (x : X) → Allows (if_known knows x) x
-itself_allowed true x = refl
-itself_allowed false x = tt
+itself_allowed knows x = grind arith
 
 any_allowed : {X : Type 0} (knows : Bool) (x y : X) → knows ≡ false → Allows (if_known knows x) y
-any_allowed true x y unknown = absurd cc
-any_allowed false x y unknown = tt
+any_allowed knows x y unknown = rw unknown tt
 
 is_known : {X : Type 0} (knows : Bool) (x y : X) → knows ≡ true → Allows (if_known knows x) y
     → y ≡ x
-is_known true x y known allows = allows
-is_known false x y known allows = absurd cc
+is_known knows x y known allows = rw known at allows
 
 some_allowed : (knows : Bool) (kept : List ReaderActivity) (holds : Bool)
     → AllowsKept (if_known knows kept) holds (if knows then kept else VendDenied ∷ [])
@@ -128,21 +125,13 @@ some_allowed false kept holds = λ held empty. absurd cc
 settles_one : (knows : Bool) (found : Option ReaderCommand) (x y : Option Transaction)
     → (knows || is_none (own_transaction found)) ≡ true → Allows (if_known knows x) y
     → (its : ReaderCommand) → found ≡ Some its → (y ≡ x) ⊎ (transaction_of its ≡ None)
-settles_one true found x y settles allows its is = inl allows
-settles_one false found x y settles allows its is =
-    inr (none (transaction_of its) (rw is at settles))
-  where
-    none : (t : Option Transaction) → is_none t ≡ true → t ≡ None
-    none None e = refl
-    none (Some t) e = absurd cc
+settles_one knows found x y settles allows its is = grind (arith, common_steps)
 
 settles_both : (taken kept : Bool) (found : Option ReaderCommand) (x y : Option Transaction)
     (k l : List ReaderActivity) (holds : Bool) → ((taken && kept) || is_none found) ≡ true
     → Allows (if_known taken x) y → AllowsKept (if_known kept k) holds l
     → (its : ReaderCommand) → found ≡ Some its → (y ≡ x) × (l ≡ k)
-settles_both true true found x y k l holds settles one other its is = (one, other)
-settles_both taken kept found x y k l holds settles one other its is =
-    let clash : false ≡ true = rw is at settles in absurd cc
+settles_both taken kept found x y k l holds settles one other its is = grind (arith, common_steps)
 
 module _ (known : ReaderKnown) where
   abbrev base : Facts

@@ -1,4 +1,5 @@
 -- The ways that an act of a reader may go in a recording that begins in mid-session.
+use Rattle.std.proofs.lemmas.Grind.{common_steps}
 use Rattle.std.proofs.Common.{All, ◌≤◌, ◌≡◌, ◌≢◌, ◌↔◌, ◌⊎◌, inl, inr, ℕ, Bool, true, false, ◌&&◌, ◌||◌, List, [], ◌∷◌, Option, Some, None, refl, ap, sym, subst, ◌∙◌, arith, drop, take, length, option_map, if◌then◌else◌}
 use Rattle.std.proofs.Math.Seq.{drop-append_seam, take-append_seam}
 use Rattle.std.proofs.lemmas.List.{length-append, length-take-le, take-append-drop}
@@ -51,9 +52,7 @@ nothing No tells so_far is = (
 
 untaken : (ends : Bool) (its : Option Transaction) → ((ends ≡ false) × (its ≡ None))
     ↔ ((if ends then Some None else option_map (λ (t : Transaction). Some t) its) ≡ None)
-untaken true its = (λ both. absurd cc, λ none. absurd cc)
-untaken false (Some t) = (λ both. absurd cc, λ none. absurd cc)
-untaken false None = (λ both. refl, λ none. (refl, refl))
+untaken ends its = grind (arith, common_steps)
 
 module _ (unit : ReaderUnit) (so_far : List Act) where
   none_kept : TellsNone unit so_far ↔ (last_list (parts_by unit) so_far ≡ None)
@@ -83,20 +82,14 @@ module _ (unit : ReaderUnit) (so_far : List Act) where
 module _ (fields : SameFields) where
   repeated_so : (last its : Option Transaction) (holds : Bool) → repeats last its holds ≡ true
       → (t : Transaction) × (its ≡ Some t) × (holds ≡ true) × (last ≡ Some t)
-  repeated_so last its false is = absurd cc
-  repeated_so last None true is = absurd cc
-  repeated_so last (Some t) true is = (t, refl, refl, is_last fields last t is)
+  repeated_so last its holds is =
+      let last_is = is_last fields last in grind (arith, common_steps, last_is)
 
   not_repeated : (last its : Option Transaction) (holds : Bool)
       → ((t : Transaction) → its ≡ Some t → holds ≡ true → last ≢ Some t)
       → repeats last its holds ≡ false
-  not_repeated last its false other = refl
-  not_repeated last None true other = refl
-  not_repeated last (Some t) true other = by (is_again last t) refl
-    where
-      by : (is : Bool) → is_again last t ≡ is → is ≡ false
-      by false is = refl
-      by true is = absurd (other t refl refl (is_last fields last t is))
+  not_repeated last its holds other =
+      let last_is = is_last fields last in grind (arith, common_steps, last_is)
 
   repeated : (t : Transaction) (its : Option Transaction) (holds : Bool)
       → its ≡ Some t → holds ≡ true → repeats (Some t) its holds ≡ true

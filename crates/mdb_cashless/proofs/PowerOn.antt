@@ -1,6 +1,7 @@
 -- From power-on all is known of a reader.
 use Rattle.std.proofs.Math.Bool.{and-true}
-use Rattle.std.proofs.Common.{◌≡◌, ◌∙◌, ◌↔◌, ◌&&◌, not, Bool, true, false, List, [], ◌∷◌, Option, Some, None, option_map, refl, ap, subst, sym, unwrap_or, if◌then◌else◌}
+use Rattle.std.proofs.lemmas.Grind.{common_steps}
+use Rattle.std.proofs.Common.{arith, ◌≡◌, ◌∙◌, ◌↔◌, ◌&&◌, not, Bool, true, false, List, [], ◌∷◌, Option, Some, None, option_map, refl, ap, subst, sym, unwrap_or, if◌then◌else◌}
 use Rattle.mdb_msgs.specs.declared.command.ReaderUnit.{ReaderUnit}
 use Rattle.mdb_bus.specs.declared.act.Act.{Act}
 use Rattle.mdb_bus.specs.declared.scope.Beginning.TheVariants.{PowerOn}
@@ -20,22 +21,18 @@ use Rattle.mdb_cashless.proofs.Said.{or_none}
 -- all that acts tell is known
 known_is : {X : Type 0} (profile : Profile) (none : X) (told : Option X)
     → known_by (PowerOn profile) none told ≡ Is (unwrap_or told none)
-known_is profile none None = refl
-known_is profile none (Some x) = refl
+known_is profile none told = grind (arith, common_steps)
 
 told_is : {X : Type 0} (told : Option X)
     → unwrap_or (option_map (λ (x : X). Some x) told) None ≡ told
-told_is None = refl
-told_is (Some x) = refl
+told_is told = grind (arith, common_steps)
 
 one_taken : (ends : Bool) (its last : Option Transaction) (told : Option (Option Transaction))
     → last ≡ unwrap_or told None
     → (if ends then None else or_else its last)
     ≡ unwrap_or (or_else (if ends then Some None
     else option_map (λ (t : Transaction). Some t) its) told) None
-one_taken true its last told same = refl
-one_taken false (Some t) last told same = refl
-one_taken false None last told same = same
+one_taken ends its last told same = grind (arith, common_steps)
 
 pub last_taken_is : (unit : ReaderUnit) (acts : List Act)
     → last_taken unit acts ≡ unwrap_or (last_told (taken_told unit) acts) None

@@ -1,3 +1,4 @@
+-- What messages of a reader say, one after another.
 use Rattle.std.proofs.lemmas.Grind.{common_steps}
 use Rattle.std.proofs.Common.{arith, ◌≡◌, ◌∙◌, ◌||◌, ◌++◌, Bool, true, false, List, [], ◌∷◌, Option, Some, None, refl, ap, sym, subst, map}
 use Rattle.std.specs.List.{list_any}
@@ -15,17 +16,14 @@ use Rattle.mdb_cashless.specs.inner.ReaderSaid.{IsSaid}
 
 -- two words for one thing
 pub or_is : {X : Type 0} (one other : Option X) → option_or one other ≡ or_else one other
-or_is None other = refl
-or_is (Some x) other = refl
+or_is one other = grind (arith, common_steps)
 
 pub or_none : {X : Type 0} (one : Option X) → or_else one None ≡ one
-or_none None = refl
-or_none (Some x) = refl
+or_none one = grind (arith, common_steps)
 
 or_assoc : {X : Type 0} (one other third : Option X)
     → or_else (or_else one other) third ≡ or_else one (or_else other third)
-or_assoc None other third = refl
-or_assoc (Some x) other third = refl
+or_assoc one other third = grind (arith, common_steps)
 
 -- what the last of messages says, with one message more
 last_said-more : {X : Type 0} (says : ReaderMsg → Option X) (messages : List ReaderMsg)

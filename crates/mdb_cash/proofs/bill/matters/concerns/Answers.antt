@@ -10,7 +10,8 @@ use Rattle.mdb_cash.proofs.bill.matters.concerns.Goals as goal
 
 pub returns-in-VmcAck-Bill-default-clause-still : goal.returns-in-VmcAck-Bill-default-clause-still
 returns-in-VmcAck-Bill-default-clause-still c =
-    let act : c.args.act.now ≡ acts.VmcAck (commands.Bill c.in-VmcAck-Bill-default.field-0-0) c.in-VmcAck-Bill-default.reply =
-    search rules in
+    let act : c.args.act.now
+    ≡ acts.VmcAck (commands.Bill c.in-VmcAck-Bill-default.field-0-0)
+    c.in-VmcAck-Bill-default.reply = search rules in
     idle tables conduct part_of _ _ _ _ _ _ act refl
     c.messages_in.ensures.parts c.is_empty.ensures

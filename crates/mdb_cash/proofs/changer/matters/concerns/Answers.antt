@@ -11,7 +11,8 @@ use Rattle.mdb_cash.proofs.changer.matters.concerns.Goals as goal
 pub returns-in-VmcAck-Changer-default-clause-still :
     goal.returns-in-VmcAck-Changer-default-clause-still
 returns-in-VmcAck-Changer-default-clause-still c =
-    let act : c.args.act.now ≡ acts.VmcAck (commands.Changer c.in-VmcAck-Changer-default.field-0-0) c.in-VmcAck-Changer-default.reply =
-    search rules in
+    let act : c.args.act.now
+    ≡ acts.VmcAck (commands.Changer c.in-VmcAck-Changer-default.field-0-0)
+    c.in-VmcAck-Changer-default.reply = search rules in
     idle tables conduct part_of _ _ _ _ _ _ act refl
     c.messages_in.ensures.parts c.is_empty.ensures

@@ -1,3 +1,4 @@
+-- What concerns neither machine leaves a state of either.
 use Rattle.std.proofs.lemmas.Bool.{OnFalse_at, OnFalse_from}
 use Rattle.mdb_cashless.specs.ByProfile.{base_state, extended_state}
 use Rattle.mdb_cashless.specs.shared.ByProfileWays.{if_some}

@@ -1,6 +1,5 @@
+-- A choice is heeded where the machine of the profile heeds it.
 use Rattle.std.proofs.lemmas.Bool.{OnFalse_at, OnFalse_from}
-use Rattle.mdb_cashless.specs.declared.by_profile.state.StateByProfile.TheVariants.{Base, Extended}
-use Rattle.mdb_cashless.specs.Units.{unit_of}
 use Rattle.mdb_cashless.proofs.ByProfile.{plain_by}
 use Rattle.mdb_cashless.proofs.by_profile.ReaderByProfilePair.heeds_choice.Goals as goal
 

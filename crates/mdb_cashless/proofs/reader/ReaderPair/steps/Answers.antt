@@ -1,15 +1,6 @@
 -- The steps by codes are those after what is known of the acts.
 use Rattle.std.proofs.Common.{sym}
-use Rattle.std.specs.List.{Contains}
-use Rattle.mdb_msgs.specs.declared.command.ReaderUnit.{ReaderUnit}
-use Rattle.mdb_bus.specs.declared.act.Act.{Act}
-use Rattle.mdb_machine.specs.declared.choice.Choice.{Choice}
-use Rattle.mdb_machine.specs.declared.gains.Gains.{Gains}
-use Rattle.mdb_machine.proofs.StepCodes.{AreCoded, coded_below, steps_coded}
-use Rattle.mdb_cashless.specs.declared.reader.state.ReaderState.{ReaderState}
-use Rattle.mdb_cashless.specs.Reader.{StepKnowing, machine}
-use Rattle.mdb_cashless.specs.ReaderFacts.{KnownFacts}
-use Rattle.mdb_cashless.specs.Units as units
+use Rattle.mdb_machine.proofs.StepCodes.{coded_below, steps_coded}
 use Rattle.mdb_cashless.specs.shared.ReaderCodes.{apart, below, code_of}
 use Rattle.mdb_cashless.proofs.reader.ReaderPair.steps.Goals as goal
 

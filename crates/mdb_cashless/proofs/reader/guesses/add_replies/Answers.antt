@@ -4,7 +4,7 @@ use Rattle.mdb_machine.specs.PastValues.{if_known}
 use Rattle.mdb_cashless.specs.declared.reader.transaction.Transaction.{Transaction}
 use Rattle.mdb_cashless.specs.Reader as spec
 use Rattle.mdb_cashless.specs.ReaderFacts.{Facts, own_transaction}
-use Rattle.mdb_cashless.specs.ReaderValues.{facts_in, known_in}
+use Rattle.mdb_cashless.specs.ReaderValues.{facts_in}
 use Rattle.mdb_cashless.specs.inner.Guesses as guesses
 use Rattle.mdb_cashless.proofs.Knowing.{replies_known, replies_some}
 use Rattle.mdb_cashless.proofs.Listed.{Adds, adds_first, adds_two, none_small}
