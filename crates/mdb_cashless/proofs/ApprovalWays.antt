@@ -1,5 +1,6 @@
 -- The steps of a reader that follows approvals where an act isn't settled: they are those of three
 -- guesses at what isn't known.
+use Rattle.std.proofs.lemmas.Grind.{common_steps}
 use Rattle.std.proofs.Common.{◌≡◌, ◌≢◌, ◌↔◌, ◌⊎◌, ◌∙◌, ◌∷◌, ◌++◌, ◌||◌, ◌&&◌, ◌-◌, not, ℕ, Bool, true, false, List, [], Option, Some, None, refl, ap, sym, inl, inr, length, take, drop, arith, length-append, if◌then◌else◌}
 use Rattle.std.specs.Option.{is_none}
 use Rattle.std.proofs.Math.Bool.{or-true}
@@ -35,11 +36,7 @@ use Rattle.mdb_cashless.specs.inner.Approvals.{assuming, facts_in, front_of, gue
 all_new : (choice : Choice) (before : ApprovalState) (told : List ℕ) → choice ≢ Again
     → news choice before [] told ≡ Some told
 all_new Again before told plain = absurd (plain refl)
-all_new choice before told plain = by before.again
-  where
-    by : (b : Bool) → (if (b && true) && true then Some told else Some told) ≡ Some told
-    by true = refl
-    by false = refl
+all_new choice before told plain = grind (arith, common_steps)
 
 front_is : (last told : List ℕ) (amount : ℕ) → told ≡ last ++ (amount ∷ []) → last ≡ front_of told
 front_is last told amount begins =

@@ -6,7 +6,7 @@ use Rattle.mdb_cashless.specs.ReaderMessages.{messages_of, part_of}
 use Rattle.mdb_cashless.proofs.Choices.{unheard, unread, untaken}
 use Rattle.mdb_cashless.proofs.reader.steps.heeds_choice.Goals as goal
 use Rattle.std.proofs.lemmas.Bool.{OnFalse_at}
-use Rattle.mdb_cashless.proofs.Resets.{no_restart}
+use Rattle.mdb_machine.proofs.KeptLists.{no_restart}
 use Rattle.mdb_cashless.proofs.Steps.{denied}
 
 pub returns-in-Ack-Reader : goal.returns-in-Ack-Reader
