@@ -52,8 +52,13 @@ module _ (start : StretchStart) where
   lead_rows rows (it ∷ earlier) running place goes =
       let before = lead_rows goes.front earlier goes.before goes.from goes.lead in
       let on = ap (λ (p : StretchStart). p.rows) goes.ends.on in
-      omega (arith, before, on, ap length goes.parts,
-        length-append goes.front (goes.row ∷ running))
+      omega (
+        arith,
+        before,
+        on,
+        ap length goes.parts,
+        length-append goes.front (goes.row ∷ running),
+      )
 
   pub lead_faults : (rows : List Event) (ended : List Ended) (running : List Event)
       (place : StretchStart) → LeadFrom start rows ended running place

@@ -98,8 +98,10 @@ module _ (start : StretchStart) where
       (place : StretchStart) → LeadFrom start rows ended running place
       → (front : List Event) × (rows ≡ front ++ running)
   lead_end rows [] running place lead = ([], lead.0)
-  lead_end rows (it ∷ earlier) running place goes = (goes.front ++ goes.row ∷ [],
-    goes.parts ∙ sym (append_assoc goes.front (goes.row ∷ []) running))
+  lead_end rows (it ∷ earlier) running place goes = (
+    goes.front ++ goes.row ∷ [],
+    goes.parts ∙ sym (append_assoc goes.front (goes.row ∷ []) running),
+  )
 
 -- what is left out stays left out
 with_stays : (without : DeviceSet) (more device : Device) → has without device ≡ true

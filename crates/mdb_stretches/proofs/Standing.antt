@@ -131,8 +131,8 @@ pub stretch_told : (scope : Scope) (rows : List Event) (ended : List Ended) (run
 stretch_told scope rows ended running place counts before taken report lead faults is so =
     let many : place.faults ≡ length ended =
     lead_faults (first_place scope) rows ended running place lead ∙ omega (arith) in
-    let number : counts.all + 1 ≡ place.faults + 1 = omega (arith, counted counts ended faults, many)
-    in
+    let number : counts.all + 1 ≡ place.faults + 1 =
+    omega (arith, counted counts ended faults, many) in
     rw (number, is, so) refl
 
 -- the stretch that runs
@@ -177,8 +177,11 @@ module _ (one : OneActList) (old new : Surveyor) (scope : Scope) (rows : List Ev
         taken_so = so ∙ on.taken_so;
         told = λ pieces list. learnt ∙ rw (on.taken_so, on.told it.before it.shorter)
             (learnt_more begins on.place.told act (acts_of it.before)
-            ∙ rw (one on.place.scope (on.running ++ row ∷ []) pieces (it.newest ∷ it.earlier) list
-            it.act_list, it.acts) refl);
+            ∙ rw (
+              one on.place.scope (on.running ++ row ∷ []) pieces (it.newest ∷ it.earlier) list
+                  it.act_list,
+              it.acts,
+            ) refl);
         before = before ∙ on.before;
         faults = faults ∙ on.faults;
         totals = totals ∙ on.totals;
@@ -230,8 +233,8 @@ module _ (one : OneActList) (old new : Surveyor) (scope : Scope) (rows : List Ev
       → new.totals ≡ with_report old.totals report
       → StandsFor new scope (rows ++ row ∷ [])
       (record { stretch = stretch; fault = fault_by old.before offence } ∷ ended)
-  next_stands offence report stretch asked on noted reports same begun asks follows_so so told before
-      faults totals =
+  next_stands offence report stretch asked on noted reports same begun asks follows_so so told
+      before faults totals =
       let pieces = on.accepted.pieces in
       let list = rw on.followed_so at on.accepted.act_list in
       let next : StretchStart =
@@ -245,22 +248,23 @@ module _ (one : OneActList) (old new : Surveyor) (scope : Scope) (rows : List Ev
       rw same (record {
         running = [];
         place = next;
-        lead = lead_on (first_place scope) rows ended on.running on.place row _ next on.lead (record {
-          stretch = record {
-            is = rw on.followed_so at (reports on.running on.accepted);
-            begins = stretch_told scope rows ended on.running on.place old.faults old.before old.scope
-                report on.lead on.faults on.before on.taken_so;
-          };
-          offence = offence;
-          is = is;
-          row_is = ap (λ n. fault_by n offence) on.before;
-          pieces = pieces;
-          act_list = list;
-          asked = asked;
-          asked_is = asked_there offence.rule _ _ asked
-              (λ beyond. on.block (ap (λ (o : Offence). o.rule) met ∙ beyond) pieces list) asks;
-          on = refl;
-        });
+        lead = lead_on (first_place scope) rows ended on.running on.place row _ next on.lead
+            (record {
+              stretch = record {
+                is = rw on.followed_so at (reports on.running on.accepted);
+                begins = stretch_told scope rows ended on.running on.place old.faults old.before
+                    old.scope report on.lead on.faults on.before on.taken_so;
+              };
+              offence = offence;
+              is = is;
+              row_is = ap (λ n. fault_by n offence) on.before;
+              pieces = pieces;
+              act_list = list;
+              asked = asked;
+              asked_is = asked_there offence.rule _ _ asked
+                  (λ beyond. on.block (ap (λ (o : Offence). o.rule) met ∙ beyond) pieces list) asks;
+              on = refl;
+            });
         follows = begun;
         followed_so = follows_so ∙ after;
         taken_so = so ∙ after;

@@ -10,8 +10,8 @@ use Rattle.mdb_stretches.proofs.surveyor.Surveyor.take.Goals as goal
 
 pub returns-in-Some-clause-taken : goal.returns-in-Some-clause-taken
 returns-in-Some-clause-taken c scope rows ended on =
-    taken_more c.transcripts_have_one_act_list.ensures c.args.self.now _ scope rows c.args.event ended
-    (ended_act c.in-Some.has_ended (follow.act_of c.feed_ending.new.self)) on
+    taken_more c.transcripts_have_one_act_list.ensures c.args.self.now _ scope rows c.args.event
+    ended (ended_act c.in-Some.has_ended (follow.act_of c.feed_ending.new.self)) on
     c.in-Some.ensures.taken.stands c.feed_ending.ensures.scope c.in-Some.ensures.act
     (rw c.act.ensures at c.learn_if.ensures) refl refl refl refl
 
