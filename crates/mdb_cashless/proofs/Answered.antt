@@ -66,7 +66,8 @@ module _ {facts : Facts} {command : ReaderCommand} {reply : Reply} {choice : Cho
     telling tells = rw (looked.polls, looked.owed_is, looked.holding_is, looked.middle_is) tells
 
     told_back : {news : List ReaderActivity} → Telling (parts_of reply) news → Tells news
-    told_back tells = rw (looked.polls, looked.owed_is, looked.holding_is, looked.middle_is) at tells
+    told_back tells =
+        rw (looked.polls, looked.owed_is, looked.holding_is, looked.middle_is) at tells
 
     -- a reply that the reader can't tell: it doesn't tell what is held
     pub untold : ((parts : List (Part ReaderActivity)) (other : List ReaderActivity)

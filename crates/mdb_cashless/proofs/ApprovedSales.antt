@@ -332,8 +332,10 @@ module _ (unit : ReaderUnit) where
   replied command reply [] before all = refl
   replied command reply (act ∷ again) before all =
       elim (All-head (Repeats command reply) act again all) [
-        | inl is ↦ rw is (replied command reply again before (All-tail (Repeats command reply) act again all))
-        | inr is ↦ rw is (replied command reply again before (All-tail (Repeats command reply) act again all))
+        | inl is ↦ rw is
+            (replied command reply again before (All-tail (Repeats command reply) act again all))
+        | inr is ↦ rw is
+            (replied command reply again before (All-tail (Repeats command reply) act again all))
       ]
 
   approval_in : (told : List ReaderMsg) → list_any is_approval told ≡ true

@@ -55,7 +55,8 @@ own_answer : (unit : ReaderUnit) (command : Command) (its : ReaderCommand) (refu
     ≡ answered unit command refused messages old
 own_answer unit command its true messages old found = rw (found, own_messages) refl
 own_answer unit command its false messages old found =
-    rw (found, own_messages) (same_fields refl refl (sym (last_is its (begin_session messages) old.taken)) refl refl)
+    rw (found, own_messages) (same_fields refl refl
+    (sym (last_is its (begin_session messages) old.taken)) refl refl)
 
 -- the facts after a reply of this reader: it has taken its command or not, and has told messages
 pub replied : (unit : ReaderUnit) (command : Command) (its : ReaderCommand) (reply : Reply)

@@ -107,7 +107,8 @@ pub answered_told : (unit : ReaderUnit) (act : Act) (command : Command) (its : R
     (reply : Reply) → act ≡ acts.Reply command reply → own unit command ≡ Some its
     → tells_taken its reply ≡ is_some (taken_told unit act)
 answered_told unit act command its reply is found =
-    rw (is, found, own_messages) (by (tells_out_of_sequence reply) (begin_session (messages_of reply)))
+    rw (is, found, own_messages)
+    (by (tells_out_of_sequence reply) (begin_session (messages_of reply)))
   where
     by : (refused begins : Bool) → (begins || (not refused && drops its))
         ≡ is_some (if resets (effect_taken (effect_of unit) (if refused then None

@@ -78,7 +78,8 @@ module _ (facts : Facts) (before after : ReaderState) (gains : Gains) where
 -- steps by an act of the reader, where not all is known
 pub knowing_of : {unit : ReaderUnit} {known : KnownFacts} {act : Act} {choice : Choice}
     {before after : ReaderState} {gains : Gains} {Found : Type 0}
-    → Found ↔ OfSome known before.holds (λ facts. ReaderStep unit facts act choice before after gains)
+    → Found ↔ OfSome known before.holds (λ facts. ReaderStep unit facts act choice before after
+    gains)
     → Found ↔ StepKnowing unit known act choice before after gains
 knowing_of some = (
   λ found. let is = some.0 found in record { facts = is.0; allowed = is.1; step = is.2 },

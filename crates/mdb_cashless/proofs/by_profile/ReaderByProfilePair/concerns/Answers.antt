@@ -7,8 +7,8 @@ use Rattle.mdb_cashless.proofs.by_profile.ReaderByProfilePair.concerns.Goals as 
 
 pub returns-else-concerns-clause-still : goal.returns-else-concerns-clause-still
 returns-else-concerns-clause-still g c = OnFalse_from c.concerns-else-concerns.result _
-    (λ is begins so_far choice before after gains. stays_by _ begins so_far _ choice before after gains
-    c.in_default.not-Break
+    (λ is begins so_far choice before after gains. stays_by _ begins so_far _ choice before
+    after gains c.in_default.not-Break
     (if_some (base_state before)
     (λ its to. c.if-concerns.ensures.still begins so_far choice its to gains))
     (if_some (extended_state before)

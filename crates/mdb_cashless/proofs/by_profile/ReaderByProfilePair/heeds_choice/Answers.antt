@@ -10,5 +10,6 @@ returns-in-Base g c = rw c.in-Base.is (OnFalse_from c.heeds_choice.result _
 
 pub returns-in-Extended : goal.returns-in-Extended
 returns-in-Extended g c = rw c.in-Extended.is (OnFalse_from c.heeds_choice-in-Extended.result _
-    (λ is begins so_far choice after gains stands. plain_by _ begins so_far _ choice _ after gains tt
+    (λ is begins so_far choice after gains stands. plain_by _ begins so_far _ choice _ after gains
+    tt
     (λ to. OnFalse_at is c.heeds_choice-in-Extended.ensures begins so_far choice to gains stands)))

@@ -3,7 +3,8 @@ use Rattle.std.proofs.Common.{◌∙◌, sym}
 use Rattle.mdb_cashless.proofs.reader.steps.step.Goals as goal
 
 pub returns-in-Some-clause-step : goal.returns-in-Some-clause-step
-returns-in-Some-clause-step c = rw (c.in-Ask.is, sym c.own.ensures ∙ c.in-Some.is) c.ask.ensures.step
+returns-in-Some-clause-step c =
+    rw (c.in-Ask.is, sym c.own.ensures ∙ c.in-Some.is) c.ask.ensures.step
 
 pub returns-in-Some-own-clause-step : goal.returns-in-Some-own-clause-step
 returns-in-Some-own-clause-step c =
