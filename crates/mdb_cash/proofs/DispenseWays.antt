@@ -18,108 +18,61 @@ use Rattle.mdb_machine.specs.Gains.{controller_gains, in_slots, no_gains}
 use Rattle.mdb_machine.specs.MidSession.{AsksNone, facts_recorded}
 use Rattle.mdb_machine.proofs.MidSession.{any_asked, some_told}
 
--- what a DISPENSE adds, by whether it is owed and the last one again
-abbrev adds : Bool → Bool → ℕ → Gains
-adds owed again value =
-    if owed && again then no_gains else controller_gains (in_slots (0 ∷ value ∷ []))
+module _ (setups : Setups) (profile : Profile) (so_far : List Act) (coins : ℕ) (choice : Choice)
+    (before after : ChangerState) (gains : Gains) where
+  -- the step, and what the controller pays out by it
+  abbrev Asks : Type 0
+  Asks = (machine (Joined setups profile)).Step so_far
+      (acts.Ask (Changer (changer.Dispense coins))) choice before after gains
 
-one_of_two : (owed again : Bool) (value : ℕ) (gains : Gains) → owed ≡ true
-    → gains ≡ adds owed again value
-    → (gains ≡ no_gains) ⊎ (gains ≡ controller_gains (in_slots (0 ∷ value ∷ [])))
-one_of_two true true value gains is gained = inl gained
-one_of_two true false value gains is gained = inr gained
-one_of_two false again value gains is gained = absurd cc
+  abbrev paid : Gains
+  paid = controller_gains (in_slots
+      (0 ∷ dispensed_value (facts_recorded tables setups profile so_far).setup coins ∷ []))
 
-still_owed : (before : ChangerState) → before.dispense_owed ≡ true
-    → record before { dispense_owed = true } ≡ before
-still_owed before owed =
-    ap (λ o. record { holds = before.holds; dispense_owed = o }) (sym owed)
+  still_owed : before.dispense_owed ≡ true → record before { dispense_owed = true } ≡ before
+  still_owed owed = rw (← owed) refl
 
-pub owed_ways : (setups : Setups) (profile : Profile) (so_far : List Act) (coins : ℕ)
-    (choice : Choice) (before after : ChangerState) (gains : Gains) → AsksNone tables so_far
-    → before.dispense_owed ≡ true
-    → (machine (Joined setups profile)).Step so_far (acts.Ask (Changer (changer.Dispense coins)))
-    choice before after gains
-    ↔ (after ≡ before) × ((gains ≡ no_gains)
-    ⊎ (gains ≡ controller_gains (in_slots
-    (0 ∷ dispensed_value (facts_recorded tables setups profile so_far).setup coins ∷ []))))
-owed_ways setups profile so_far coins choice before after gains none owed = (forth, back)
-  where
-    value : ℕ
-    value = dispensed_value (facts_recorded tables setups profile so_far).setup coins
+  -- one that is owed may be the last one again
+  pub owed_ways : AsksNone tables so_far → before.dispense_owed ≡ true
+      → Asks ↔ (after ≡ before) × ((gains ≡ no_gains) ⊎ (gains ≡ paid))
+  owed_ways none owed = (
+    λ step. (
+      step.step.0 ∙ still_owed owed,
+      by (is_last step.facts.last_asked coins)
+          (rw (owed, step.allowed.setup) at step.step.1),
+    ),
+    back,
+  )
+    where
+      by : (again : Bool) → gains ≡ (if again then no_gains else paid)
+          → (gains ≡ no_gains) ⊎ (gains ≡ paid)
+      by true gained = inl gained
+      by false gained = inr gained
 
-    forth : (machine (Joined setups profile)).Step so_far
-        (acts.Ask (Changer (changer.Dispense coins))) choice before after gains
-        → (after ≡ before)
-        × ((gains ≡ no_gains) ⊎ (gains ≡ controller_gains (in_slots (0 ∷ value ∷ []))))
-    forth step = (
-      step.step.0 ∙ still_owed before owed,
-      one_of_two before.dispense_owed (is_last step.facts.last_asked coins) value gains owed
-          (step.step.1 ∙ ap (λ s. adds before.dispense_owed
-          (is_last step.facts.last_asked coins) (dispensed_value s coins)) step.allowed.setup),
-    )
-
-    by : (asked : Option ℕ) → after ≡ before
-        → gains ≡ adds true (is_last asked coins) value
-        → (machine (Joined setups profile)).Step so_far
-        (acts.Ask (Changer (changer.Dispense coins))) choice before after gains
-    by asked same gained =
-        let some = any_asked (CashBox 0) tables setups profile so_far before.holds asked none in
-        record {
-          facts = some.0;
-          allowed = some.1;
-          step = (
-            same ∙ sym (still_owed before owed),
-            gained
-                ∙ ap (λ o. adds o (is_last asked coins) value) (sym owed)
-                ∙ ap (λ a. adds before.dispense_owed (is_last a coins) value) (sym some.3)
-                ∙ ap (λ s. adds before.dispense_owed (is_last some.0.last_asked coins)
-                (dispensed_value s coins)) (sym some.2),
-          );
-        }
-
-    back : (after ≡ before)
-        × ((gains ≡ no_gains) ⊎ (gains ≡ controller_gains (in_slots (0 ∷ value ∷ []))))
-        → (machine (Joined setups profile)).Step so_far
-        (acts.Ask (Changer (changer.Dispense coins))) choice before after gains
-    back (same, inl gained) = by (Some coins) same
-        (gained ∙ ap (λ a. adds true a value) (sym (eq-eqb coins coins refl)))
-    back (same, inr gained) = by None same gained
-
--- one that isn't owed is new
-none_again : (owed again : Bool) (value : ℕ) → owed ≡ false
-    → adds owed again value ≡ controller_gains (in_slots (0 ∷ value ∷ []))
-none_again true again value is = absurd cc
-none_again false again value is = refl
-
-pub free_way : (setups : Setups) (profile : Profile) (so_far : List Act) (coins : ℕ)
-    (choice : Choice) (before after : ChangerState) (gains : Gains) → before.dispense_owed ≡ false
-    → (machine (Joined setups profile)).Step so_far (acts.Ask (Changer (changer.Dispense coins)))
-    choice before after gains
-    ↔ (after ≡ record before { dispense_owed = true })
-    × (gains ≡ controller_gains (in_slots
-    (0 ∷ dispensed_value (facts_recorded tables setups profile so_far).setup coins ∷ [])))
-free_way setups profile so_far coins choice before after gains free =
-    let value = dispensed_value (facts_recorded tables setups profile so_far).setup coins in (
-      λ step. (
-        step.step.0,
-        step.step.1
-            ∙ ap (λ s. adds before.dispense_owed (is_last step.facts.last_asked coins)
-            (dispensed_value s coins)) step.allowed.setup
-            ∙ none_again before.dispense_owed (is_last step.facts.last_asked coins) value free,
-      ),
-      λ way.
-          let some = some_told (CashBox 0) tables setups profile so_far before.holds in
+      asking : (asked : Option ℕ) → after ≡ before
+          → gains ≡ (if is_last asked coins then no_gains else paid) → Asks
+      asking asked same gained =
+          let some = any_asked (CashBox 0) tables setups profile so_far before.holds asked none in
           record {
             facts = some.0;
             allowed = some.1;
-            step = (
-              way.0,
-              way.1
-                  ∙ sym
-                  (none_again before.dispense_owed (is_last some.0.last_asked coins) value free)
-                  ∙ ap (λ s. adds before.dispense_owed (is_last some.0.last_asked coins)
-                  (dispensed_value s coins)) (sym some.2),
-            );
-          },
-    )
+            step = (same ∙ sym (still_owed owed), rw (owed, some.3, some.2) gained);
+          }
+
+      back : (after ≡ before) × ((gains ≡ no_gains) ⊎ (gains ≡ paid)) → Asks
+      back (same, inl gained) = asking (Some coins) same (rw (eq-eqb coins coins refl) gained)
+      back (same, inr gained) = asking None same gained
+
+  -- one that isn't owed is new
+  pub free_way : before.dispense_owed ≡ false
+      → Asks ↔ (after ≡ record before { dispense_owed = true }) × (gains ≡ paid)
+  free_way free = (
+    λ step. (step.step.0, rw (free, step.allowed.setup) at step.step.1),
+    λ way.
+        let some = some_told (CashBox 0) tables setups profile so_far before.holds in
+        record {
+          facts = some.0;
+          allowed = some.1;
+          step = (way.0, rw (free, some.2) way.1);
+        },
+  )

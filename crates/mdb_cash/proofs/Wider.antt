@@ -20,7 +20,6 @@ use Rattle.mdb_machine.proofs.Wider.{AreAmong, Widens, enabling}
 asks : (facts : Facts) (more : ℕ → Bool) (command : ChangerCommand) (before after : ChangerState)
     (gains : Gains) → changer.AskStep facts command before after gains
     → changer.AskStep (enabling facts more) command before after gains
-asks facts more (commands.Dispense coins) before after gains step = step
 asks facts more commands.Reset before after gains step = step
 asks facts more _ before after gains step = step
 
@@ -29,19 +28,16 @@ acks : (facts : Facts) (more : ℕ → Bool) (command : ChangerCommand) (choice 
     → changer.TakeStep facts command choice before after gains
     → changer.TakeStep (enabling facts more) command choice before after gains
 acks facts more commands.Reset choice before after gains step = step
-acks facts more (commands.Dispense coins) choice before after gains step = step
 acks facts more _ choice before after gains step = step
 
 may_all : (facts : Facts) (more : ℕ → Bool) → AreAmong facts.enabled more
     → (news : List ChangerActivity) → AllByRecursion (changer.MayBeNew facts) news
     → AllByRecursion (changer.MayBeNew (enabling facts more)) news
 may_all facts more among [] all = tt
-may_all facts more among (CashBox coin ∷ news) all =
-    (among coin all.0, may_all facts more among news all.1)
-may_all facts more among (Tube coin ∷ news) all =
-    (among coin all.0, may_all facts more among news all.1)
 may_all facts more among (Dispensed count coin ∷ news) all =
     (tt, may_all facts more among news all.1)
+may_all facts more among (message ∷ news) all =
+    (among _ all.0, may_all facts more among news all.1)
 
 pub changer_widens : Widens changer.conduct
 changer_widens = record {
@@ -56,13 +52,9 @@ moves_one : (facts : bill_facts.Facts) (more : ℕ → Bool) → AreAmong facts.
     → (message : BillActivity) (before after : Escrow)
     → bill.MovesBill facts message before after
     → bill.MovesBill (enabling facts more) message before after
-moves_one facts more among (activity.Stacked number) before after moves =
-    (moves.0, moves.1, among number moves.2, moves.3, moves.4)
-moves_one facts more among (activity.Recycled number) before after moves =
-    (moves.0, moves.1, among number moves.2, moves.3, moves.4)
-moves_one facts more among (activity.Escrow number) before after moves =
-    (moves.0, moves.1, among number moves.2, moves.3, moves.4)
 moves_one facts more among (activity.Returned number) before after moves = moves
+moves_one facts more among message before after moves =
+    (moves.0, moves.1, among _ moves.2, moves.3, moves.4)
 
 moves_all : (facts : bill_facts.Facts) (more : ℕ → Bool) → AreAmong facts.enabled more
     → (news : List BillActivity) (before after : Escrow)

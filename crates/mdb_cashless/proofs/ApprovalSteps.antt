@@ -1,5 +1,5 @@
 -- Which acts and choices change nothing, of a reader that follows approvals.
-use Rattle.std.proofs.Common.{◌≡◌, ◌↔◌, ◌∙◌, ◌==◌, ◌&&◌, ◌∷◌, ℕ, Bool, true, false, List, [], if◌then◌else◌, length, refl, ap, sym}
+use Rattle.std.proofs.Common.{arith, ◌≡◌, ◌↔◌, ◌∙◌, ◌==◌, ◌&&◌, ◌∷◌, ℕ, Bool, true, false, List, [], if◌then◌else◌, length, refl, ap, sym}
 use Rattle.mdb_msgs.specs.declared.command.ReaderCommand.{ReaderCommand}
 use Rattle.mdb_msgs.specs.declared.command.ReaderCommand.TheVariants as reader
 use Rattle.mdb_msgs.specs.declared.reply.Reply.{Reply}
@@ -54,22 +54,15 @@ poll_stays facts before after gains is = (
 heard_free : (choice : Choice) (told : List ℕ) (before : ApprovalState) → before.again ≡ false
     → heard choice told before ≡ before
 heard_free Lost told before is = refl
-heard_free choice told before is = by (length told == 0)
-  where
-    by : (none : Bool) → (if none then before else record before { again = false }) ≡ before
-    by true = refl
-    by false = free before is
+heard_free choice told before is = let same = free before is in grind (arith, same)
 
 pub ack_unheeded : (facts : Facts) (reply : Reply) (choice : Choice) (before after : ApprovalState)
     (gains : Gains) → before.again ≡ false → VmcAckStep facts reply choice before after gains
     → VmcAckStep facts reply Plain before after gains
 ack_unheeded facts reply choice before after gains is step =
-    let told = approvals_in (messages_of reply) in (
-      step.0,
-      step.1,
-      step.2 ∙ heard_free choice told before is ∙ sym (heard_free Plain told before is),
-      step.3,
-    )
+    let told = approvals_in (messages_of reply) in
+    let same = heard_free choice told before is ∙ sym (heard_free Plain told before is) in
+    (step.0, step.1, step.2 ∙ same, step.3)
 
 -- a reply that tells of no restart, where not both are possible
 kept : (out : Bool) (its : ReaderCommand) (before : ApprovalState)
@@ -77,7 +70,6 @@ kept : (out : Bool) (its : ReaderCommand) (before : ApprovalState)
     (middle.asked && middle.again) ≡ true → (before.asked && before.again) ≡ true
 kept true its before is = is
 kept false reader.Reset before is = absurd cc
-kept false (reader.VendSuccess item) before is = is
 kept false its before is = is
 
 pub reply_unheeded : (facts : Facts) (its : ReaderCommand) (command : Command) (reply : Reply)

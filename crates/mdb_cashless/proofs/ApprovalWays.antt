@@ -1,5 +1,6 @@
 -- The steps of a reader that follows approvals where an act isn't settled: they are those of three
 -- guesses at what isn't known.
+use Rattle.std.proofs.lemmas.Grind.{common_steps}
 use Rattle.std.proofs.Common.{◌≡◌, ◌≢◌, ◌↔◌, ◌⊎◌, ◌∙◌, ◌∷◌, ◌++◌, ◌||◌, ◌&&◌, ◌-◌, not, ℕ, Bool, true, false, List, [], Option, Some, None, refl, ap, sym, inl, inr, length, take, drop, arith, length-append, if◌then◌else◌}
 use Rattle.std.specs.Option.{is_none}
 use Rattle.std.proofs.Math.Bool.{or-true}
@@ -17,7 +18,7 @@ use Rattle.mdb_bus.specs.declared.act.Act.TheVariants as acts
 use Rattle.mdb_machine.specs.declared.choice.Choice.{Choice}
 use Rattle.mdb_machine.specs.declared.choice.Choice.TheVariants.{Again}
 use Rattle.mdb_machine.specs.declared.gains.Gains.{Gains}
-use Rattle.mdb_machine.specs.Known.{Allows}
+use Rattle.mdb_machine.specs.Known.{Is, Known, Allows}
 use Rattle.mdb_machine.specs.PastValues.{if_known}
 use Rattle.mdb_machine.specs.Steps.{ForOwn}
 use Rattle.mdb_cashless.specs.declared.approvals.facts.ApprovalFacts.{ApprovalFacts}
@@ -35,18 +36,13 @@ use Rattle.mdb_cashless.specs.inner.Approvals.{assuming, facts_in, front_of, gue
 all_new : (choice : Choice) (before : ApprovalState) (told : List ℕ) → choice ≢ Again
     → news choice before [] told ≡ Some told
 all_new Again before told plain = absurd (plain refl)
-all_new choice before told plain = by before.again
-  where
-    by : (b : Bool) → (if (b && true) && true then Some told else Some told) ≡ Some told
-    by true = refl
-    by false = refl
+all_new choice before told plain = grind (arith, common_steps)
 
 front_is : (last told : List ℕ) (amount : ℕ) → told ≡ last ++ (amount ∷ []) → last ≡ front_of told
 front_is last told amount begins =
-    let count : length told - 1 ≡ length last =
-    (let whole = ap length begins ∙ length-append last (amount ∷ []) in omega (arith, whole)) in
-    sym (take-append_seam last (amount ∷ [])) ∙ ap (λ l. take (length last) l) (sym begins)
-    ∙ ap (λ n. take n told) (sym count)
+    let count : length (last ++ (amount ∷ [])) - 1 ≡ length last =
+    simp length-append (omega arith) in
+    rw (begins, count, take-append_seam) refl
 
 begins : (before : ApprovalState) (last told : List ℕ) → may_be_again before last told ≡ true
     → told ≡ last ++ drop (length last) told
@@ -62,13 +58,8 @@ either_is before last told is =
   where
     by : length last ≡ 1 → length told ≡ 1 → (rest : List ℕ) → told ≡ last ++ rest → last ≡ told
     by one single [] is = sym (is ∙ append-nil last)
-    by one single (amount ∷ rest) is = absurd (omega (
-      arith,
-      one,
-      single,
-      ap length is,
-      length-append last (amount ∷ rest),
-    ))
+    by one single (amount ∷ rest) is =
+        absurd (omega (arith, one, single, ap length is, length-append last (amount ∷ rest)))
 
 -- so the news are those after one of the three
 after_last : (before after : ApprovalState) (last told rest : List ℕ) → told ≡ last ++ rest
@@ -104,6 +95,12 @@ module _ (unit : ReaderUnit) (facts : ApprovalFacts) (choice : Choice)
   abbrev Three : (Sale → List ℕ → Type 0) → Sale → List ℕ → Type 0
   Three Way sale told = (Way Nothing [] ⊎ Way sale (front_of told)) ⊎ Way sale told
 
+  from_three : {One Two Three X : Type 0} → (One → X) → (Two → X) → (Three → X)
+      → (One ⊎ Two) ⊎ Three → X
+  from_three one two three (inl (inl is)) = one is
+  from_three one two three (inl (inr is)) = two is
+  from_three one two three (inr is) = three is
+
   -- VEND SUCCESS, where it isn't known if it is the same again
   vague : (item worth : ℕ) (sale : Sale) → (is_sale_known sale || false) ≡ false
       → MaySell known item sale worth ↔ ((worth ≡ 0) ⊎ IsEarlier known worth)
@@ -121,14 +118,9 @@ module _ (unit : ReaderUnit) (facts : ApprovalFacts) (choice : Choice)
       | inl none ↦ inr (step.0, inl (refl, none), step.2, step.3)
       | inr is ↦ inl (inl (step.0, is, step.2, step.3))
     ],
-    λ three. elim three [
-      | inl two ↦ elim two [
-        | inl step ↦
-            (step.0, (vague item step.0 facts.sale unsettled).1 (inr step.1), step.2, step.3)
-        | inr step ↦ sold step
-      ]
-      | inr step ↦ sold step
-    ],
+    from_three
+        (λ step. (step.0, (vague item step.0 facts.sale unsettled).1 (inr step.1), step.2, step.3))
+        sold sold,
   )
     where
       sold : AskStep (assuming (Sold item) [] known) (reader.VendSuccess item) before after gains
@@ -163,20 +155,16 @@ module _ (unit : ReaderUnit) (facts : ApprovalFacts) (choice : Choice)
       | inl none ↦ inl (inl (step.0, none, step.2, step.3))
       | inr awaited ↦ inr (step.0, awaited, step.2, step.3)
     ],
-    λ three. elim three [
-      | inl two ↦ elim two [
-        | inl step ↦ (step.0, (either facts.sale step.0 unsettled).1 (inl step.1), step.2, step.3)
-        | inr step ↦ (step.0, (either facts.sale step.0 unsettled).1 (inr step.1), step.2, step.3)
-      ]
-      | inr step ↦ (step.0, (either facts.sale step.0 unsettled).1 (inr step.1), step.2, step.3)
-    ],
+    from_three
+        (λ step. (step.0, (either facts.sale step.0 unsettled).1 (inl step.1), step.2, step.3))
+        (λ step. (step.0, (either facts.sale step.0 unsettled).1 (inr step.1), step.2, step.3))
+        (λ step. (step.0, (either facts.sale step.0 unsettled).1 (inr step.1), step.2, step.3)),
   )
 
   -- a reply, where it isn't known what the reader told last
   allows : (knows : Bool) (told last : List ℕ) → (knows || false) ≡ false
       → Allows (if_known knows told) last
-  allows true told last is = absurd cc
-  allows false told last is = tt
+  allows knows told last is = grind arith
 
   replies : (reply : Reply) (found : Option ReaderCommand)
       → (facts.knows_told || is_none found) ≡ false
@@ -187,16 +175,15 @@ module _ (unit : ReaderUnit) (facts : ApprovalFacts) (choice : Choice)
   replies reply (Some its) unsettled = (
     λ step. elim (one_of_three choice middle after step.last told step.new step.is_new
         step.to) [
-          | inl is ↦ inl (inl (as_told step [] is))
+          | inl is ↦ inl (inl (retold (Is []) Nothing step [] refl is))
           | inr again ↦ elim again [
-            | inl front ↦ inl (inr (as_told step (front_of told) (rw front at step.is_new)))
-            | inr whole ↦ inr (as_told step told (rw whole at step.is_new))
+            | inl front ↦
+                inl (inr (retold (Is (front_of told)) Awaited step (front_of told) refl
+                (rw front at step.is_new)))
+            | inr whole ↦ inr (retold (Is told) Awaited step told refl (rw whole at step.is_new))
           ]
         ],
-    λ three. elim three [
-      | inl two ↦ elim two [ inl step ↦ as_known step | inr step ↦ as_known step ]
-      | inr step ↦ as_known step
-    ],
+    from_three as_known as_known as_known,
   )
     where
       told : List ℕ
@@ -205,12 +192,14 @@ module _ (unit : ReaderUnit) (facts : ApprovalFacts) (choice : Choice)
       middle : ApprovalState
       middle = before_messages its reply (read choice before)
 
-      as_told : {sale : Sale} (step : ReplyStep known its reply choice before after gains)
-          (last : List ℕ) → news choice middle last told ≡ Some step.new
-          → ReplyStep (assuming sale last known) its reply choice before after gains
-      as_told step last is = record {
+      retold : {one : Facts} (approvals : Known (List ℕ)) (sale : Sale)
+          (step : ReplyStep one its reply choice before after gains) (last : List ℕ)
+          → Allows approvals last → news choice middle last told ≡ Some step.new
+          → ReplyStep (record one { approvals = approvals; sale = sale }) its reply choice before
+          after gains
+      retold approvals sale step last may is = record {
         last = last;
-        may_be_last = refl;
+        may_be_last = may;
         may_be_read = step.may_be_read;
         new = step.new;
         is_new = is;
@@ -221,15 +210,8 @@ module _ (unit : ReaderUnit) (facts : ApprovalFacts) (choice : Choice)
       as_known : {sale : Sale} {last : List ℕ}
           → ReplyStep (assuming sale last known) its reply choice before after gains
           → ReplyStep known its reply choice before after gains
-      as_known step = record {
-        last = step.last;
-        may_be_last = allows facts.knows_told facts.told.items step.last unsettled;
-        may_be_read = step.may_be_read;
-        new = step.new;
-        is_new = step.is_new;
-        to = step.to;
-        gained = step.gained;
-      }
+      as_known step = retold known.approvals known.sale step step.last
+          (allows facts.knows_told facts.told.items step.last unsettled) step.is_new
 
   pub ways : (act : Act) → settled unit facts act ≡ false
       → ReaderStep unit known act choice before after gains
@@ -255,19 +237,4 @@ module _ (unit : ReaderUnit) (facts : ApprovalFacts) (choice : Choice)
 pub three_added : {none one two three First Second Third All : Type 0} → (none → ⊥)
     → one ↔ (none ⊎ First) → two ↔ (one ⊎ Second) → three ↔ (two ⊎ Third)
     → All ↔ ((First ⊎ Second) ⊎ Third) → three ↔ All
-three_added empty first second third all = (
-  λ among. all.1 (elim (third.0 among) [
-    | inl among ↦ inl (elim (second.0 among) [
-      | inl among ↦ inl (elim (first.0 among) [ inl old ↦ absurd (empty old) | inr is ↦ is ])
-      | inr is ↦ inr is
-    ])
-    | inr is ↦ inr is
-  ]),
-  λ is. elim (all.0 is) [
-    | inl is ↦ third.1 (inl (elim is [
-      | inl is ↦ second.1 (inl (first.1 (inr is)))
-      | inr is ↦ second.1 (inr is)
-    ]))
-    | inr is ↦ third.1 (inr is)
-  ],
-)
+three_added empty first second third all = grind arith

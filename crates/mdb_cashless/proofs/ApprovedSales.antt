@@ -5,6 +5,7 @@ use Rattle.std.specs.Cmp.Derive.{both_true}
 use Rattle.std.specs.List.{list_any}
 use Rattle.std.specs.Option.{option_map_or}
 use Rattle.std.proofs.lemmas.Bool.{and_parts, eq-eqb, eqb-true, or_cases}
+use Rattle.std.proofs.lemmas.Grind.{common_steps}
 use Rattle.std.proofs.lemmas.Bool.Decides.{eqb_tells}
 use Rattle.std.proofs.lemmas.List.Elements.{All-head, All-nil, All-tail}
 use Rattle.std.proofs.lemmas.List.Folds.{Any-from_list_any}
@@ -36,7 +37,7 @@ use Rattle.mdb_cashless.specs.Transactions.{is_request, is_same}
 use Rattle.mdb_cashless.specs.Units.{own}
 use Rattle.mdb_cashless.specs.inner.Approvals.{is_sale_known}
 use Rattle.mdb_cashless.specs.shared.ApprovalWays.{known_or_earlier}
-use Rattle.mdb_cashless.proofs.Sales.{own_is, own_of_unit, still_approved, still_requested}
+use Rattle.mdb_cashless.proofs.Sales.{approved_by, own_is, own_of_unit, requests, still_approved, still_requested}
 
 -- whether an approval makes a sale approved, and whether VEND SUCCESS of an item may be told of it
 abbrev awaits : Sale → Bool
@@ -64,63 +65,30 @@ HeardAs approval before after = (awaits after ≡ (not approval && awaits before
 
 heard_one : (m : ReaderMsg) (sale : Sale) → HeardAs (is_approval m) sale (sale_heard m sale)
 heard_one messages.JustReset Awaited = (refl, λ item. refl)
-heard_one messages.JustReset sale = (refl, λ item. refl)
 heard_one messages.VendDenied Awaited = (refl, λ item. refl)
-heard_one messages.VendDenied sale = (refl, λ item. refl)
 heard_one (messages.VendApproved amount) Awaited = (refl, λ item. refl)
-heard_one (messages.VendApproved amount) sale = (refl, λ item. refl)
 heard_one m sale = (refl, λ item. refl)
-
-deaf : (a b c : Bool) → (not b && (not a && c)) ≡ (not (a || b) && c)
-deaf true true c = refl
-deaf true false c = refl
-deaf false b c = refl
-
-approves_first : (a b c d : Bool)
-    → ((b && (not a && c)) || ((a && c) || d)) ≡ (((a || b) && c) || d)
-approves_first true true c d = refl
-approves_first true false c d = refl
-approves_first false b c d = refl
 
 heard_all : (told : List ReaderMsg) (sale : Sale)
     → HeardAs (list_any is_approval told) sale (sale_all_heard told sale)
 heard_all [] sale = (refl, λ item. refl)
 heard_all (m ∷ told) sale =
     let one = heard_one m sale in
-    let rest = heard_all told (sale_heard m sale) in
-    let any = list_any is_approval told in (
-      rest.0 ∙ ap (λ b. not any && b) one.0 ∙ deaf (is_approval m) any (awaits sale),
-      λ item.
-          rest.1 item ∙ ap (λ b. (any && b) || is_for item (sale_heard m sale)) one.0
-          ∙ ap (λ b. (any && (not (is_approval m) && awaits sale)) || b) (one.1 item)
-          ∙ approves_first (is_approval m) any (awaits sale) (is_for item sale),
+    let rest = heard_all told (sale_heard m sale) in (
+      grind (arith, common_steps, one.0, rest.0),
+      λ item. grind (arith, common_steps, one.0, one.1 item, rest.1 item),
     )
 
 -- what a command makes of it that the controller asks
-absorb : (a b : Bool) → a ≡ (a && (a || b))
-absorb true b = refl
-absorb false b = refl
-
 asked : (command : Option ReaderCommand) (sale : Sale)
     → (awaits (sale_asked command sale)
     ≡ (is_request (own_transaction command) || (leaves_asked Cancel command && awaits sale)))
     × ((item : ℕ) → is_for item (sale_asked command sale)
     ≡ (leaves_asked (Success item) command && (sells_by item command || is_for item sale)))
 asked (Some reader.VendCancel) Awaited = (refl, λ item. refl)
-asked (Some reader.VendCancel) sale = (refl, λ item. refl)
-asked (Some (reader.VendSuccess last)) sale =
-    (refl, λ item. absorb (item == last) (is_for item sale))
+asked (Some (reader.VendSuccess last)) sale = (refl, λ item. grind (arith, common_steps))
 asked (Some command) sale = (refl, λ item. refl)
 asked None sale = (refl, λ item. refl)
-
-never : (b : Bool) → (b ≡ true → ⊥) → not b ≡ true
-never true none = absurd (none refl)
-never false none = refl
-
-always : (a b : Bool) → (a || (b || true)) ≡ true
-always true b = refl
-always false true = refl
-always false false = refl
 
 module _ (unit : ReaderUnit) where
   -- what an act makes of the sale under way
@@ -136,11 +104,8 @@ module _ (unit : ReaderUnit) where
   after_act (acts.Ask command) facts =
       let is = asked (own unit command) facts.sale in (is.0, is.1, refl)
   after_act (acts.VmcAck command reply) facts =
-      let is = heard_all (own_messages unit command (messages_of reply)) facts.sale in (
-        is.0,
-        is.1,
-        refl,
-      )
+      let is = heard_all (own_messages unit command (messages_of reply)) facts.sale in
+      (is.0, is.1, refl)
   after_act (acts.Break length) facts = (refl, λ item. refl, refl)
   after_act act facts = (refl, λ item. refl, refl)
 
@@ -181,41 +146,44 @@ module _ (unit : ReaderUnit) where
       by None leaves = refl
   no_request item act leaves = refl
 
--- whether a sale may have been requested before the recording
-to_earlier : (unit : ReaderUnit) (begins : Beginning) (so_far : List Act)
-    → MayBeRequestedBefore begins unit so_far → (facts_of begins unit so_far).earlier ≡ true
-to_earlier unit (PowerOn profile) so_far may = absurd may
-to_earlier unit (Joined setups profile) [] may = refl
-to_earlier unit (Joined setups profile) (act ∷ so_far) may =
-    (after_act unit act (facts_of (Joined setups profile) unit so_far)).2
-    ∙ both_true (never (asks_request unit act) (λ asks.
-    let request = requests_is unit act asks in
-    may request.0 request.1 (zero, omega arith, request.2)))
-    (to_earlier unit (Joined setups profile) so_far (λ price item among.
-    may price item (suc among.0, omega (arith, among.1), among.2)))
+  -- whether a sale may have been requested before the recording
+  to_earlier : (begins : Beginning) (so_far : List Act) → MayBeRequestedBefore begins unit so_far
+      → (facts_of begins unit so_far).earlier ≡ true
+  to_earlier (PowerOn profile) so_far may = absurd may
+  to_earlier (Joined setups profile) [] may = refl
+  to_earlier (Joined setups profile) (act ∷ so_far) may =
+      let was = to_earlier (Joined setups profile) so_far
+      (λ price item among. may price item (suc among.0, omega (arith, among.1), among.2)) in
+      (after_act act (facts_of (Joined setups profile) unit so_far)).2
+      ∙ rw was (none (asks_request unit act) (λ asks.
+      let request = requests_is act asks in
+      may request.0 request.1 (zero, omega arith, request.2)))
+    where
+      none : (asks : Bool) → (asks ≡ true → ⊥) → (not asks && true) ≡ true
+      none true never = absurd (never refl)
+      none false never = refl
 
-from_earlier : (unit : ReaderUnit) (begins : Beginning) (so_far : List Act)
-    → (facts_of begins unit so_far).earlier ≡ true → MayBeRequestedBefore begins unit so_far
-from_earlier unit (PowerOn profile) [] is = absurd cc
-from_earlier unit (PowerOn profile) (act ∷ so_far) is =
-    let after = (after_act unit act (facts_of (PowerOn profile) unit so_far)).2 in
-    from_earlier unit (PowerOn profile) so_far (and_parts _ _ (sym after ∙ is)).1
-from_earlier unit (Joined setups profile) [] is = λ price item among. omega (arith, among.1)
-from_earlier unit (Joined setups profile) (act ∷ so_far) is =
-    let after = (after_act unit act (facts_of (Joined setups profile) unit so_far)).2 in
-    let parts = and_parts _ _ (sym after ∙ is) in
-    by parts.0 (from_earlier unit (Joined setups profile) so_far parts.1)
-  where
-    by : not (asks_request unit act) ≡ true
-        → MayBeRequestedBefore (Joined setups profile) unit so_far
-        → MayBeRequestedBefore (Joined setups profile) unit (act ∷ so_far)
-    by none before price item (zero, few, same) =
-        let asks : asks_request unit act ≡ true =
-        ap (asks_request unit) same ∙ ap (λ o. is_request (own_transaction o))
-        (own_of_unit unit (reader.VendRequest price item)) in
-        absurd cc
-    by none before price item (suc n, few, same) =
-        before price item (n, omega (arith, few), same)
+  from_earlier : (begins : Beginning) (so_far : List Act)
+      → (facts_of begins unit so_far).earlier ≡ true → MayBeRequestedBefore begins unit so_far
+  from_earlier (PowerOn profile) [] is = absurd cc
+  from_earlier (PowerOn profile) (act ∷ so_far) is =
+      let after = (after_act act (facts_of (PowerOn profile) unit so_far)).2 in
+      from_earlier (PowerOn profile) so_far (and_parts _ _ (sym after ∙ is)).1
+  from_earlier (Joined setups profile) [] is = λ price item among. omega (arith, among.1)
+  from_earlier (Joined setups profile) (act ∷ so_far) is =
+      let after = (after_act act (facts_of (Joined setups profile) unit so_far)).2 in
+      let parts = and_parts _ _ (sym after ∙ is) in
+      by parts.0 (from_earlier (Joined setups profile) so_far parts.1)
+    where
+      by : not (asks_request unit act) ≡ true
+          → MayBeRequestedBefore (Joined setups profile) unit so_far
+          → MayBeRequestedBefore (Joined setups profile) unit (act ∷ so_far)
+      by none before price item (zero, few, same) =
+          let asks : asks_request unit act ≡ true =
+          rw same (rw (own_of_unit unit (reader.VendRequest price item)) refl) in
+          absurd cc
+      by none before price item (suc n, few, same) =
+          before price item (n, omega (arith, few), same)
 
 module _ (unit : ReaderUnit) (begins : Beginning) where
   abbrev facts : List Act → Facts
@@ -233,10 +201,10 @@ module _ (unit : ReaderUnit) (begins : Beginning) where
       → is_for item (facts so_far).sale ≡ true
   approved_for item [] is = absurd is
   approved_for item (act ∷ so_far) (inl is) =
-      (after_act unit act (facts so_far)).1 item ∙ rw is.0 (rw (opened so_far ∙ is.2) refl)
+      (after_act unit act (facts so_far)).1 item ∙ rw (is.0, opened so_far ∙ is.2) refl
   approved_for item (act ∷ so_far) (inr is) =
-      (after_act unit act (facts so_far)).1 item ∙ rw is.0 (rw (approved_for item so_far is.1)
-      (always _ _))
+      (after_act unit act (facts so_far)).1 item
+      ∙ rw (is.0, approved_for item so_far is.1) (grind (arith, common_steps))
 
   -- a sale is approved, or may have been
   abbrev May : ℕ → List Act → Type 0
@@ -246,8 +214,8 @@ module _ (unit : ReaderUnit) (begins : Beginning) where
       → leaves_sale unit (Success item) act ≡ true → May item so_far → May item (act ∷ so_far)
   goes_on item act so_far leaves (inl is) = inl (inr (leaves, is))
   goes_on item act so_far leaves (inr may) = inr (from_earlier unit begins (act ∷ so_far)
-      ((after_act unit act (facts so_far)).2 ∙ rw (no_request unit item act leaves) (to_earlier
-      unit begins so_far may)))
+      ((after_act unit act (facts so_far)).2
+      ∙ rw (no_request unit item act leaves, to_earlier unit begins so_far may) refl))
 
   for_approved : (item : ℕ) (so_far : List Act) → AcksAreOfReplies so_far
       → SalesAreApproved begins unit so_far → is_for item (facts so_far).sale ≡ true
@@ -348,14 +316,7 @@ module _ (unit : ReaderUnit) where
   requested (act ∷ so_far) is = elim (or_cases _ _ is) [
     | inl asks ↦
         let request = requests_is unit act asks in
-        record {
-          price = request.0;
-          item = request.1;
-          since = [];
-          before = so_far;
-          order = ap (λ (a : Act). a ∷ so_far) request.2;
-          undecided = All-nil _;
-        }
+        rw request.2 (requests unit so_far request.0 request.1)
     | inr stays ↦
         let parts = and_parts _ _ stays in
         still_requested unit act so_far (requested so_far (and_parts _ _ parts.1).1)
@@ -370,13 +331,12 @@ module _ (unit : ReaderUnit) where
       → is_open unit (again ++ (acts.Reply command reply ∷ before)) ≡ is_open unit before
   replied command reply [] before all = refl
   replied command reply (act ∷ again) before all =
-      let rest = again ++ (acts.Reply command reply ∷ before) in
-      let same : is_open unit (act ∷ rest) ≡ is_open unit rest =
       elim (All-head (Repeats command reply) act again all) [
-        | inl is ↦ ap (λ (a : Act). is_open unit (a ∷ rest)) is
-        | inr is ↦ ap (λ (a : Act). is_open unit (a ∷ rest)) is
-      ] in
-      same ∙ replied command reply again before (All-tail (Repeats command reply) act again all)
+        | inl is ↦ rw is
+            (replied command reply again before (All-tail (Repeats command reply) act again all))
+        | inr is ↦ rw is
+            (replied command reply again before (All-tail (Repeats command reply) act again all))
+      ]
 
   approval_in : (told : List ReaderMsg) → list_any is_approval told ≡ true
       → (amount : ℕ) × Contains told (messages.VendApproved amount)
@@ -401,22 +361,11 @@ module _ (unit : ReaderUnit) where
       by None found hears = absurd cc
       by (Some its) found hears =
           let same = own_is unit command its found in
-          let ends = subst (λ (c : Command). base.EndsInReply c reply so_far) same is.1 in
+          let ends = rw same at is.1 in
           let approval = approval_in (messages_of reply) hears in
-          record {
-            command = its;
-            reply = reply;
-            amount = approval.0;
-            since = [];
-            before = so_far;
-            order = ap (λ (c : Command). acts.VmcAck c reply ∷ so_far) same;
-            unsold = All-nil _;
-            replied = ends;
-            approves = approval.1;
-            requested = requested ends.before (sym (replied (commands.Reader unit its) reply
-                ends.again ends.before ends.repeats)
-                ∙ ap (is_open unit) (sym ends.order) ∙ is.2);
-          }
+          rw same (approved_by unit its reply so_far ends approval.0 approval.1
+          (requested ends.before (sym (replied (commands.Reader unit its) reply ends.again
+          ends.before ends.repeats) ∙ rw ends.order at is.2)) item)
   approved item (act ∷ so_far) (inl is) = absurd cc
   approved item (act ∷ so_far) (inr is) =
       still_approved unit item act so_far (approved item so_far is.1)

@@ -1,3 +1,4 @@
+-- What acts tell of the facts of a reader, for the function that keeps them.
 use Rattle.std.proofs.Common.{◌≡◌, ◌∙◌, ◌||◌, Bool, true, false, List, [], Option, Some, None, refl, ap, sym, map, if◌then◌else◌}
 use Rattle.mdb_msgs.specs.declared.command.Command.{Command}
 use Rattle.mdb_msgs.specs.declared.command.ReaderCommand.{ReaderCommand}
@@ -18,10 +19,7 @@ use Rattle.mdb_cashless.specs.Units.{own}
 -- facts are the same where their fields are
 same_fields : {one other : ToldFacts} → one.config ≡ other.config → one.asked ≡ other.asked
     → one.taken ≡ other.taken → one.amount ≡ other.amount → one.past ≡ other.past → one ≡ other
-same_fields {one} {other} config asked taken amount past =
-    let same : record one { config = one.config } ≡ record other { config = other.config } =
-    cc (config, asked, taken, amount, past) in
-    same
+same_fields config asked taken amount past = rw (config, asked, taken, amount, past) refl
 
 -- the facts after a reply, where it is known whether it refuses its command
 abbrev answered : ReaderUnit → Command → Bool → List ReaderMsg → ToldFacts → ToldFacts
@@ -42,29 +40,6 @@ answered unit command refused messages old =
           (map part_of (own_messages unit command messages)) old.past;
     }
 
--- the same, where the command to the reader is known
-abbrev answered_own : Option ReaderCommand → Bool → List ReaderMsg → ToldFacts → ToldFacts
-answered_own found refused messages old =
-    let own_ones : List ReaderMsg = elim found [ Some c ↦ messages | None ↦ [] ] in
-    let took : Option ReaderCommand = if refused then None else found in
-    record {
-      config = or_else (last_said config_in own_ones) old.config;
-      asked = old.asked;
-      taken =
-          if resets (effect_of_own took) || begin_session own_ones then None
-          else or_else (own_transaction took) old.taken;
-      amount = or_else (last_said amount_in own_ones) old.amount;
-      past =
-          past_after (resets (effect_of_own took)) (map part_of own_ones) old.past;
-    }
-
-same_answer : (unit : ReaderUnit) (command : Command) (refused : Bool) (messages : List ReaderMsg)
-    (old : ToldFacts)
-    → answered unit command refused messages old
-    ≡ answered_own (own unit command) refused messages old
-same_answer unit command true messages old = refl
-same_answer unit command false messages old = refl
-
 -- the last transaction after a command that is taken by an answer
 last_is : (command : ReaderCommand) (begins : Bool) (last : Option Transaction)
     → (if resets (effect_of_own (Some command)) || begins then None
@@ -74,21 +49,19 @@ last_is reader.Reset true last = refl
 last_is reader.Reset false last = refl
 last_is command begins last = refl
 
-own_answer : (its : ReaderCommand) (refused : Bool) (messages : List ReaderMsg) (old : ToldFacts)
-    → answered_own (Some its) refused messages old
-    ≡ told messages (taken (if refused then None else Some its) old)
-own_answer its true messages old = refl
-own_answer its false messages old =
-    same_fields refl refl (last_is its (begin_session messages) old.taken) refl refl
+own_answer : (unit : ReaderUnit) (command : Command) (its : ReaderCommand) (refused : Bool)
+    (messages : List ReaderMsg) (old : ToldFacts) → own unit command ≡ Some its
+    → told messages (taken (if refused then None else Some its) old)
+    ≡ answered unit command refused messages old
+own_answer unit command its true messages old found = rw (found, own_messages) refl
+own_answer unit command its false messages old found =
+    rw (found, own_messages) (same_fields refl refl
+    (sym (last_is its (begin_session messages) old.taken)) refl refl)
 
 -- the facts after a reply of this reader: it has taken its command or not, and has told messages
 pub replied : (unit : ReaderUnit) (command : Command) (its : ReaderCommand) (reply : Reply)
     (old mid new : ToldFacts) → own unit command ≡ Some its
     → mid ≡ taken (if tells_out_of_sequence reply then None else Some its) old
     → new ≡ told (messages_of reply) mid → new ≡ told_with unit (acts.Reply command reply) old
-replied unit command its reply old mid new found mid_is new_is =
-    let refused = tells_out_of_sequence reply in
-    let messages = messages_of reply in
-    new_is ∙ (ap (told messages) mid_is ∙ (sym (own_answer its refused messages old)
-    ∙ (sym (ap (λ f. answered_own f refused messages old) found)
-    ∙ sym (same_answer unit command refused messages old))))
+replied unit command its reply old mid new found mid_is new_is = new_is ∙ rw mid_is
+    (own_answer unit command its (tells_out_of_sequence reply) (messages_of reply) old found)

@@ -1,5 +1,6 @@
 -- What is held after an ACK, by whether a message of the reply is kept.
-use Rattle.std.proofs.Common.{◌≡◌, ◌⊎◌, inl, inr, ◌&&◌, not, Bool, true, false, List, [], ◌∷◌, refl, map}
+use Rattle.std.proofs.lemmas.Grind.{common_steps}
+use Rattle.std.proofs.Common.{arith, ◌≡◌, ◌⊎◌, inl, inr, ◌&&◌, not, Bool, true, false, List, [], ◌∷◌, refl, map}
 use Rattle.mdb_msgs.specs.declared.reply.reader.ReaderMsg.{ReaderMsg}
 use Rattle.mdb_msgs.specs.declared.reply.reader.ReaderMsg.TheVariants.{BeginSession, BeginSessionLong, VendApproved, VendDenied, EndSession}
 use Rattle.mdb_machine.specs.declared.choice.Choice.{Choice}
@@ -15,14 +16,12 @@ held_on choice keeps holds = holds && not keeps
 
 none : (choice : Choice) (holds : Bool) → held_on choice false holds ≡ holds
 none Lost holds = refl
-none choice true = refl
-none choice false = refl
+none choice holds = grind (arith, common_steps)
 
 some : {M : Type 0} (choice : Choice) (message : M) (kept : List M) (holds : Bool)
     → held_on choice true holds ≡ holds_acked choice (message ∷ kept) holds
 some Lost message kept holds = refl
-some choice message kept true = refl
-some choice message kept false = refl
+some choice message kept holds = grind (arith, common_steps)
 
 pub acked_is : (messages : List ReaderMsg) (choice : Choice) (holds : Bool)
     → held_on choice (keeps_some messages) holds
@@ -39,9 +38,5 @@ acked_is (_ ∷ messages) choice holds = acked_is messages choice holds
 pub heard_is : (choice : Choice) → (choice ≡ Plain) ⊎ (choice ≡ Restart) ⊎ (choice ≡ Again)
     → (messages : List ReaderMsg) (holds : Bool) → (holds && not (keeps_some messages))
     ≡ holds_acked choice (kept_of (map part_of messages)) holds
-heard_is Lost heard messages holds =
-    elim heard [
-      | inl is ↦ absurd cc
-      | inr others ↦ elim others [ inl is ↦ absurd cc | inr is ↦ absurd cc ]
-    ]
+heard_is Lost heard messages holds = grind arith
 heard_is choice heard messages holds = acked_is messages choice holds

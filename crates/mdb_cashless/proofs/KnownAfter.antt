@@ -1,5 +1,6 @@
 -- What is known goes on act by act.
-use Rattle.std.proofs.Common.{◌≡◌, ℕ, ◌∙◌, ◌&&◌, ◌||◌, not, Bool, true, false, List, [], ◌∷◌, Option, Some, None, option_map, refl, ap, sym, unwrap_or, if◌then◌else◌}
+use Rattle.std.proofs.lemmas.Grind.{common_steps}
+use Rattle.std.proofs.Common.{arith, ◌≡◌, ℕ, ◌∙◌, ◌&&◌, ◌||◌, not, Bool, true, false, List, [], ◌∷◌, Option, Some, None, option_map, refl, ap, sym, unwrap_or, if◌then◌else◌}
 use Rattle.std.specs.Option.{is_some}
 use Rattle.mdb_msgs.specs.declared.command.Command.{Command}
 use Rattle.mdb_msgs.specs.declared.command.ReaderCommand.{ReaderCommand}
@@ -35,30 +36,19 @@ use Rattle.mdb_cashless.specs.shared.ReaderWays.{same_fields}
 asked_after : {X : Type 0} (knows : Bool) (told old : Option X)
     → if_known (knows || is_some told) (or_else told old)
     ≡ known_more (option_map (λ (x : X). Some x) told) (if_known knows old)
-asked_after true (Some x) old = refl
-asked_after true None old = refl
-asked_after false (Some x) old = refl
-asked_after false None old = refl
+asked_after knows told old = grind (arith, common_steps)
 
 taken_after : {X : Type 0} (knows ends : Bool) (told old : Option X)
     → if_known (knows || is_some (if ends then Some None
     else option_map (λ (x : X). Some x) told)) (if ends then None else or_else told old)
     ≡ known_more (if ends then Some None else option_map (λ (x : X). Some x) told)
     (if_known knows old)
-taken_after true true told old = refl
-taken_after true false (Some x) old = refl
-taken_after true false None old = refl
-taken_after false true told old = refl
-taken_after false false (Some x) old = refl
-taken_after false false None old = refl
+taken_after knows ends told old = grind (arith, common_steps)
 
 kept_after : {M : Type 0} (knows : Bool) (kept old : List M)
     → if_known (knows || is_some (unless_empty kept)) (unwrap_or (unless_empty kept) old)
     ≡ known_more (unless_empty kept) (if_known knows old)
-kept_after true [] old = refl
-kept_after true (x ∷ kept) old = refl
-kept_after false [] old = refl
-kept_after false (x ∷ kept) old = refl
+kept_after knows kept old = grind (arith, common_steps)
 
 past_more : {M : Type 0} {CAP : ℕ} (was is : Bool) (old new : Past M CAP) (powers : Bool)
     (parts : List (Part M)) → is ≡ (was || is_some (unless_empty (kept_of parts)))
@@ -66,10 +56,8 @@ past_more : {M : Type 0} {CAP : ℕ} (was is : Bool) (old new : Past M CAP) (pow
     → past_known is new ≡ known_past_after powers parts (past_known was old)
 past_more was is old new powers parts knows same = same_known_past
     (ap (λ past. past.reset_owed) same)
-    (ap (λ k. if_known k new.last_kept.items) knows
-    ∙ ap (λ l. if_known (was || is_some (unless_empty (kept_of parts))) l)
-    (ap (λ past. past.last_kept) same)
-    ∙ kept_after was (kept_of parts) old.last_kept.items)
+    (rw (knows, ap (λ past. past.last_kept) same)
+    (kept_after was (kept_of parts) old.last_kept.items))
 
 pub known_after : (unit : ReaderUnit) (act : Act) (old new : ReaderKnown)
     → new.knows_asked ≡ (old.knows_asked || is_some (asked_by unit act))
@@ -79,15 +67,10 @@ pub known_after : (unit : ReaderUnit) (act : Act) (old new : ReaderKnown)
     → known_in new ≡ known_with unit act (known_in old)
 known_after unit act old new asked taken kept same = same_fields
     (ap (λ (t : ToldFacts). t.config) same)
-    (ap (λ k. if_known k new.facts.asked) asked
-    ∙ ap (λ a. if_known (old.knows_asked || is_some (asked_by unit act)) a)
-    (ap (λ (t : ToldFacts). t.asked) same)
-    ∙ asked_after old.knows_asked (asked_by unit act) old.facts.asked)
-    (ap (λ k. if_known k new.facts.taken) taken
-    ∙ ap (λ t. if_known (old.knows_taken || is_some (taken_told unit act)) t)
-    (ap (λ (t : ToldFacts). t.taken) same)
-    ∙ taken_after old.knows_taken (ends_transactions unit act) (transaction_taken_by unit act)
-    old.facts.taken)
+    (rw (asked, ap (λ (t : ToldFacts). t.asked) same)
+    (asked_after old.knows_asked (asked_by unit act) old.facts.asked))
+    (rw (taken, ap (λ (t : ToldFacts). t.taken) same) (taken_after old.knows_taken
+    (ends_transactions unit act) (transaction_taken_by unit act) old.facts.taken))
     (ap (λ (t : ToldFacts). t.amount) same)
     (past_more old.knows_kept new.knows_kept old.facts.past new.facts.past
     (powers_on (effect_of unit) act) (parts_by unit act) kept
@@ -107,67 +90,31 @@ pub known_first : (unit : ReaderUnit) (begins : Beginning) (facts : ReaderFacts)
     })
     ≡ known_of begins unit []
 known_first unit (PowerOn profile) facts knows so config asked taken amount past =
-    same_fields
-    config (ap (λ k. if_known k facts.asked) so ∙ ap (λ a. if_known true a) asked)
-    (ap (λ k. if_known k facts.taken) so ∙ ap (λ a. if_known true a) taken)
-    amount
-    (same_known_past (ap (λ p. p.reset_owed) past)
-    (ap (λ k. if_known k facts.past.last_kept.items) so
-    ∙ ap (λ p. if_known true p.last_kept) past))
+    rw (so, config, asked, taken, amount, ap (λ p. p.reset_owed) past, ap (λ p. p.last_kept) past)
+    refl
 known_first unit (Joined setups profile) facts knows so config asked taken amount past =
-    same_fields
-    config (ap (λ k. if_known k facts.asked) so)
-    (ap (λ k. if_known k facts.taken) so)
-    amount
-    (same_known_past (ap (λ p. p.reset_owed) past)
-    (ap (λ k. if_known k facts.past.last_kept.items) so))
+    rw (so, config, amount, ap (λ p. p.reset_owed) past) refl
 
 -- what a reply tells of the last transaction, where the command to the reader is known
-abbrev told_own : Option ReaderCommand → Bool → List ReaderMsg → Option (Option Transaction)
-told_own found refused messages =
-    let own_ones : List ReaderMsg = elim found [ Some c ↦ messages | None ↦ [] ] in
-    let took : Option ReaderCommand = if refused then None else found in
-    if resets (effect_of_own took) || begin_session own_ones then Some None
-    else option_map (λ (t : Transaction). Some t) (own_transaction took)
-
-abbrev told_of : ReaderUnit → Command → Bool → List ReaderMsg → Option (Option Transaction)
-told_of unit command refused messages =
-    if resets (effect_taken (effect_of unit) (if refused then None else Some command))
-    || begin_session (own_messages unit command messages) then Some None
-    else option_map (λ (t : Transaction). Some t)
-    (own_transaction (own_of unit (if refused then None else Some command)))
-
-told_same : (unit : ReaderUnit) (command : Command) (refused : Bool) (messages : List ReaderMsg)
-    → told_of unit command refused messages ≡ told_own (own unit command) refused messages
-told_same unit command true messages = refl
-told_same unit command false messages = refl
-
 told_its : (its : ReaderCommand) (begins : Bool)
-    → is_some (if resets (effect_of_own (Some its)) || begins then Some None
-    else option_map (λ (t : Transaction). Some t) (transaction_of its)) ≡ (begins || drops its)
+    → (begins || drops its) ≡ is_some (if resets (effect_of_own (Some its)) || begins then Some None
+    else option_map (λ (t : Transaction). Some t) (transaction_of its))
 told_its reader.Reset true = refl
-told_its reader.Reset false = refl
-told_its its true = refl
 told_its its false = refl
-
-begun : (begins : Bool) → is_some (if begins then Some None
-    else option_map (λ (t : Transaction). Some t) None) ≡ (begins || false)
-begun true = refl
-begun false = refl
-
-told_answered : (its : ReaderCommand) (refused : Bool) (messages : List ReaderMsg)
-    → is_some (told_own (Some its) refused messages)
-    ≡ (begin_session messages || (not refused && drops its))
-told_answered its true messages = begun (begin_session messages)
-told_answered its false messages = told_its its (begin_session messages)
+told_its its begins = refl
 
 pub answered_told : (unit : ReaderUnit) (act : Act) (command : Command) (its : ReaderCommand)
     (reply : Reply) → act ≡ acts.Reply command reply → own unit command ≡ Some its
     → tells_taken its reply ≡ is_some (taken_told unit act)
 answered_told unit act command its reply is found =
-    let refused = tells_out_of_sequence reply in
-    let messages = messages_of reply in
-    sym (ap (λ a. is_some (taken_told unit a)) is
-    ∙ ap is_some (told_same unit command refused messages)
-    ∙ ap (λ f. is_some (told_own f refused messages)) found
-    ∙ told_answered its refused messages)
+    rw (is, found, own_messages)
+    (by (tells_out_of_sequence reply) (begin_session (messages_of reply)))
+  where
+    by : (refused begins : Bool) → (begins || (not refused && drops its))
+        ≡ is_some (if resets (effect_taken (effect_of unit) (if refused then None
+        else Some command)) || begins then Some None
+        else option_map (λ (t : Transaction). Some t)
+        (own_transaction (own_of unit (if refused then None else Some command))))
+    by true true = refl
+    by true false = refl
+    by false begins = rw found (told_its its begins)

@@ -13,7 +13,6 @@ pub mod KnownAfter
 pub mod Listed
 pub mod MidSession
 pub mod PowerOn
-pub mod Resets
 pub mod Said
 pub mod Sales
 pub mod Steps

@@ -1,5 +1,6 @@
 -- The ways that an act of a reader may go in a recording that begins in mid-session.
-use Rattle.std.proofs.Common.{◌≡◌, ◌≢◌, ◌↔◌, ◌⊎◌, inl, inr, ℕ, Bool, true, false, ◌&&◌, ◌||◌, List, [], ◌∷◌, Option, Some, None, refl, ap, sym, subst, ◌∙◌, arith, drop, take, length, option_map, if◌then◌else◌}
+use Rattle.std.proofs.lemmas.Grind.{common_steps}
+use Rattle.std.proofs.Common.{All, ◌≤◌, ◌≡◌, ◌≢◌, ◌↔◌, ◌⊎◌, inl, inr, ℕ, Bool, true, false, ◌&&◌, ◌||◌, List, [], ◌∷◌, Option, Some, None, refl, ap, sym, subst, ◌∙◌, arith, drop, take, length, option_map, if◌then◌else◌}
 use Rattle.std.proofs.Math.Seq.{drop-append_seam, take-append_seam}
 use Rattle.std.proofs.lemmas.List.{length-append, length-take-le, take-append-drop}
 use Rattle.std.proofs.lemmas.List.Elements.{All-from_recursion, recursion_from_All}
@@ -20,136 +21,79 @@ use Rattle.mdb_machine.specs.Gains.{device_gains, in_slots}
 use Rattle.mdb_machine.specs.Kept.{IsNew, MayBeKept, held, holds_after, kept_of}
 use Rattle.mdb_machine.specs.Known.{Allows, AllowsKept, known_by}
 use Rattle.mdb_machine.specs.Past.{last_list, last_told, or_else, powers_on, resets, unless_empty}
-use Rattle.mdb_machine.specs.shared.PastWays.{same_past}
 use Rattle.mdb_cashless.specs.declared.reader.messages.ReaderActivity.{ReaderActivity}
 use Rattle.mdb_cashless.specs.declared.reader.messages.ReaderActivity.TheVariants.{VendDenied}
 use Rattle.mdb_cashless.specs.declared.reader.state.ReaderState.{ReaderState}
 use Rattle.mdb_cashless.specs.declared.reader.transaction.Ended.{Ended}
 use Rattle.mdb_cashless.specs.declared.reader.transaction.Transaction.{Transaction}
-use Rattle.mdb_cashless.specs.Reader.{all_approved, AskStep, ReaderStep, ReplyStep, StepKnowing, before_messages, is_poll, is_repeated, machine, read, sold_any, take_any, taken, value, view_heard}
+use Rattle.mdb_cashless.specs.Reader.{all_approved, AckStep, AskStep, ReaderStep, ReplyStep, StepKnowing, before_messages, is_poll, is_repeated, machine, read, sold_any, take_any, taken, value, view_heard}
 use Rattle.mdb_cashless.specs.ReaderDevice.{all_told, has_approved}
 use Rattle.mdb_cashless.specs.ReaderFacts.{AllowsFacts, Facts, KnownFacts, asked_by, effect_of, effect_of_own, ends_transactions, known_of, own_transaction, parts_by, taken_told, transaction_taken_by}
 use Rattle.mdb_cashless.specs.ReaderValues.{facts_of}
 use Rattle.mdb_cashless.specs.ReaderMessages.{config_in, last_said, messages_of, parts_of}
 use Rattle.mdb_cashless.specs.Transactions.{amounts, ended_by, is_again, is_same, no_end, transaction_of}
 use Rattle.mdb_cashless.specs.Units.{own}
-use Rattle.mdb_cashless.specs.MidSession.{AckWay, AreHeld, IsSettled, ReplyWay, SendsNone, Takes, TakesNone, TellsNone, effected, facts_recorded, sale}
+use Rattle.mdb_cashless.specs.MidSession.{AckWay, AreHeld, IsSettled, MayBeAgain, ReplyWay, SendsNone, Takes, TakesNone, TellsNone, effected, facts_recorded, sale}
 use Rattle.mdb_machine.specs.shared.ToldWays.{allows_if, allows_told, as_allowed, asked_so, empty_unless, keeps_if, kept_so, kept_told, list_told, none_told, not_not, told_by_none}
-use Rattle.mdb_cashless.proofs.Guesses.{ask_again, ask_same, guessing, held_before}
-use Rattle.mdb_cashless.proofs.Knowing.{Same, same_facts, step_same}
-use Rattle.mdb_cashless.proofs.Sales.{own_of_unit}
-use Rattle.mdb_cashless.proofs.Steps.{acks_knowing, asks_knowing, replies_knowing}
+use Rattle.mdb_cashless.specs.inner.Guesses.{OfSome, keeping}
+use Rattle.mdb_cashless.proofs.Guesses.{held_before, repeats}
+use Rattle.mdb_cashless.proofs.Knowing.{Same, asks_any, settled_steps}
 use Rattle.mdb_cashless.proofs.PowerOn.{last_taken_is}
+use Rattle.mdb_cashless.proofs.Sales.{SameFields, is_last, own_of_unit}
+use Rattle.mdb_cashless.proofs.Steps.{knowing_of}
 
-untaken : (ends : Bool) (its : Option Transaction) → (ends ≡ false) × (its ≡ None)
-    → (if ends then Some None else option_map (λ (t : Transaction). Some t) its) ≡ None
-untaken true its both = absurd cc
-untaken false (Some t) both = absurd cc
-untaken false None both = refl
+-- no act tells something where it isn't told
+nothing : {X : Type 0} (No : Act → Type 0) (tells : Act → Option X) (so_far : List Act)
+    → ((act : Act) → No act ↔ (tells act ≡ None)) → All No so_far ↔ (last_told tells so_far ≡ None)
+nothing No tells so_far is = (
+  λ all. none_told No tells (λ act. (is act).0) so_far (recursion_from_All _ so_far all),
+  λ none. All-from_recursion No so_far (told_by_none No tells (λ act. (is act).1) so_far none),
+)
 
-taken_both : (ends : Bool) (its : Option Transaction)
-    → (if ends then Some None else option_map (λ (t : Transaction). Some t) its) ≡ None
-    → (ends ≡ false) × (its ≡ None)
-taken_both true its none = absurd cc
-taken_both false (Some t) none = absurd cc
-taken_both false None none = (refl, refl)
+untaken : (ends : Bool) (its : Option Transaction) → ((ends ≡ false) × (its ≡ None))
+    ↔ ((if ends then Some None else option_map (λ (t : Transaction). Some t) its) ≡ None)
+untaken ends its = grind (arith, common_steps)
 
--- what acts tell, and what they don't
 module _ (unit : ReaderUnit) (so_far : List Act) where
-  none_kept : TellsNone unit so_far → last_list (parts_by unit) so_far ≡ None
-  none_kept all = none_told (λ act. kept_of (parts_by unit act) ≡ [])
-      (λ act. unless_empty (kept_of (parts_by unit act))) (λ act. ap unless_empty) so_far
-      (recursion_from_All _ so_far all)
+  none_kept : TellsNone unit so_far ↔ (last_list (parts_by unit) so_far ≡ None)
+  none_kept = nothing (λ act. kept_of (parts_by unit act) ≡ [])
+      (λ act. unless_empty (kept_of (parts_by unit act))) so_far
+      (λ act. (ap unless_empty, empty_unless (kept_of (parts_by unit act))))
 
-  kept_by_none : last_list (parts_by unit) so_far ≡ None → TellsNone unit so_far
-  kept_by_none none = All-from_recursion (λ act. kept_of (parts_by unit act) ≡ []) so_far
-      (told_by_none (λ act. kept_of (parts_by unit act) ≡ [])
-      (λ act. unless_empty (kept_of (parts_by unit act)))
-      (λ act. empty_unless (kept_of (parts_by unit act))) so_far none)
+  none_asked : SendsNone unit so_far ↔ (last_told (asked_by unit) so_far ≡ None)
+  none_asked = nothing (λ act. asked_by unit act ≡ None) (asked_by unit) so_far
+      (λ act. (λ none. none, λ none. none))
 
-  none_asked : SendsNone unit so_far → last_told (asked_by unit) so_far ≡ None
-  none_asked all = none_told (λ act. asked_by unit act ≡ None) (asked_by unit)
-      (λ act none. none) so_far (recursion_from_All _ so_far all)
-
-  asked_by_none : last_told (asked_by unit) so_far ≡ None → SendsNone unit so_far
-  asked_by_none none = All-from_recursion (λ act. asked_by unit act ≡ None) so_far
-      (told_by_none (λ act. asked_by unit act ≡ None) (asked_by unit) (λ act none. none) so_far
-      none)
-
-  abbrev TellsNoTaken : Act → Type 0
-  TellsNoTaken act = (ends_transactions unit act ≡ false) × (transaction_taken_by unit act ≡ None)
-
-  none_taken : TakesNone unit so_far → last_told (taken_told unit) so_far ≡ None
-  none_taken all = none_told TellsNoTaken (taken_told unit)
-      (λ act. untaken (ends_transactions unit act) (transaction_taken_by unit act)) so_far
-      (recursion_from_All _ so_far all)
-
-  taken_by_none : last_told (taken_told unit) so_far ≡ None → TakesNone unit so_far
-  taken_by_none none = All-from_recursion TellsNoTaken so_far
-      (told_by_none TellsNoTaken (taken_told unit)
-      (λ act. taken_both (ends_transactions unit act) (transaction_taken_by unit act)) so_far none)
+  none_taken : TakesNone unit so_far ↔ (last_told (taken_told unit) so_far ≡ None)
+  none_taken = nothing
+      (λ act. (ends_transactions unit act ≡ false) × (transaction_taken_by unit act ≡ None))
+      (taken_told unit) so_far
+      (λ act. untaken (ends_transactions unit act) (transaction_taken_by unit act))
 
   is_taken_known : TakesNone unit so_far ⊎ (TakesNone unit so_far → ⊥)
   is_taken_known = by (last_told (taken_told unit) so_far) refl
     where
       by : (o : Option (Option Transaction)) → last_told (taken_told unit) so_far ≡ o
           → TakesNone unit so_far ⊎ (TakesNone unit so_far → ⊥)
-      by None is = inl (taken_by_none is)
-      by (Some t) is = inr (λ none.
-          let clash : Some t ≡ None = sym is ∙ none_taken none in absurd cc)
-
--- two transactions are the same where their fields are
-abbrev SameFields : Type 0
-SameFields = (one other : Transaction) → (is_same one other ≡ true) ↔ (one ≡ other)
+      by None is = inl (none_taken.1 is)
+      by (Some t) is = inr (λ none. let told = none_taken.0 none in absurd cc)
 
 -- whether a transaction is repeated
-abbrev repeats : Option Transaction → Option Transaction → Bool → Bool
-repeats last its holds =
-    holds && elim its [ Some transaction ↦ is_again last transaction | None ↦ false ]
-
 module _ (fields : SameFields) where
-  last_is : (last : Option Transaction) (t : Transaction) → is_again last t ≡ true
-      → last ≡ Some t
-  last_is None t is = absurd cc
-  last_is (Some l) t is = ap (λ (x : Transaction). Some x) ((fields l t).0 is)
-
   repeated_so : (last its : Option Transaction) (holds : Bool) → repeats last its holds ≡ true
       → (t : Transaction) × (its ≡ Some t) × (holds ≡ true) × (last ≡ Some t)
-  repeated_so last its false is = absurd cc
-  repeated_so last None true is = absurd cc
-  repeated_so last (Some t) true is = (t, refl, refl, last_is last t is)
+  repeated_so last its holds is =
+      let last_is = is_last fields last in grind (arith, common_steps, last_is)
 
   not_repeated : (last its : Option Transaction) (holds : Bool)
       → ((t : Transaction) → its ≡ Some t → holds ≡ true → last ≢ Some t)
       → repeats last its holds ≡ false
-  not_repeated last its false other = refl
-  not_repeated last None true other = refl
-  not_repeated last (Some t) true other = by (is_again last t) refl
-    where
-      by : (is : Bool) → is_again last t ≡ is → is ≡ false
-      by false is = refl
-      by true is = absurd (other t refl refl (last_is last t is))
+  not_repeated last its holds other =
+      let last_is = is_last fields last in grind (arith, common_steps, last_is)
 
   repeated : (t : Transaction) (its : Option Transaction) (holds : Bool)
       → its ≡ Some t → holds ≡ true → repeats (Some t) its holds ≡ true
   repeated t its holds is held = rw (is, held) ((fields t t).1 refl)
-
--- the state after a command is taken, and its sale, by whether it is repeated
-taken_by : (facts : Facts) (command : ReaderCommand) (before : ReaderState) (r : Bool)
-    → is_repeated facts command before.holds ≡ r
-    → (take_any facts (Some command) before
-    ≡ (if r then before else effected (Some command) before))
-    × (sold_any facts (Some command) before
-    ≡ (if r then no_end else sale facts (Some command) before))
-taken_by facts command before r is = (
-  ap (λ b. if b then before else effected (Some command) before) is,
-  ap (λ b. if b then no_end else sale facts (Some command) before) is,
-)
-
-own_is : (its : Option Transaction) (t : Transaction) (one other : Option Transaction)
-    → its ≡ Some t → or_else its one ≡ or_else its other
-own_is (Some s) t one other is = refl
-own_is None t one other is = absurd cc
 
 -- what is held of a reply's kept messages
 held_to : (unit : ReaderUnit) (so_far : List Act) (poll holds : Bool)
@@ -162,37 +106,14 @@ held_to unit so_far poll false last kept news some known (inr none) =
     (0, (refl, none.2 ∙ sym none.1))
 held_to unit so_far poll true [] kept news some known new = absurd (some refl refl)
 held_to unit so_far poll true (x ∷ last) kept news some known (inl order) =
-    let lengths = ap length order ∙ length-append (x ∷ last) news in (
-      length (x ∷ last),
-      (
-        inl (
-          omega arith,
-          omega (arith, lengths),
-          λ told.
-              ap (take (length (x ∷ last))) order ∙ take-append_seam (x ∷ last) news ∙ known told,
-        ),
-        sym (ap (drop (length (x ∷ last))) order ∙ drop-append_seam (x ∷ last) news),
-      ),
-    )
+    let lengths = ap length order ∙ length-append (x ∷ last) news in
+    let front = ap (take (length (x ∷ last))) order ∙ take-append_seam (x ∷ last) news in
+    let rest = ap (drop (length (x ∷ last))) order ∙ drop-append_seam (x ∷ last) news in
+    let few : (1 ≤ length (x ∷ last)) × (length (x ∷ last) ≤ length kept) =
+    (omega arith, omega (arith, lengths)) in
+    (length (x ∷ last), (inl (few.0, few.1, λ told. front ∙ known told), sym rest))
 held_to unit so_far poll true (x ∷ last) kept news some known (inr none) =
     (0, (inr (none.0, none.1, refl), none.2 ∙ sym none.1))
-
--- what is settled depends on what was asked last alone
-module _ (unit : ReaderUnit) (so_far : List Act) (a b t u : Option Transaction)
-    (k l : List ReaderActivity) (known : (SendsNone unit so_far → ⊥) → b ≡ a) where
-  no_own : (found : Option ReaderCommand) (X : ReaderCommand → Type 0) → found ≡ None
-      → (its : ReaderCommand) → found ≡ Some its → X its
-  no_own None X none its is = absurd cc
-  no_own (Some c) X none its is = absurd cc
-
-  same_so : (act : Act) → IsSettled unit so_far act → Same unit a t k b u l act
-  same_so (acts.Ask command) (inl none) = λ its is. inr (sym (ap own_transaction is) ∙ none)
-  same_so (acts.Ask command) (inr sends) = λ its is. inl (known sends)
-  same_so (acts.Ack command) none =
-      no_own (own unit command) (λ its. (u ≡ t) ⊎ (transaction_of its ≡ None)) none
-  same_so (acts.Reply command reply) none =
-      no_own (own unit command) (λ its. (u ≡ t) × (l ≡ k)) none
-  same_so act settled = tt
 
 module _ (unit : ReaderUnit) (setups : Setups) (profile : Profile) (so_far : List Act) where
   abbrev known : KnownFacts
@@ -201,16 +122,20 @@ module _ (unit : ReaderUnit) (setups : Setups) (profile : Profile) (so_far : Lis
   abbrev base : Facts
   base = facts_recorded unit setups so_far
 
+  same_owed : known.past.reset_owed ≡ base.past.reset_owed
+  same_owed = not_not (facts_of unit so_far).past.reset_owed
+      (list_any (powers_on (effect_of unit)) so_far)
+
   -- what may have been taken last
-  taken_allows : (t : Option Transaction)
-      → ((TakesNone unit so_far → ⊥) → t ≡ (facts_of unit so_far).taken) → Allows known.taken t
+  taken_allows : (t : Option Transaction) → ((TakesNone unit so_far → ⊥) → t ≡ base.taken)
+      → Allows known.taken t
   taken_allows t is = allows_if setups profile None (last_told (taken_told unit) so_far) t
-      (λ told. is (λ none. told (none_taken unit so_far none)) ∙ last_taken_is unit so_far)
+      (λ told. is (λ none. told ((none_taken unit so_far).0 none)) ∙ last_taken_is unit so_far)
 
   taken_so : (t : Option Transaction) → Allows known.taken t → (TakesNone unit so_far → ⊥)
-      → t ≡ (facts_of unit so_far).taken
+      → t ≡ base.taken
   taken_so t allows told = as_allowed setups profile None (last_told (taken_told unit) so_far) t
-      allows (λ none. told (taken_by_none unit so_far none)) ∙ sym (last_taken_is unit so_far)
+      allows (λ none. told ((none_taken unit so_far).1 none)) ∙ sym (last_taken_is unit so_far)
 
   its_taken : Allows known.taken base.taken
   its_taken = taken_allows base.taken (λ told. refl)
@@ -218,57 +143,49 @@ module _ (unit : ReaderUnit) (setups : Setups) (profile : Profile) (so_far : Lis
   its_asked : Allows known.asked base.asked
   its_asked = allows_told setups profile (last_told (asked_by unit) so_far)
 
-  -- and which list kept last
-  some_kept : (holds : Bool) (last : List ReaderActivity)
-      → AllowsKept known.past.last_kept holds last → holds ≡ true → last ≢ []
-  some_kept holds last allows held = by (last_list (parts_by unit) so_far) refl allows
-    where
-      by : (o : Option (List ReaderActivity)) → last_list (parts_by unit) so_far ≡ o
-          → AllowsKept (known_by (Joined setups profile) [] o) holds last → last ≢ []
-      by None is may = may held
-      by (Some list) is may = λ empty.
-          list_told (λ act. kept_of (parts_by unit act)) so_far list is (sym may ∙ empty)
+  -- what is known of which list was kept last
+  module _ (holds : Bool) where
+    abbrev MayKeep : List ReaderActivity → Type 0
+    MayKeep last = AllowsKept known.past.last_kept holds last
 
-  same_kept : (holds : Bool) (last : List ReaderActivity)
-      → AllowsKept known.past.last_kept holds last
-      → (TellsNone unit so_far → ⊥) → last ≡ (facts_of unit so_far).past.last_kept
-  same_kept holds last allows told =
-      kept_so setups profile holds (last_list (parts_by unit) so_far) last allows
-      (λ none. told (kept_by_none unit so_far none))
+    some_kept : (last : List ReaderActivity) → MayKeep last → holds ≡ true → last ≢ []
+    some_kept last allows held = by (last_list (parts_by unit) so_far) refl allows
+      where
+        by : (o : Option (List ReaderActivity)) → last_list (parts_by unit) so_far ≡ o
+            → AllowsKept (known_by (Joined setups profile) [] o) holds last → last ≢ []
+        by None is may = may held
+        by (Some list) is may = λ empty.
+            list_told (λ act. kept_of (parts_by unit act)) so_far list is (sym may ∙ empty)
 
-  kept_allows : (holds : Bool) (last : List ReaderActivity) → last ≢ []
-      → ((TellsNone unit so_far → ⊥) → last ≡ (facts_of unit so_far).past.last_kept)
-      → AllowsKept known.past.last_kept holds last
-  kept_allows holds last some is =
-      keeps_if setups profile holds (last_list (parts_by unit) so_far) last (λ none. some)
-      (λ told. is (λ none. told (none_kept unit so_far none)))
+    same_kept : (last : List ReaderActivity) → MayKeep last → (TellsNone unit so_far → ⊥)
+        → last ≡ (facts_of unit so_far).past.last_kept
+    same_kept last allows told =
+        kept_so setups profile holds (last_list (parts_by unit) so_far) last allows
+        (λ none. told ((none_kept unit so_far).1 none))
 
-  a_list : (holds : Bool)
-      → (kept : List ReaderActivity) × AllowsKept known.past.last_kept holds kept
-  a_list holds =
-      let some = kept_told VendDenied setups profile holds (last_list (parts_by unit) so_far) in
-      (some.0, some.1)
+    kept_allows : (last : List ReaderActivity) → last ≢ []
+        → ((TellsNone unit so_far → ⊥) → last ≡ (facts_of unit so_far).past.last_kept)
+        → MayKeep last
+    kept_allows last some is =
+        keeps_if setups profile holds (last_list (parts_by unit) so_far) last (λ none. some)
+        (λ told. is (λ none. told ((none_kept unit so_far).0 none)))
 
-  -- the facts that acts tell are those that are known
-  same_owed : known.past.reset_owed ≡ base.past.reset_owed
-  same_owed = not_not (facts_of unit so_far).past.reset_owed
-      (list_any (powers_on (effect_of unit)) so_far)
+    a_list : (kept : List ReaderActivity) × MayKeep kept
+    a_list =
+        let some = kept_told VendDenied setups profile holds (last_list (parts_by unit) so_far) in
+        (some.0, some.1)
 
-  as_guess : (holds : Bool) (facts : Facts) → AllowsFacts known holds facts
-      → facts ≡ guessing base facts.asked facts.taken facts.past.last_kept
-  as_guess holds facts is = same_facts is.config refl refl is.amount
-      (same_past (is.past.reset_owed ∙ same_owed) refl)
-
-  guess_allowed : (holds : Bool) (a t : Option Transaction) (k : List ReaderActivity)
-      → Allows known.asked a → Allows known.taken t → AllowsKept known.past.last_kept holds k
-      → AllowsFacts known holds (guessing base a t k)
-  guess_allowed holds a t k asked taken kept = record {
-    config = refl;
-    asked = asked;
-    taken = taken;
-    amount = refl;
-    past = record { reset_owed = sym same_owed; last_kept = kept };
-  }
+    -- facts that may be
+    guess_allowed : (a t : Option Transaction) (k : List ReaderActivity) → Allows known.asked a
+        → Allows known.taken t → MayKeep k
+        → AllowsFacts known holds (keeping (record base { asked = a; taken = t }) k)
+    guess_allowed a t k asked taken kept = record {
+      config = refl;
+      asked = asked;
+      taken = taken;
+      amount = refl;
+      past = record { reset_owed = sym same_owed; last_kept = kept };
+    }
 
   -- an ask of which it isn't known what was sent before it
   pub sent : (command : ReaderCommand) (choice : Choice) (before after : ReaderState)
@@ -276,36 +193,16 @@ module _ (unit : ReaderUnit) (setups : Setups) (profile : Profile) (so_far : Lis
       → (machine unit (Joined setups profile)).Step so_far
       (acts.Ask (commands.Reader unit command)) choice before after gains
       ↔ AskStep (record base { asked = transaction_of command }) command before after gains
-  sent command choice before after gains none = (way.1, way.0)
-    where
-      its : Option Transaction
-      its = transaction_of command
-
-      kept : (kept : List ReaderActivity) × AllowsKept known.past.last_kept before.holds kept
-      kept = a_list before.holds
-
-      its_allowed : Allows known.asked its
-      its_allowed = subst (λ o. Allows (known_by (Joined setups profile) None
-          (option_map (λ (t : Transaction). Some t) o)) its) (sym (none_asked unit so_far none)) tt
-
-      way : AskStep (record base { asked = its }) command before after gains
-          ↔ StepKnowing unit known (acts.Ask (commands.Reader unit command)) choice before after
-          gains
-      way = asks_knowing unit known _ (commands.Reader unit command) command choice before after
-          gains _ refl (own_of_unit unit command) (
-            λ step. (
-              guessing base its base.taken kept.0,
-              guess_allowed before.holds its base.taken kept.0 its_allowed its_taken kept.1,
-              ask_same base its its base.taken base.taken base.past.last_kept kept.0 command before
-                  after gains (inl refl) step,
-            ),
-            λ some.
-                let facts = some.0 in
-                ask_again base facts.asked facts.taken base.taken facts.past.last_kept
-                base.past.last_kept command before after gains
-                (subst (λ f. AskStep f command before after gains)
-                (as_guess before.holds facts some.1) some.2),
-          )
+  sent command choice before after gains none =
+      let its = transaction_of command in
+      let kept = a_list before.holds in
+      let may : Allows known.asked its = rw ((none_asked unit so_far).0 none) tt in
+      let way : AskStep (record base { asked = its }) command before after gains
+      ↔ StepKnowing unit known (acts.Ask (commands.Reader unit command)) choice before after gains =
+      knowing_of (rw (own_of_unit unit command) (asks_any (record base { asked = its }) kept.0
+      command before after gains refl
+      (guess_allowed before.holds its base.taken kept.0 may its_taken kept.1))) in
+      (way.1, way.0)
 
   -- and each way is one after some guess of the last transaction, which may be; where no
   -- transaction is taken, any that may be does
@@ -313,16 +210,14 @@ module _ (unit : ReaderUnit) (setups : Setups) (profile : Profile) (so_far : Lis
       → Option Transaction → Option Transaction → Type 0
   TakesAfter its before after sold guess t = Allows known.taken t
       × (or_else (own_transaction its) t ≡ or_else (own_transaction its) guess)
-      × ((a : Option Transaction) (k : List ReaderActivity)
-      → (take_any (guessing base a t k) its before ≡ after)
-      × (sold_any (guessing base a t k) its before ≡ sold))
+      × (take_any (record base { taken = t }) its before ≡ after)
+      × (sold_any (record base { taken = t }) its before ≡ sold)
 
   held_from : (poll holds before : Bool) (kept : List ReaderActivity) (count : ℕ)
-      → AreHeld unit so_far poll holds kept count
-      → (last : List ReaderActivity) × (AllowsKept known.past.last_kept before last
-      × IsNew poll (held holds last) kept (drop count kept))
+      → AreHeld unit so_far poll holds kept count → (last : List ReaderActivity)
+      × (MayKeep before last × IsNew poll (held holds last) kept (drop count kept))
   held_from poll false before kept count none =
-      let some = a_list before in (some.0, (some.1, inl (sym (ap (λ n. drop n kept) none))))
+      let some = a_list before in (some.0, (some.1, inl (rw none refl)))
   held_from poll true before kept count (inl first) =
       let size = length-take-le count kept first.1 in
       let some : take count kept ≢ [] = λ empty.
@@ -336,7 +231,7 @@ module _ (unit : ReaderUnit) (setups : Setups) (profile : Profile) (so_far : Lis
       )
   held_from poll true before kept count (inr none) =
       let some = a_list before in
-      (some.0, (some.1, inr (none.0, none.1, ap (λ n. drop n kept) none.2 ∙ none.1)))
+      (some.0, (some.1, inr (none.0, none.1, rw none.2 none.1)))
 
   module _ (fields : SameFields) where
     -- a command that is taken after facts that may be is taken in one of the ways
@@ -351,37 +246,27 @@ module _ (unit : ReaderUnit) (setups : Setups) (profile : Profile) (so_far : Lis
         its : Option Transaction
         its = transaction_of command
 
-        approved : Bool
-        approved = has_approved before.device
-
         by : (r : Bool) → is_repeated facts command before.holds ≡ r
             → Takes unit so_far base (Some command) before (take_any facts (Some command) before)
             (sold_any facts (Some command) before)
         by true is =
             let so = repeated_so fields facts.taken its before.holds is in
-            let to = taken_by facts command before true is in
-            inl (
-              record {
-                transaction = so.0;
-                is = so.1;
-                holds_some = so.2;
-                last = λ told. sym (taken_so facts.taken allowed.taken told) ∙ so.3;
-              },
-              to.0,
-              to.1,
-            )
-        by false is =
-            let to = taken_by facts command before false is in
-            inr (
-              λ t is_own held told same.
-                  let last = taken_so facts.taken allowed.taken told ∙ same in
-                  let clash : false ≡ true = sym is ∙ ap (λ l. repeats l its before.holds) last
-                  ∙ repeated fields t its before.holds is_own held in
-                  absurd cc,
-              to.0,
-              to.1 ∙ ap (λ c. ended_by approved command (value c facts.amount)) allowed.config
-                  ∙ ap (λ a. ended_by approved command (value base.config a)) allowed.amount,
-            )
+            let again : MayBeAgain unit so_far (Some command) before.holds = record {
+              transaction = so.0;
+              is = so.1;
+              holds_some = so.2;
+              last = λ told. sym (taken_so facts.taken allowed.taken told) ∙ so.3;
+            } in
+            inl (again, rw is refl, rw is refl)
+        by false is = inr (
+          λ t is_own held told same.
+              let last = taken_so facts.taken allowed.taken told ∙ same in
+              let clash : true ≡ false = sym (repeated fields t its before.holds is_own held)
+              ∙ (sym (ap (λ l. repeats l its before.holds) last) ∙ is) in
+              absurd cc,
+          rw is refl,
+          rw (is, allowed.config, allowed.amount) refl,
+        )
 
     -- a guess with which a command isn't repeated
     another_guess : (its : Option Transaction) (holds : Bool) (guess : Option Transaction)
@@ -414,191 +299,150 @@ module _ (unit : ReaderUnit) (setups : Setups) (profile : Profile) (so_far : Lis
     takes_from None before after sold guess may (inl again) = absurd cc
     takes_from (Some command) before after sold guess may (inl again) =
         let t = again.0.transaction in
-        let its = transaction_of command in (
+        let is = repeated fields t (transaction_of command) before.holds again.0.is
+        again.0.holds_some in (
           Some t,
           (
             taken_allows (Some t) (λ told. sym (again.0.last told)),
-            own_is its t (Some t) guess again.0.is,
-            λ a k.
-                let to = taken_by (guessing base a (Some t) k) command before true
-                (repeated fields t its before.holds again.0.is again.0.holds_some) in
-                (to.0 ∙ sym again.1, to.1 ∙ sym again.2),
+            rw again.0.is refl,
+            rw is (sym again.1),
+            rw is (sym again.2),
           ),
         )
     takes_from None before after sold guess may (inr another) =
-        (guess, (may, refl, λ a k. (sym another.1, sym another.2)))
+        (guess, (may, refl, sym another.1, sym another.2))
     takes_from (Some command) before after sold guess may (inr another) =
-        let one = another_guess (transaction_of command) before.holds guess may another.0 in (
-          one.0,
-          (
-            one.1,
-            one.2,
-            λ a k.
-                let to = taken_by (guessing base a one.0 k) command before false one.3 in
-                (to.0 ∙ sym another.1, to.1 ∙ sym another.2),
-          ),
-        )
+        let one = another_guess (transaction_of command) before.holds guess may another.0 in
+        (one.0, (one.1, one.2, rw one.3 (sym another.1), rw one.3 (sym another.2)))
 
     -- an ACK
-    pub acked : (command : ReaderCommand) (choice : Choice) (before after : ReaderState)
-        (gains : Gains)
-        → (machine unit (Joined setups profile)).Step so_far
-        (acts.Ack (commands.Reader unit command)) choice before after gains
-        ↔ AckWay unit so_far base command choice before after gains
-    acked command choice before after gains = (way.1, way.0)
-      where
-        its : Option ReaderCommand
-        its = Some command
+    module _ (command : ReaderCommand) (choice : Choice) (before after : ReaderState)
+        (gains : Gains) where
+      pub acked : (machine unit (Joined setups profile)).Step so_far
+          (acts.Ack (commands.Reader unit command)) choice before after gains
+          ↔ AckWay unit so_far base command choice before after gains
+      acked = (way.1, way.0)
+        where
+          forth : AckWay unit so_far base command choice before after gains
+              → OfSome known before.holds (λ facts. AckStep facts command choice before after gains)
+          forth way =
+              let one = takes_from (Some command) before way.middle way.sold base.taken its_taken
+              way.takes in
+              let kept = a_list before.holds in (
+                keeping (record base { taken = one.0 }) kept.0,
+                guess_allowed before.holds base.asked one.0 kept.0 its_asked one.1.0 kept.1,
+                record {
+                  poll = way.poll;
+                  to = rw one.1.2 way.to;
+                  gained = rw one.1.3 way.gained;
+                },
+              )
 
-        way : AckWay unit so_far base command choice before after gains
-            ↔ StepKnowing unit known (acts.Ack (commands.Reader unit command)) choice before after
-            gains
-        way = acks_knowing unit known _ (commands.Reader unit command) command choice before after
-            gains _ refl (own_of_unit unit command) (
-              λ way.
-                  let one = takes_from its before way.middle way.sold base.taken its_taken
-                  way.takes in
-                  let kept = a_list before.holds in
-                  let to = one.1.2 base.asked kept.0 in (
-                    guessing base base.asked one.0 kept.0,
-                    guess_allowed before.holds base.asked one.0 kept.0 its_asked one.1.0 kept.1,
-                    record {
-                      poll = way.poll;
-                      to = way.to ∙ ap (λ (m : ReaderState). record m {
-                        view = view_heard choice command before.view;
-                      }) (sym to.0);
-                      gained = way.gained
-                          ∙ ap (λ n. device_gains (in_slots (amounts 0 n))) (sym to.1);
-                    },
-                  ),
-              λ some. record {
-                middle = take_any some.0 its before;
-                sold = sold_any some.0 its before;
-                poll = some.2.poll;
-                takes = takes_to some.0 before.holds some.1 its before;
-                to = some.2.to;
-                gained = some.2.gained;
-              },
-            )
+          way : AckWay unit so_far base command choice before after gains
+              ↔ StepKnowing unit known (acts.Ack (commands.Reader unit command)) choice before after
+              gains
+          way = knowing_of (rw (own_of_unit unit command) (
+            forth,
+            λ some. record {
+              middle = take_any some.0 (Some command) before;
+              sold = sold_any some.0 (Some command) before;
+              poll = some.2.poll;
+              takes = takes_to some.0 before.holds some.1 (Some command) before;
+              to = some.2.to;
+              gained = some.2.gained;
+            },
+          ))
 
     -- a reply
-    pub replied : (command : ReaderCommand) (reply : Reply) (choice : Choice)
-        (before after : ReaderState) (gains : Gains)
-        → (machine unit (Joined setups profile)).Step so_far
-        (acts.Reply (commands.Reader unit command) reply) choice before after gains
-        ↔ ReplyWay unit so_far base command reply choice before after gains
-    replied command reply choice before after gains = (way.1, way.0)
-      where
-        its : Option ReaderCommand
-        its = taken command reply
+    module _ (command : ReaderCommand) (reply : Reply) (choice : Choice)
+        (before after : ReaderState) (gains : Gains) where
+      abbrev Way : Type 0
+      Way = ReplyWay unit so_far base command reply choice before after gains
 
-        kept : List ReaderActivity
-        kept = kept_of (parts_of reply)
+      abbrev Replies : Facts → Type 0
+      Replies facts = ReplyStep facts command reply choice before after gains
 
-        config : Option ReaderConfig → Option ReaderConfig
-        config known = or_else (last_said config_in (messages_of reply)) known
+      abbrev kept : List ReaderActivity
+      kept = kept_of (parts_of reply)
 
-        forth : (facts : Facts) × AllowsFacts known before.holds facts
-            × ReplyStep facts command reply choice before after gains
-            → ReplyWay unit so_far base command reply choice before after gains
-        forth some =
-            let facts = some.0 in
-            let allowed = some.1 in
-            let step = some.2 in
-            let middle = before_messages facts command reply choice before in
-            let sold = sold_any facts its (read choice before) in
-            let last = facts.past.last_kept in
-            let is = held_to unit so_far (is_poll command) middle.holds last kept step.news
-            (λ holds. some_kept before.holds last allowed.past.last_kept
-            (held_before facts command reply choice before holds))
-            (same_kept before.holds last allowed.past.last_kept) step.has_news.new in
+      to_way : OfSome known before.holds Replies → Way
+      to_way some =
+          let facts = some.0 in
+          let may = some.1 in
+          let step = some.2 in
+          let middle = before_messages facts command reply choice before in
+          let is = held_to unit so_far (is_poll command) middle.holds facts.past.last_kept kept
+          step.news
+          (λ holds. some_kept before.holds facts.past.last_kept may.past.last_kept
+          (held_before facts command reply choice before holds))
+          (same_kept before.holds facts.past.last_kept may.past.last_kept) step.has_news.new in
+          record {
+            middle = middle;
+            sold = sold_any facts (taken command reply) (read choice before);
+            count = is.0;
+            last = facts.taken;
+            may_be_read = step.has_news.read;
+            takes = takes_to facts before.holds may (taken command reply) (read choice before);
+            held = is.1.0;
+            reset = rw (may.past.reset_owed ∙ same_owed) at step.has_news.reset;
+            known = taken_so facts.taken may.taken;
+            told = rw is.1.1 at step.told;
+            view = step.view;
+            holds = step.holds;
+            gained = (rw is.1.1 at step.gained)
+                ∙ ap (λ c. device_gains (in_slots (amounts (all_approved
+                (or_else (last_said config_in (messages_of reply)) c) (drop is.0 kept))
+                (sold_any facts (taken command reply) (read choice before))))) may.config;
+          }
+
+      from_way : Way → OfSome known before.holds Replies
+      from_way way =
+          let one = takes_from (taken command reply) (read choice before) way.middle way.sold
+          way.last (taken_allows way.last way.known) way.takes in
+          let list = held_from (is_poll command) way.middle.holds before.holds kept way.count
+          way.held in (
+            keeping (record base { taken = one.0 }) list.0,
+            guess_allowed before.holds base.asked one.0 list.0 its_asked one.1.0 list.1.0,
             record {
-              middle = middle;
-              sold = sold;
-              count = is.0;
-              last = facts.taken;
-              may_be_read = step.has_news.read;
-              takes = takes_to facts before.holds allowed its (read choice before);
-              held = is.1.0;
-              reset = subst (λ b. MayBeKept (resets (effect_of_own its) || b) (parts_of reply))
-                  (allowed.past.reset_owed ∙ same_owed) step.has_news.reset;
-              known = taken_so facts.taken allowed.taken;
-              told = ap (λ n. all_told (or_else (own_transaction its) facts.taken) n middle.device)
-                  (sym is.1.1) ∙ step.told;
-              view = step.view;
-              holds = step.holds;
-              gained = step.gained
-                  ∙ ap (λ n.
-                  device_gains (in_slots (amounts (all_approved (config facts.config) n) sold)))
-                  is.1.1
-                  ∙ ap (λ c. device_gains (in_slots
-                  (amounts (all_approved (config c) (drop is.0 kept)) sold))) allowed.config;
-            }
+              news = drop way.count kept;
+              has_news = record {
+                read = way.may_be_read;
+                reset = way.reset;
+                new = rw one.1.2 list.1.1;
+              };
+              told = rw (one.1.1, one.1.2) way.told;
+              view = way.view;
+              holds = rw one.1.2 way.holds;
+              gained = rw one.1.3 way.gained;
+            },
+          )
 
-        back : ReplyWay unit so_far base command reply choice before after gains
-            → (facts : Facts) × AllowsFacts known before.holds facts
-            × ReplyStep facts command reply choice before after gains
-        back way =
-            let news = drop way.count kept in
-            let one = takes_from its (read choice before) way.middle way.sold way.last
-            (taken_allows way.last way.known) way.takes in
-            let list = held_from (is_poll command) way.middle.holds before.holds kept way.count
-            way.held in
-            let facts = guessing base base.asked one.0 list.0 in
-            let to = one.1.2 base.asked list.0 in (
-              facts,
-              guess_allowed before.holds base.asked one.0 list.0 its_asked one.1.0 list.1.0,
-              record {
-                news = news;
-                has_news = record {
-                  read = way.may_be_read;
-                  reset = way.reset;
-                  new = subst (λ (m : ReaderState).
-                      IsNew (is_poll command) (held m.holds list.0) kept news) (sym to.0) list.1.1;
-                };
-                told = ap (λ l. all_told l news (take_any facts its (read choice before)).device)
-                    one.1.1
-                    ∙ ap (λ (m : ReaderState). all_told (or_else (own_transaction its) way.last)
-                    news m.device) to.0 ∙ way.told;
-                view = way.view;
-                holds = way.holds
-                    ∙ ap (λ (m : ReaderState). holds_after kept m.holds) (sym to.0);
-                gained = way.gained ∙ ap (λ n. device_gains (in_slots
-                    (amounts (all_approved (config base.config) news) n))) (sym to.1);
-              },
-            )
-
-        way : ReplyWay unit so_far base command reply choice before after gains
-            ↔ StepKnowing unit known (acts.Reply (commands.Reader unit command) reply) choice
-            before after gains
-        way = replies_knowing unit known _ (commands.Reader unit command) reply command choice
-            before after gains _ refl (own_of_unit unit command) (back, forth)
+      pub replied : (machine unit (Joined setups profile)).Step so_far
+          (acts.Reply (commands.Reader unit command) reply) choice before after gains ↔ Way
+      replied =
+          let way : Way ↔ StepKnowing unit known (acts.Reply (commands.Reader unit command) reply)
+          choice before after gains =
+          knowing_of (rw (own_of_unit unit command) (from_way, to_way)) in
+          (way.1, way.0)
 
   -- any other act leads where it does after the facts that were told
+  settled_same : (act : Act) → IsSettled unit so_far act → (holds : Bool) (facts : Facts)
+      → AllowsFacts known holds facts → Same unit base facts act
+  settled_same (acts.Ask command) (inl none) holds facts may =
+      λ its is. inr (sym (ap own_transaction is) ∙ none)
+  settled_same (acts.Ask command) (inr sends) holds facts may = λ its is.
+      inl (asked_so setups profile (last_told (asked_by unit) so_far) facts.asked may.asked
+      (λ none. sends ((none_asked unit so_far).1 none)))
+  settled_same (acts.Ack command) none holds facts may = λ its is. cc
+  settled_same (acts.Reply command reply) none holds facts may = λ its is. cc
+  settled_same act settled holds facts may = tt
+
   pub settled_way : (act : Act) (choice : Choice) (before after : ReaderState) (gains : Gains)
       → IsSettled unit so_far act
       → StepKnowing unit known act choice before after gains
       ↔ ReaderStep unit base act choice before after gains
-  settled_way act choice before after gains settled = (
-    λ step.
-        let facts = step.facts in
-        step_same unit base facts.asked base.asked facts.taken base.taken facts.past.last_kept
-        base.past.last_kept act choice before after gains
-        (same_so unit so_far facts.asked base.asked facts.taken base.taken facts.past.last_kept
-        base.past.last_kept
-        (λ sends. sym (asked_so setups profile (last_told (asked_by unit) so_far) facts.asked
-        step.allowed.asked (λ none. sends (asked_by_none unit so_far none)))) act settled)
-        (subst (λ f. ReaderStep unit f act choice before after gains)
-        (as_guess before.holds facts step.allowed) step.step),
-    λ step.
-        let kept = a_list before.holds in
-        record {
-          facts = guessing base base.asked base.taken kept.0;
-          allowed = guess_allowed before.holds base.asked base.taken kept.0 its_asked its_taken
-              kept.1;
-          step = step_same unit base base.asked base.asked base.taken base.taken
-              base.past.last_kept kept.0 act choice before after gains
-              (same_so unit so_far base.asked base.asked base.taken base.taken base.past.last_kept
-              kept.0 (λ sends. refl) act settled) step;
-        },
-  )
+  settled_way act choice before after gains settled =
+      let kept = a_list before.holds in
+      settled_steps unit choice before after gains base kept.0
+      (guess_allowed before.holds base.asked base.taken kept.0 its_asked its_taken kept.1) act
+      (settled_same act settled before.holds)

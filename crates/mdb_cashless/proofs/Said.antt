@@ -1,4 +1,6 @@
-use Rattle.std.proofs.Common.{◌≡◌, ◌∙◌, ◌||◌, ◌++◌, Bool, true, false, List, [], ◌∷◌, Option, Some, None, refl, ap, sym, subst, map}
+-- What messages of a reader say, one after another.
+use Rattle.std.proofs.lemmas.Grind.{common_steps}
+use Rattle.std.proofs.Common.{arith, ◌≡◌, ◌∙◌, ◌||◌, ◌++◌, Bool, true, false, List, [], ◌∷◌, Option, Some, None, refl, ap, sym, subst, map}
 use Rattle.std.specs.List.{list_any}
 use Rattle.std.specs.Option.{option_or}
 use Rattle.std.proofs.lemmas.List.{map-append}
@@ -14,17 +16,14 @@ use Rattle.mdb_cashless.specs.inner.ReaderSaid.{IsSaid}
 
 -- two words for one thing
 pub or_is : {X : Type 0} (one other : Option X) → option_or one other ≡ or_else one other
-or_is None other = refl
-or_is (Some x) other = refl
+or_is one other = grind (arith, common_steps)
 
 pub or_none : {X : Type 0} (one : Option X) → or_else one None ≡ one
-or_none None = refl
-or_none (Some x) = refl
+or_none one = grind (arith, common_steps)
 
 or_assoc : {X : Type 0} (one other third : Option X)
     → or_else (or_else one other) third ≡ or_else one (or_else other third)
-or_assoc None other third = refl
-or_assoc (Some x) other third = refl
+or_assoc one other third = grind (arith, common_steps)
 
 -- what the last of messages says, with one message more
 last_said-more : {X : Type 0} (says : ReaderMsg → Option X) (messages : List ReaderMsg)
@@ -35,15 +34,9 @@ last_said-more says (message ∷ messages) m =
     ap (λ o. or_else o (says message)) (last_said-more says messages m)
     ∙ or_assoc (says m) (last_said says messages) (says message)
 
-or_last : (a b : Bool) → (a || (b || false)) ≡ (b || a)
-or_last true true = refl
-or_last true false = refl
-or_last false true = refl
-or_last false false = refl
-
 any_last : (f : ReaderMsg → Bool) (messages : List ReaderMsg) (m : ReaderMsg)
     → list_any f (messages ++ m ∷ []) ≡ (f m || list_any f messages)
-any_last f messages m = list_any-append f messages (m ∷ []) ∙ or_last (list_any f messages) (f m)
+any_last f messages m = list_any-append f messages (m ∷ []) ∙ grind (arith, common_steps)
 
 -- what messages say with one message more
 pub said_more : (old new : Said) (messages : List ReaderMsg) (m : ReaderMsg) → IsSaid old messages
@@ -55,27 +48,11 @@ pub said_more : (old new : Said) (messages : List ReaderMsg) (m : ReaderMsg) →
     → new.begins ≡ (begins_session m || old.begins)
     → new.refused ≡ (is_out_of_sequence m || old.refused)
     → IsSaid new (messages ++ m ∷ [])
-said_more old new messages m said summary config amount begins refused =
-    record {
-      summary_is =
-          subst (λ (parts : List (Part ReaderActivity)).
-          IsSummary new.summary.kept.items new.summary.reset new.summary.early parts)
-          (sym (map-append part_of messages (m ∷ [])))
-          (summary (map part_of messages) said.summary_is);
-      config_is =
-          config
-          ∙ (ap (or_else (config_in m)) said.config_is
-          ∙ sym (last_said-more config_in messages m));
-      amount_is =
-          amount
-          ∙ (ap (or_else (amount_in m)) said.amount_is
-          ∙ sym (last_said-more amount_in messages m));
-      begins_is =
-          begins
-          ∙ (ap (λ b. begins_session m || b) said.begins_is
-          ∙ sym (any_last begins_session messages m));
-      refused_is =
-          refused
-          ∙ (ap (λ b. is_out_of_sequence m || b) said.refused_is
-          ∙ sym (any_last is_out_of_sequence messages m));
-    }
+said_more old new messages m said summary config amount begins refused = record {
+  summary_is = rw (map-append part_of messages (m ∷ []))
+      (summary (map part_of messages) said.summary_is);
+  config_is = rw (config, said.config_is, last_said-more config_in) refl;
+  amount_is = rw (amount, said.amount_is, last_said-more amount_in) refl;
+  begins_is = rw (begins, said.begins_is, any_last begins_session) refl;
+  refused_is = rw (refused, said.refused_is, any_last is_out_of_sequence) refl;
+}

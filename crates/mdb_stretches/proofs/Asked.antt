@@ -26,22 +26,15 @@ use Rattle.mdb_stretches.specs.Parts.{EndInBlock}
 pub asked_there : (broken : Rule) (bytes others : List ℕ) (asked : Option ReaderUnit)
     → (broken ≡ rules.Profile → bytes ≡ others) → WhoIsAskedBefore broken bytes asked
     → WhoIsAskedBefore broken others asked
-asked_there rules.Profile bytes others asked same is =
-    subst (λ bs. WhoIsAsked bs asked) (same refl) is
+asked_there rules.Profile bytes others asked same is = rw (same refl) at is
 asked_there broken bytes others asked same is = is
 
 -- ---- one reader is asked
 
-one_reader : (one other : ReaderUnit) (a b : ReaderCommand) → Reader one a ≡ Reader other b
-    → one ≡ other
-one_reader one other a b same = cc same
-
 one_unit : (bytes : List ℕ) (one other : ReaderUnit) → OtherMoneyIsAsked bytes one
     → OtherMoneyIsAsked bytes other → one ≡ other
-one_unit bytes one other a b =
-    one_reader one other a.command b.command
-    (one_command (block_of bytes) (Reader one a.command) (Reader other b.command)
-    a.spelled b.spelled)
+one_unit bytes one other a b = cc (one_command (block_of bytes) (Reader one a.command)
+    (Reader other b.command) a.spelled b.spelled)
 
 one_more : (bytes : List ℕ) (one other : Option ReaderUnit) → WhoIsAsked bytes one
     → WhoIsAsked bytes other → one ≡ other
@@ -59,8 +52,7 @@ one_asked broken bytes one other a b = a ∙ sym b
 pub asked_beyond : (broken : Rule) (bytes : List ℕ) (asked : Option ReaderUnit)
     (unit : ReaderUnit) → asked ≡ Some unit → WhoIsAskedBefore broken bytes asked
     → (broken ≡ rules.Profile) × OtherMoneyIsAsked bytes unit
-asked_beyond rules.Profile bytes asked unit some is =
-    (refl, subst (WhoIsAsked bytes) some is)
+asked_beyond rules.Profile bytes asked unit some is = (refl, rw some at is)
 asked_beyond broken bytes asked unit some is = absurd (cc (some, is))
 
 -- ---- where they stand
@@ -84,8 +76,7 @@ act_open act = refl
 
 none_at : {T : Type 0} (bytes : List ℕ) (unit : ReaderUnit) → bytes ≡ []
     → OtherMoneyIsAsked bytes unit → T
-none_at bytes unit none asks =
-    absurd (none_asked unit (subst (λ bs. OtherMoneyIsAsked bs unit) none asks))
+none_at bytes unit none asks = absurd (none_asked unit (rw none at asks))
 
 -- rows with an act list end in the bytes that ask so
 pub ends_so : (scope : Scope) (pieces : List Piece) (rows : List Event) (unit : ReaderUnit)

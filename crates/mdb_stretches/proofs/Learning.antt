@@ -1,5 +1,6 @@
 -- What is told, and what was said last.
-use Rattle.std.proofs.Common.{refl, ap, ◌∙◌, ◌≡◌, List, [], ◌∷◌, Option, Some, None, option_map}
+use Rattle.std.proofs.lemmas.Grind.{common_steps}
+use Rattle.std.proofs.Common.{arith, refl, ap, ◌∙◌, ◌≡◌, List, [], ◌∷◌, Option, Some, None, option_map}
 use Rattle.mdb_msgs.specs.declared.command.Command.{Command}
 use Rattle.mdb_msgs.specs.declared.command.Command.TheVariants as commands
 use Rattle.mdb_msgs.specs.declared.command.Device.{Device}
@@ -64,8 +65,7 @@ levels_later begins told (piece ∷ pieces) = levels_later begins told pieces
 -- what is told last
 or_else_both : {X : Type 0} (one other last : Option X)
     → or_else one (or_else other last) ≡ or_else (or_else one other) last
-or_else_both (Some x) other last = refl
-or_else_both None other last = refl
+or_else_both one other last = grind (arith, common_steps)
 
 -- what is known of a device, where an act tells it or leaves it
 known_last : {X : Type 0} (of : Setups → Option X) (tells : Act → Option X) (begins : Beginning)
@@ -108,26 +108,20 @@ changer_step : (profile : Profile) (act : Act) (told : Told)
     ≡ or_else (setup_by changer.tables act) told.setups.changer
 changer_step profile (acts.Reply (commands.Changer command) (replies.ChangerSetup table)) told =
     refl
-changer_step profile (acts.Reply (commands.Changer command) reply) told = refl
 changer_step profile (acts.Reply (commands.Bill command) (replies.BillSetup table)) told = refl
-changer_step profile (acts.Reply (commands.Bill command) reply) told = refl
 changer_step profile (acts.Reply (commands.Reader unit command) (replies.Reader list)) told =
     (config_leaves unit (last_config list.messages)
     (heard profile (commands.Reader unit command) list told)).0
-changer_step profile (acts.Reply (commands.Reader unit command) reply) told = refl
 changer_step profile act told = refl
 
 bill_step : (profile : Profile) (act : Act) (told : Told)
     → (learnt_by profile act told).setups.bill
     ≡ or_else (setup_by bill.tables act) told.setups.bill
 bill_step profile (acts.Reply (commands.Changer command) (replies.ChangerSetup table)) told = refl
-bill_step profile (acts.Reply (commands.Changer command) reply) told = refl
 bill_step profile (acts.Reply (commands.Bill command) (replies.BillSetup table)) told = refl
-bill_step profile (acts.Reply (commands.Bill command) reply) told = refl
 bill_step profile (acts.Reply (commands.Reader unit command) (replies.Reader list)) told =
     (config_leaves unit (last_config list.messages)
     (heard profile (commands.Reader unit command) list told)).1
-bill_step profile (acts.Reply (commands.Reader unit command) reply) told = refl
 bill_step profile act told = refl
 
 -- the config of a reader's last config message, in one way and the other
@@ -136,8 +130,7 @@ same_config (messages.Config level code scale decimals response options) = refl
 same_config message = refl
 
 same_else : (one other : Option ReaderConfig) → setup.or_else one other ≡ or_else one other
-same_else (Some config) other = refl
-same_else None other = refl
+same_else one other = grind (arith, common_steps)
 
 same_last : (list : List ReaderMsg) → last_config list ≡ last_said config_in list
 same_last [] = refl
@@ -163,47 +156,32 @@ other_config : (config : Option ReaderConfig) (told : Told)
 other_config None told = (refl, refl)
 other_config (Some config) told = (refl, refl)
 
-first_step : (profile : Profile) (act : Act) (told : Told)
-    → (learnt_by profile act told).setups.first_reader.config
-    ≡ or_else (reader.config_by First act) told.setups.first_reader.config
-first_step profile (acts.Reply (commands.Changer command) (replies.ChangerSetup table)) told = refl
-first_step profile (acts.Reply (commands.Changer command) reply) told = refl
-first_step profile (acts.Reply (commands.Bill command) (replies.BillSetup table)) told = refl
-first_step profile (acts.Reply (commands.Bill command) reply) told = refl
-first_step profile (acts.Reply (commands.Reader First command) (replies.Reader list)) told =
+own_step : (unit : ReaderUnit) (profile : Profile) (act : Act) (told : Told)
+    → config_known (learnt_by profile act told).setups unit
+    ≡ or_else (reader.config_by unit act) (config_known told.setups unit)
+own_step First profile (acts.Reply (commands.Reader First command) (replies.Reader list)) told =
     own_config First (last_config list.messages)
     (heard profile (commands.Reader First command) list told)
-    ∙ ap (λ c. or_else c told.setups.first_reader.config) (same_last list.messages)
-first_step profile (acts.Reply (commands.Reader Second command) (replies.Reader list)) told =
-    ap (λ r. r.config) (other_config (last_config list.messages)
-    (heard profile (commands.Reader Second command) list told)).0
-first_step profile (acts.Reply (commands.Reader First command) reply) told = refl
-first_step profile (acts.Reply (commands.Reader Second command) reply) told = refl
-first_step profile act told = refl
-
-second_step : (profile : Profile) (act : Act) (told : Told)
-    → (learnt_by profile act told).setups.second_reader.config
-    ≡ or_else (reader.config_by Second act) told.setups.second_reader.config
-second_step profile (acts.Reply (commands.Changer command) (replies.ChangerSetup table)) told = refl
-second_step profile (acts.Reply (commands.Changer command) reply) told = refl
-second_step profile (acts.Reply (commands.Bill command) (replies.BillSetup table)) told = refl
-second_step profile (acts.Reply (commands.Bill command) reply) told = refl
-second_step profile (acts.Reply (commands.Reader Second command) (replies.Reader list)) told =
+    ∙ rw (same_last list.messages) refl
+own_step Second profile (acts.Reply (commands.Reader Second command) (replies.Reader list)) told =
     own_config Second (last_config list.messages)
     (heard profile (commands.Reader Second command) list told)
-    ∙ ap (λ c. or_else c told.setups.second_reader.config) (same_last list.messages)
-second_step profile (acts.Reply (commands.Reader First command) (replies.Reader list)) told =
+    ∙ rw (same_last list.messages) refl
+own_step First profile (acts.Reply (commands.Reader Second command) (replies.Reader list)) told =
+    ap (λ r. r.config) (other_config (last_config list.messages)
+    (heard profile (commands.Reader Second command) list told)).0
+own_step Second profile (acts.Reply (commands.Reader First command) (replies.Reader list)) told =
     ap (λ r. r.config) (other_config (last_config list.messages)
     (heard profile (commands.Reader First command) list told)).1
-second_step profile (acts.Reply (commands.Reader First command) reply) told = refl
-second_step profile (acts.Reply (commands.Reader Second command) reply) told = refl
-second_step profile act told = refl
+own_step unit profile (acts.Reply (commands.Changer command) (replies.ChangerSetup table)) told =
+    refl
+own_step unit profile (acts.Reply (commands.Bill command) (replies.BillSetup table)) told = refl
+own_step unit profile act told = refl
 
 -- the config that a reader's machine knows, by either profile
 or_else_one : {X : Type 0} (told last : Option X) (before after : Option X)
     → or_else last before ≡ after → or_else (or_else told last) before ≡ or_else told after
-or_else_one (Some x) last before after same = refl
-or_else_one None last before after same = same
+or_else_one told last before after same = grind (arith, common_steps)
 
 config_told : (begins : Beginning) (unit : ReaderUnit) (acts : List Act)
     → or_else (last_told (reader.config_by unit) acts)
@@ -220,9 +198,6 @@ config_told begins unit (act ∷ before) =
         → or_else (reader.config_by unit act) facts.config
         ≡ (extended.facts_after unit act facts).config
     told_by_act unit (acts.Ask command) facts = refl
-    told_by_act unit (acts.Reply command reply) facts = refl
-    told_by_act unit (acts.VmcAck command reply) facts = refl
-    told_by_act unit (acts.Break length) facts = refl
     told_by_act unit act facts = refl
 
 same_known : (begins : Beginning) (unit : ReaderUnit) (acts : List Act)
@@ -230,26 +205,12 @@ same_known : (begins : Beginning) (unit : ReaderUnit) (acts : List Act)
     (known_before (λ setups. config_known setups unit) begins)
     ≡ config_of (facts_of begins unit acts)
 same_known (PowerOn profiles.Base) unit acts = refl
-same_known (PowerOn profiles.Extended) unit acts =
-    config_told (PowerOn profiles.Extended) unit acts
 same_known (Joined setups profiles.Base) unit acts = refl
-same_known (Joined setups profiles.Extended) unit acts =
-    config_told (Joined setups profiles.Extended) unit acts
+same_known begins unit acts = config_told begins unit acts
 
-config_known_of : (begins : Beginning) (told : Told) (acts : List Act) (unit : ReaderUnit)
-    → told.setups ≡ setups_of begins
-    → config_known (told_after begins told acts).setups unit
-    ≡ config_of (facts_of begins unit acts)
-config_known_of begins told acts First is =
-    known_last (λ setups. config_known setups First) (reader.config_by First) begins
-    (first_step (profile_of begins)) told
-    (known_first (λ setups. config_known setups First) refl begins told is) acts
-    ∙ same_known begins First acts
-config_known_of begins told acts Second is =
-    known_last (λ setups. config_known setups Second) (reader.config_by Second) begins
-    (second_step (profile_of begins)) told
-    (known_first (λ setups. config_known setups Second) refl begins told is) acts
-    ∙ same_known begins Second acts
+none_known : (unit : ReaderUnit) → config_known nothing_known unit ≡ None
+none_known First = refl
+none_known Second = refl
 
 pub setups_after : (begins : Beginning) (told : Told) (acts : List Act)
     → told.setups ≡ setups_of begins → AreKnown begins (told_after begins told acts).setups acts
@@ -260,5 +221,8 @@ setups_after begins told acts is = record {
   bill = known_last (λ setups. setups.bill) (setup_by bill.tables) begins
       (bill_step (profile_of begins)) told
       (known_first (λ setups. setups.bill) refl begins told is) acts;
-  reader = λ unit. config_known_of begins told acts unit is;
+  reader = λ unit. known_last (λ setups. config_known setups unit) (reader.config_by unit) begins
+      (own_step unit (profile_of begins)) told
+      (known_first (λ setups. config_known setups unit) (none_known unit) begins told is) acts
+      ∙ same_known begins unit acts;
 }

@@ -1,5 +1,6 @@
 -- Whose options are told, and what the next stretch knows of levels and options.
-use Rattle.std.proofs.Common.{refl, ap, ◌∙◌, ◌≡◌, Bool, true, false, if◌then◌else◌, List, [], ◌∷◌, Option, Some, None}
+use Rattle.std.proofs.lemmas.Grind.{common_steps}
+use Rattle.std.proofs.Common.{arith, refl, ap, ◌∙◌, ◌≡◌, Bool, true, false, if◌then◌else◌, List, [], ◌∷◌, Option, Some, None}
 use Rattle.mdb_msgs.specs.declared.command.Command.{Command}
 use Rattle.mdb_msgs.specs.declared.command.ReaderCommand.{ReaderCommand}
 use Rattle.mdb_msgs.specs.declared.command.ReaderCommand.TheVariants as readers
@@ -60,9 +61,7 @@ last_flag : (powered enabled was now : Bool) (later : Option Bool)
     → Some (if powered then false else if enabled then true else now)
     ≡ or_else (or_else (if powered then Some false else if enabled then Some true else None) later)
     (Some was)
-last_flag true enabled was now later is = refl
-last_flag false true was now later is = refl
-last_flag false false was now later is = is
+last_flag powered enabled was now later is = grind (arith, common_steps)
 
 pub told_last : (begins : Beginning) (told : Told) (done : List Act) (unit : ReaderUnit)
     → AreOptionsTold unit done (options_at unit told.options)

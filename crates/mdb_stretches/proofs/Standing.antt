@@ -37,7 +37,7 @@ use Rattle.mdb_stretches.specs.Told.{told_after, told_if, told_on}
 use Rattle.mdb_stretches.specs.Totals.{with_report}
 use Rattle.mdb_stretches.specs.inner.Halts.{HasHalted}
 use Rattle.mdb_stretches.proofs.Asked.{asked_there}
-use Rattle.mdb_stretches.proofs.Leading.{lead_faults, lead_more, lead_on}
+use Rattle.mdb_stretches.proofs.Leading.{lead_faults, lead_further, lead_on}
 
 -- a transcript has one act list
 abbrev pub OneActList : Type 0
@@ -53,8 +53,7 @@ no_acts one scope pieces list =
 pub told_nothing : OneActList → (scope : Scope) (told : Told) (pieces : List Piece)
     → IsActList scope pieces []
     → told ≡ told_after scope.begins told (acts_of pieces)
-told_nothing one scope told pieces list =
-    ap (told_after scope.begins told) (sym (no_acts one scope pieces list))
+told_nothing one scope told pieces list = rw (no_acts one scope pieces list) refl
 
 -- what is told with one act more, if there is one
 learnt_more : (begins : Beginning) (told : Told) (act : Option Act) (acts : List Act)
@@ -63,89 +62,22 @@ learnt_more : (begins : Beginning) (told : Told) (act : Option Act) (acts : List
 learnt_more begins told None acts = refl
 learnt_more begins told (Some act) acts = refl
 
--- a row is taken
-pub taken_more : OneActList → (old new : Surveyor) (scope : Scope) (rows : List Event)
-    (ended : List Ended) (row : Event) (act : Option Act) → StandsFor old scope rows ended
-    → ((events : List Event) → follow.StandsFor old.follower events
-    → follow.StandsFor new.follower (events ++ row ∷ []))
-    → follow.scope_of new.follower ≡ follow.scope_of old.follower
-    → ((events : List Event) → follow.StandsFor old.follower events
-    → IsEndedAct (follow.scope_of old.follower) events row act)
-    → new.told ≡ told_if old.scope.begins act old.told → new.scope ≡ old.scope
-    → new.before ≡ old.before
-    → new.faults ≡ old.faults → new.totals ≡ old.totals
-    → StandsFor new scope (rows ++ row ∷ []) ended
-taken_more one old new scope rows ended row act on follows same_scope ends learnt so before faults
-    totals =
-    let it : IsEndedAct on.place.scope on.running row act =
-    subst (λ s. IsEndedAct s on.running row act) on.followed_so (ends on.running on.follows) in
-    let begins : Beginning = on.place.scope.begins in
-    record {
-      running = on.running ++ row ∷ [];
-      place = on.place;
-      lead = lead_more (first_place scope) rows ended on.running on.place row on.lead;
-      follows = follows on.running on.follows;
-      followed_so = same_scope ∙ on.followed_so;
-      taken_so = so ∙ on.taken_so;
-      told = λ pieces list.
-          learnt ∙ ap (λ (s : Scope). told_if s.begins act old.told) on.taken_so
-          ∙ ap (told_if begins act) (on.told it.before it.shorter)
-          ∙ learnt_more begins on.place.told act (acts_of it.before)
-          ∙ ap (told_after begins on.place.told) (sym it.acts)
-          ∙ ap (λ ps. told_after begins on.place.told (acts_of ps)) (one on.place.scope
-          (on.running ++ row ∷ []) (it.newest ∷ it.earlier) pieces it.act_list list);
-      before = before ∙ on.before;
-      faults = faults ∙ on.faults;
-      totals = totals ∙ on.totals;
-    }
-
 -- the block that is open on a follower's bus is that in which its rows end
 block_on : OneActList → (follower : Follower) (rows : List Event)
     → follow.StandsFor follower rows → (scope : Scope) → follow.scope_of follower ≡ scope
     → (pieces : List Piece) → IsActList scope pieces rows
     → follow.open_block_of follower ≡ open_block (position_of scope pieces)
 block_on one follower rows on scope so pieces list =
+    let its : IsActList (follow.scope_of follower) on.pieces rows =
+    record { in_order = on.on_bus.in_order; whole = on.whole } in
     ap open_block (sym on.on_bus.position)
-    ∙ ap (λ s. open_block (position_of s on.pieces)) so
-    ∙ ap (λ ps. open_block (position_of scope ps)) (one scope rows on.pieces pieces
-    (subst (λ s. IsActList s on.pieces rows) so
-    (record { in_order = on.on_bus.in_order; whole = on.whole })) list)
+    ∙ rw (so, one scope rows on.pieces pieces (rw so at its) list) refl
 
 -- an offence that is noted
 the_offence : (noted : Option Offence) (P : Offence → Type 0) → IsSomeAnd noted P
     → (offence : Offence) × (noted ≡ Some offence) × P offence
 the_offence None P met = absurd met
 the_offence (Some offence) P met = (offence, refl, met)
-
--- a row is met that can't be
-pub halted_by : OneActList → (old now : Surveyor) (scope : Scope) (rows : List Event)
-    (row : Event) (ended : List Ended) → StandsFor old scope rows ended
-    → IsSomeAnd (follow.offence_of now.follower) (HasRefused old.follower now.follower row)
-    → follow.scope_of now.follower ≡ follow.scope_of old.follower
-    → now.told ≡ old.told → now.scope ≡ old.scope → now.before ≡ old.before
-    → now.faults ≡ old.faults → now.totals ≡ old.totals
-    → HasHalted now scope rows row ended
-halted_by one old now scope rows row ended on met same_scope told so before faults totals =
-    let it = the_offence (follow.offence_of now.follower) _ met in record {
-      offence = it.0;
-      noted = it.1;
-      running = on.running;
-      place = on.place;
-      lead = on.lead;
-      accepted = it.2.accepted on.running on.follows;
-      followed_so = same_scope ∙ on.followed_so;
-      taken_so = so ∙ on.taken_so;
-      is =
-          subst (λ s. IsOffence s on.running row it.0) on.followed_so
-          (it.2.offence on.running on.follows);
-      told = λ pieces list. told ∙ on.told pieces list;
-      block = λ beyond pieces list. it.2.block beyond
-          ∙ block_on one old.follower on.running on.follows on.place.scope on.followed_so pieces
-          list;
-      before = before ∙ on.before;
-      faults = faults ∙ on.faults;
-      totals = totals ∙ on.totals;
-    }
 
 -- a stretch by its parts
 abbrev made : ℕ → ℕ → ℕ → Scope → Report → Stretch
@@ -174,21 +106,14 @@ left_moved : (profile : Profile) (told : Told) (offence : Offence) (before : ℕ
     → left_out_by_profile profile told (fault_by before offence) asked without
     ≡ left_out_by_profile profile told offence asked without
 left_moved Base told offence before asked without = refl
-left_moved Extended told offence before asked without = refl
+left_moved profile told offence before asked without = refl
 
 fault_moved : (told : Told) (offence : Offence) (before : ℕ) (asked : Option ReaderUnit)
     (scope : Scope) → scope_after told (fault_by before offence) asked scope
     ≡ scope_after told offence asked scope
 fault_moved told offence before asked scope =
-    let Left : DeviceSet → Scope = λ devices.
-    record (scope_after told offence asked scope) { without = devices } in
-    ap Left (left_moved (profile_of scope.begins) told offence before asked scope.without)
-
-same_stretch : (n m f g l k : ℕ) (s t : Scope) (report : Report) → n ≡ m → f ≡ g → l ≡ k → s ≡ t
-    → made n f l s report ≡ made m g k t report
-same_stretch n m f g l k s t report number first last so =
-    ap (λ x. made x f l s report) number ∙ ap (λ x. made m x l s report) first
-    ∙ ap (λ x. made m g x s report) last ∙ ap (λ x. made m g k x report) so
+    ap (λ devices. record (scope_after told offence asked scope) { without = devices })
+    (left_moved (profile_of scope.begins) told offence before asked scope.without)
 
 -- as many faults were counted as there are
 counted : (counts : FaultCounts) (ended : List Ended) → counts ≡ counts_of_ended ended
@@ -206,8 +131,9 @@ pub stretch_told : (scope : Scope) (rows : List Event) (ended : List Ended) (run
 stretch_told scope rows ended running place counts before taken report lead faults is so =
     let many : place.faults ≡ length ended =
     lead_faults (first_place scope) rows ended running place lead ∙ omega (arith) in
-    same_stretch _ _ _ _ _ _ _ _ report (omega (arith, counted counts ended faults, many))
-    (omega (arith, is)) (omega (arith, is)) so
+    let number : counts.all + 1 ≡ place.faults + 1 =
+    omega (arith, counted counts ended faults, many) in
+    rw (number, is, so) refl
 
 -- the stretch that runs
 pub runs : (surveyor : Surveyor) (scope : Scope) (rows : List Event) (ended : List Ended)
@@ -215,92 +141,139 @@ pub runs : (surveyor : Surveyor) (scope : Scope) (rows : List Event) (ended : Li
     → ((events : List Event) → follow.StandsFor surveyor.follower events
     → IsReport (follow.scope_of surveyor.follower) events report)
     → last ≡ running_with surveyor report → IsSurvey scope rows ended last
-runs surveyor scope rows ended report last on reports is =
-    subst (IsSurvey scope rows ended) (sym is) (record {
-      running = on.running;
-      place = on.place;
-      lead = on.lead;
-      is = record {
-        is =
-            subst (λ s. IsReport s on.running report) on.followed_so
-            (reports on.running on.follows);
-        begins = stretch_told scope rows ended on.running on.place surveyor.faults surveyor.before
-            surveyor.scope report on.lead on.faults on.before on.taken_so;
-      };
-    })
+runs surveyor scope rows ended report last on reports is = rw is (record {
+  running = on.running;
+  place = on.place;
+  lead = on.lead;
+  is = record {
+    is = rw on.followed_so at (reports on.running on.follows);
+    begins = stretch_told scope rows ended on.running on.place surveyor.faults surveyor.before
+        surveyor.scope report on.lead on.faults on.before on.taken_so;
+  };
+})
 
-some_one : (one other : Offence) → Some one ≡ Some other → one ≡ other
-some_one one other same = cc same
+module _ (one : OneActList) (old new : Surveyor) (scope : Scope) (rows : List Event) (row : Event)
+    (ended : List Ended) where
+  -- a row is taken
+  pub taken_more : (act : Option Act) → StandsFor old scope rows ended
+      → ((events : List Event) → follow.StandsFor old.follower events
+      → follow.StandsFor new.follower (events ++ row ∷ []))
+      → follow.scope_of new.follower ≡ follow.scope_of old.follower
+      → ((events : List Event) → follow.StandsFor old.follower events
+      → IsEndedAct (follow.scope_of old.follower) events row act)
+      → new.told ≡ told_if old.scope.begins act old.told → new.scope ≡ old.scope
+      → new.before ≡ old.before
+      → new.faults ≡ old.faults → new.totals ≡ old.totals
+      → StandsFor new scope (rows ++ row ∷ []) ended
+  taken_more act on follows same_scope ends learnt so before faults totals =
+      let it = rw on.followed_so at (ends on.running on.follows) in
+      let begins : Beginning = on.place.scope.begins in
+      record {
+        running = on.running ++ row ∷ [];
+        place = on.place;
+        lead = lead_further (first_place scope) rows ended on.running on.place (row ∷ []) on.lead;
+        follows = follows on.running on.follows;
+        followed_so = same_scope ∙ on.followed_so;
+        taken_so = so ∙ on.taken_so;
+        told = λ pieces list. learnt ∙ rw (on.taken_so, on.told it.before it.shorter)
+            (learnt_more begins on.place.told act (acts_of it.before)
+            ∙ rw (
+              one on.place.scope (on.running ++ row ∷ []) pieces (it.newest ∷ it.earlier) list
+                  it.act_list,
+              it.acts,
+            ) refl);
+        before = before ∙ on.before;
+        faults = faults ∙ on.faults;
+        totals = totals ∙ on.totals;
+      }
 
--- the stretch after a fault begins
-pub next_stands : OneActList → (old new : Surveyor) (scope : Scope) (rows : List Event)
-    (row : Event) (ended : List Ended) (offence : Offence) (report : Report) (stretch : Stretch)
-    (asked : Option ReaderUnit) → HasHalted old scope rows row ended
-    → follow.offence_of old.follower ≡ Some offence
-    → ((events : List Event) → follow.HasAccepted old.follower events
-    → IsReport (follow.scope_of old.follower) events report)
-    → stretch ≡ running_with old report → follow.StandsFor new.follower []
-    → WhoIsAskedBefore offence.rule (follow.open_block_of old.follower) asked
-    → follow.scope_of new.follower
-    ≡ scope_after old.told (fault_by old.before offence) asked old.scope
-    → new.scope ≡ scope_after old.told (fault_by old.before offence) asked old.scope
-    → new.told ≡ told_on new.scope.begins old.told → new.before ≡ old.before + offence.row
-    → ((faults : List Offence) → old.faults ≡ counts_of_faults faults
-    → new.faults ≡ counts_of_faults (fault_by old.before offence ∷ faults))
-    → new.totals ≡ with_report old.totals report
-    → StandsFor new scope (rows ++ row ∷ [])
-    (record { stretch = stretch; fault = fault_by old.before offence } ∷ ended)
-next_stands one old new scope rows row ended offence report stretch asked on noted reports same
-    begun asks follows_so so told before faults totals =
-    let pieces : List Piece = on.accepted.pieces in
-    let list : IsActList on.place.scope pieces on.running =
-    subst (λ s. IsActList s pieces on.running) on.followed_so on.accepted.act_list in
-    let so_far : Told = told_after on.place.scope.begins on.place.told (acts_of pieces) in
-    let known : old.told ≡ so_far = on.told pieces list in
-    let next : StretchStart =
-    place_after on.place (length on.running) (acts_of pieces) offence asked in
-    let after : scope_after old.told (fault_by old.before offence) asked old.scope ≡ next.scope =
-    fault_moved old.told offence old.before asked old.scope
-    ∙ ap (λ (t : Told). scope_after t offence asked old.scope) known
-    ∙ ap (λ (s : Scope). scope_after so_far offence asked s) on.taken_so in
-    let begins : new.scope ≡ next.scope = so ∙ after in
-    let begun_so : new.told ≡ next.told =
-    told ∙ ap (λ (s : Scope). told_on s.begins old.told) begins
-    ∙ ap (told_on next.scope.begins) known in
-    let met : on.offence ≡ offence = some_one on.offence offence (sym on.noted ∙ noted) in
-    let is : IsOffence on.place.scope on.running row offence =
-    subst (λ o. IsOffence on.place.scope on.running row o) met on.is in
-    let number : offence.row ≡ length on.running + 1 = is.number in
-    let Stands : Stretch → Type 0 = λ s. StandsFor new scope (rows ++ row ∷ [])
-    (record { stretch = s; fault = fault_by old.before offence } ∷ ended) in
-    subst Stands (sym same) (record {
-      running = [];
-      place = next;
-      lead = lead_on (first_place scope) rows ended on.running on.place row _ next on.lead (record {
-        stretch = record {
-          is = subst (λ s. IsReport s on.running report) on.followed_so
-              (reports on.running on.accepted);
-          begins = stretch_told scope rows ended on.running on.place old.faults old.before old.scope
-              report on.lead on.faults on.before on.taken_so;
-        };
-        offence = offence;
-        is = is;
-        row_is = ap (λ n. fault_by n offence) on.before;
-        pieces = pieces;
-        act_list = list;
-        asked = asked;
-        asked_is = asked_there offence.rule _ _ asked
-            (λ beyond. on.block (ap (λ (o : Offence). o.rule) met ∙ beyond) pieces list) asks;
-        on = refl;
-      });
-      follows = begun;
-      followed_so = follows_so ∙ after;
-      taken_so = begins;
-      told = λ ps none. begun_so ∙ told_nothing one next.scope next.told ps none;
-      before = omega (arith, before, on.before, number);
-      faults = faults (map (λ (it : Ended). it.fault) ended) on.faults;
-      totals = totals ∙ ap (λ (t : Totals). with_report t report) on.totals;
-    })
+  -- a row is met that can't be
+  pub halted_by : StandsFor old scope rows ended
+      → IsSomeAnd (follow.offence_of new.follower) (HasRefused old.follower new.follower row)
+      → follow.scope_of new.follower ≡ follow.scope_of old.follower
+      → new.told ≡ old.told → new.scope ≡ old.scope → new.before ≡ old.before
+      → new.faults ≡ old.faults → new.totals ≡ old.totals
+      → HasHalted new scope rows row ended
+  halted_by on met same_scope told so before faults totals =
+      let it = the_offence (follow.offence_of new.follower) _ met in
+      record {
+        offence = it.0;
+        noted = it.1;
+        running = on.running;
+        place = on.place;
+        lead = on.lead;
+        accepted = it.2.accepted on.running on.follows;
+        followed_so = same_scope ∙ on.followed_so;
+        taken_so = so ∙ on.taken_so;
+        is = subst (λ s. IsOffence s on.running row it.0) on.followed_so
+            (it.2.offence on.running on.follows);
+        told = λ pieces list. told ∙ on.told pieces list;
+        block = λ beyond pieces list. it.2.block beyond
+            ∙ block_on one old.follower on.running on.follows on.place.scope on.followed_so pieces
+            list;
+        before = before ∙ on.before;
+        faults = faults ∙ on.faults;
+        totals = totals ∙ on.totals;
+      }
+
+  -- the stretch after a fault begins
+  pub next_stands : (offence : Offence) (report : Report) (stretch : Stretch)
+      (asked : Option ReaderUnit) → HasHalted old scope rows row ended
+      → follow.offence_of old.follower ≡ Some offence
+      → ((events : List Event) → follow.HasAccepted old.follower events
+      → IsReport (follow.scope_of old.follower) events report)
+      → stretch ≡ running_with old report → follow.StandsFor new.follower []
+      → WhoIsAskedBefore offence.rule (follow.open_block_of old.follower) asked
+      → follow.scope_of new.follower
+      ≡ scope_after old.told (fault_by old.before offence) asked old.scope
+      → new.scope ≡ scope_after old.told (fault_by old.before offence) asked old.scope
+      → new.told ≡ told_on new.scope.begins old.told → new.before ≡ old.before + offence.row
+      → ((faults : List Offence) → old.faults ≡ counts_of_faults faults
+      → new.faults ≡ counts_of_faults (fault_by old.before offence ∷ faults))
+      → new.totals ≡ with_report old.totals report
+      → StandsFor new scope (rows ++ row ∷ [])
+      (record { stretch = stretch; fault = fault_by old.before offence } ∷ ended)
+  next_stands offence report stretch asked on noted reports same begun asks follows_so so told
+      before faults totals =
+      let pieces = on.accepted.pieces in
+      let list = rw on.followed_so at on.accepted.act_list in
+      let next : StretchStart =
+      place_after on.place (length on.running) (acts_of pieces) offence asked in
+      let after : scope_after old.told (fault_by old.before offence) asked old.scope ≡ next.scope =
+      fault_moved old.told offence old.before asked old.scope
+      ∙ rw (on.told pieces list, on.taken_so) refl in
+      let met : on.offence ≡ offence = cc (on.noted, noted) in
+      let is = rw met at on.is in
+      let number = is.number in
+      rw same (record {
+        running = [];
+        place = next;
+        lead = lead_on (first_place scope) rows ended on.running on.place row _ next on.lead
+            (record {
+              stretch = record {
+                is = rw on.followed_so at (reports on.running on.accepted);
+                begins = stretch_told scope rows ended on.running on.place old.faults old.before
+                    old.scope report on.lead on.faults on.before on.taken_so;
+              };
+              offence = offence;
+              is = is;
+              row_is = ap (λ n. fault_by n offence) on.before;
+              pieces = pieces;
+              act_list = list;
+              asked = asked;
+              asked_is = asked_there offence.rule _ _ asked
+                  (λ beyond. on.block (ap (λ (o : Offence). o.rule) met ∙ beyond) pieces list) asks;
+              on = refl;
+            });
+        follows = begun;
+        followed_so = follows_so ∙ after;
+        taken_so = so ∙ after;
+        told = λ ps none. told ∙ rw (so ∙ after, on.told pieces list) refl
+            ∙ told_nothing one next.scope next.told ps none;
+        before = omega (arith, before, on.before, number);
+        faults = faults (map (λ (it : Ended). it.fault) ended) on.faults;
+        totals = totals ∙ ap (λ (t : Totals). with_report t report) on.totals;
+      })
 
 -- a summary by its parts
 abbrev summed : Totals → DeviceSet → FaultCounts → Summary
@@ -308,5 +281,4 @@ summed totals without faults = record { totals = totals; without = without; faul
 
 pub same_summary : (t u : Totals) (d e : DeviceSet) (f g : FaultCounts) → t ≡ u → d ≡ e → f ≡ g
     → summed t d f ≡ summed u e g
-same_summary t u d e f g totals without faults =
-    ap (λ x. summed x d f) totals ∙ ap (λ x. summed u x f) without ∙ ap (λ x. summed u e x) faults
+same_summary t u d e f g totals without faults = rw (totals, without, faults) refl

@@ -42,33 +42,16 @@ unvalued_sums totals report =
 -- how far from 0 they are then
 range_within : (limit more : ℕ) (one other : Range) → IsRangeWithin limit one
     → IsRangeWithin more other → IsRangeWithin (limit + more) (added_range one other)
-range_within limit more one other first second = record {
-  least_low = omega (arith, ints, first.least_low, second.least_low);
-  least_high = omega (arith, ints, first.least_high, second.least_high);
-  greatest_low = omega (arith, ints, first.greatest_low, second.greatest_low);
-  greatest_high = omega (arith, ints, first.greatest_high, second.greatest_high);
-}
+range_within limit more one other first second = search (arith, ints)
 
 account_within : (limit more : ℕ) (one other : Account) → IsAccountWithin limit one
     → IsAccountWithin more other → IsAccountWithin (limit + more) (added_account one other)
-account_within limit more one other first second = record {
-  device = range_within limit more one.device other.device first.device second.device;
-  controller = range_within limit more one.controller other.controller first.controller
-      second.controller;
-  difference = range_within limit more one.difference other.difference first.difference
-      second.difference;
-}
+account_within limit more one other first second = search (range_within, arith)
 
 -- and how many rows came out of their time
 few_added : (limit more : ℕ) (one other : Untimely) → AreFew limit one → AreFew more other
     → AreFew (limit + more) (added_untimely one other)
-few_added limit more one other first second = record {
-  controller = omega (arith, first.controller, second.controller);
-  changer = omega (arith, first.changer, second.changer);
-  bill = omega (arith, first.bill, second.bill);
-  cashless = omega (arith, first.cashless, second.cashless);
-  cashless2 = omega (arith, first.cashless2, second.cashless2);
-}
+few_added limit more one other first second = search arith
 
 few_of_both : (limit more : ℕ) (one other : Option Untimely) → ForSome one (AreFew limit)
     → ForSome other (AreFew more) → ForSome (untimely_of_both one other) (AreFew (limit + more))

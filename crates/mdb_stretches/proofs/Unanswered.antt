@@ -65,13 +65,7 @@ own_reply : (profile : Profile) (unit : ReaderUnit) (asked : ReaderCommand) (lis
     told) ≡ answered_by unit told config
     → Does profile unit (acts.Reply (commands.Reader unit asked) (replies.Reader list)) told
 own_reply profile unit asked list told None none step =
-    neither (
-      λ level tells. cc (tells.is),
-      λ has. let same : list ≡ has.list = cc (has.is) in
-          let clash : None ≡ Some has.config =
-          sym none ∙ ap (λ l. last_config l.messages) same ∙ has.has in
-          cc clash,
-    ) step
+    neither (λ level tells. cc (tells.is), λ has. cc (none, has.has, has.is)) step
 own_reply profile unit asked list told (Some config) is step =
     answers (record { asked = asked; list = list; is = refl; config = config; has = is }) step
 
@@ -117,14 +111,8 @@ does profile unit act told = neither (λ level tells. cc (tells.is), λ has. cc 
 tells_by : (profile : Profile) (unit : ReaderUnit) (level : ℕ) (act : Act) (told : Told)
     → TellsLevel unit level act
     → Does profile unit act told → kept unit (learnt_by profile act told) ≡ Some level
-tells_by profile unit level act told it (tells other also is) =
-    let same : other ≡ level = cc (it.is, also.is) in
-    is ∙ ap (λ l. Some l) same
-tells_by profile unit level act told it (answers has is) =
-    let clash : acts.Ask (commands.Reader unit
-    (readers.SetupConfig level it.columns it.rows it.display))
-    ≡ acts.Reply (commands.Reader unit has.asked) (replies.Reader has.list) = sym it.is ∙ has.is in
-    cc clash
+tells_by profile unit level act told it (tells other also is) = is ∙ cc (it.is, also.is)
+tells_by profile unit level act told it (answers has is) = cc (it.is, has.is)
 tells_by profile unit level act told it (neither is_neither is) = absurd (is_neither.0 level it)
 
 leaves_by : (profile : Profile) (unit : ReaderUnit) (act : Act) (told : Told) → IsNeither unit act
@@ -133,86 +121,74 @@ leaves_by profile unit act told is_neither (tells level it is) = absurd (is_neit
 leaves_by profile unit act told is_neither (answers has is) = absurd (is_neither.1 has)
 leaves_by profile unit act told is_neither (neither so is) = is
 
-leave : (begins : Beginning) (unit : ReaderUnit) (told : Told) (done : List Act)
-    → All (IsNeither unit) done
-    → kept unit (told_after begins told done) ≡ kept unit told
-leave begins unit told [] since = refl
-leave begins unit told (act ∷ done) since =
-    leaves_by (profile_of begins) unit act (told_after begins told done)
-    (All-head (IsNeither unit) act done since)
-    (does (profile_of begins) unit act (told_after begins told done))
-    ∙ leave begins unit told done (All-tail (IsNeither unit) act done since)
+module _ (begins : Beginning) (unit : ReaderUnit) (told : Told) where
+  -- what is told on of it after acts
+  abbrev Kept : List Act → Option ℕ
+  Kept done = kept unit (told_after begins told done)
 
-told_last : (begins : Beginning) (unit : ReaderUnit) (level : ℕ) (told : Told)
-    (later before : List Act) (ask : Act)
-    → TellsLevel unit level ask → All (IsNeither unit) later
-    → kept unit (told_after begins told (later ++ ask ∷ before)) ≡ Some level
-told_last begins unit level told [] before ask it since =
-    tells_by (profile_of begins) unit level ask (told_after begins told before) it
-    (does (profile_of begins) unit ask (told_after begins told before))
-told_last begins unit level told (act ∷ later) before ask it since =
-    let so_far : Told = told_after begins told (later ++ ask ∷ before) in
-    leaves_by (profile_of begins) unit act so_far (All-head (IsNeither unit) act later since)
-    (does (profile_of begins) unit act so_far)
-    ∙ told_last begins unit level told later before ask it
-    (All-tail (IsNeither unit) act later since)
+  goes : (act : Act) (done : List Act)
+      → Does (profile_of begins) unit act (told_after begins told done)
+  goes act done = does (profile_of begins) unit act (told_after begins told done)
 
--- what is told on, and why
-abbrev Why : Beginning → ReaderUnit → ℕ → Told → List Act → Type 0
-Why begins unit level told done =
-    IsUnanswered unit level done ⊎ (All (IsNeither unit) done × (kept unit told ≡ Some level))
+  same : (act : Act) (done : List Act) → IsNeither unit act → Kept (act ∷ done) ≡ Kept done
+  same act done is = leaves_by (profile_of begins) unit act _ is (goes act done)
 
-further : (begins : Beginning) (unit : ReaderUnit) (level : ℕ) (told : Told) (act : Act)
-    (done : List Act)
-    → IsNeither unit act → Why begins unit level told done
-    → Why begins unit level told (act ∷ done)
-further begins unit level told act done is_neither (inl last) = inl (record {
-  later = act ∷ last.later;
-  ask = last.ask;
-  before = last.before;
-  order = ap (λ l. act ∷ l) last.order;
-  tells = last.tells;
-  since = All-cons (IsNeither unit) act last.later is_neither last.since;
-})
-further begins unit level told act done is_neither (inr none) =
-    inr (All-cons (IsNeither unit) act done is_neither none.0, none.1)
+  leave : (done : List Act) → All (IsNeither unit) done → Kept done ≡ kept unit told
+  leave [] since = refl
+  leave (act ∷ done) since = same act done (All-head (IsNeither unit) act done since)
+      ∙ leave done (All-tail (IsNeither unit) act done since)
 
-why_by : (begins : Beginning) (unit : ReaderUnit) (level : ℕ) (told : Told) (act : Act)
-    (done : List Act)
-    → (kept unit (told_after begins told done) ≡ Some level → Why begins unit level told done)
-    → Does (profile_of begins) unit act (told_after begins told done)
-    → kept unit (learnt_by (profile_of begins) act (told_after begins told done)) ≡ Some level
-    → Why begins unit level told (act ∷ done)
-why_by begins unit level told act done why (tells other it is) kept_is =
-    let clash : Some other ≡ Some level = sym is ∙ kept_is in
-    let same : other ≡ level = cc clash in
-    inl (record {
-      later = [];
-      ask = act;
-      before = done;
-      order = refl;
-      tells = subst (λ l. TellsLevel unit l act) same it;
-      since = All-nil (IsNeither unit);
+  module _ (level : ℕ) where
+    told_last : (later before : List Act) (ask : Act) → TellsLevel unit level ask
+        → All (IsNeither unit) later → Kept (later ++ ask ∷ before) ≡ Some level
+    told_last [] before ask it since =
+        tells_by (profile_of begins) unit level ask _ it (goes ask before)
+    told_last (act ∷ later) before ask it since =
+        same act (later ++ ask ∷ before) (All-head (IsNeither unit) act later since)
+        ∙ told_last later before ask it (All-tail (IsNeither unit) act later since)
+
+    -- what is told on, and why
+    abbrev Why : List Act → Type 0
+    Why done = IsUnanswered unit level done
+        ⊎ (All (IsNeither unit) done × (kept unit told ≡ Some level))
+
+    further : (act : Act) (done : List Act) → IsNeither unit act → Why done → Why (act ∷ done)
+    further act done is_neither (inl last) = inl (record {
+      later = act ∷ last.later;
+      ask = last.ask;
+      before = last.before;
+      order = ap (λ l. act ∷ l) last.order;
+      tells = last.tells;
+      since = All-cons (IsNeither unit) act last.later is_neither last.since;
     })
-why_by begins unit level told act done why (answers has is) kept_is =
-    let clash : None ≡ Some level = sym is ∙ kept_is in
-    cc clash
-why_by begins unit level told act done why (neither is_neither is) kept_is =
-    further begins unit level told act done is_neither (why (sym is ∙ kept_is))
+    further act done is_neither (inr none) =
+        inr (All-cons (IsNeither unit) act done is_neither none.0, none.1)
 
-why_kept : (begins : Beginning) (unit : ReaderUnit) (level : ℕ) (told : Told) (done : List Act)
-    → kept unit (told_after begins told done) ≡ Some level → Why begins unit level told done
-why_kept begins unit level told [] is = inr (All-nil (IsNeither unit), is)
-why_kept begins unit level told (act ∷ done) is =
-    why_by begins unit level told act done (why_kept begins unit level told done)
-    (does (profile_of begins) unit act (told_after begins told done)) is
+    why_by : (act : Act) (done : List Act) → (Kept done ≡ Some level → Why done)
+        → Does (profile_of begins) unit act (told_after begins told done)
+        → Kept (act ∷ done) ≡ Some level → Why (act ∷ done)
+    why_by act done why (tells other it is) kept_is =
+        let is_level : other ≡ level = cc in
+        inl (record {
+          later = [];
+          ask = act;
+          before = done;
+          order = refl;
+          tells = rw is_level at it;
+          since = All-nil (IsNeither unit);
+        })
+    why_by act done why (answers has is) kept_is = absurd cc
+    why_by act done why (neither is_neither is) kept_is =
+        further act done is_neither (why (sym is ∙ kept_is))
 
-kept_why : (begins : Beginning) (unit : ReaderUnit) (level : ℕ) (told : Told) (done : List Act)
-    → Why begins unit level told done → kept unit (told_after begins told done) ≡ Some level
-kept_why begins unit level told done (inl last) =
-    ap (λ l. kept unit (told_after begins told l)) last.order
-    ∙ told_last begins unit level told last.later last.before last.ask last.tells last.since
-kept_why begins unit level told done (inr none) = leave begins unit told done none.0 ∙ none.1
+    why_kept : (done : List Act) → Kept done ≡ Some level → Why done
+    why_kept [] is = inr (All-nil (IsNeither unit), is)
+    why_kept (act ∷ done) is = why_by act done (why_kept done) (goes act done) is
+
+    kept_why : (done : List Act) → Why done → Kept done ≡ Some level
+    kept_why done (inl last) =
+        rw last.order (told_last last.later last.before last.ask last.tells last.since)
+    kept_why done (inr none) = leave done none.0 ∙ none.1
 
 pub unanswered_after : (begins : Beginning) (told : Told) (done : List Act) (unit : ReaderUnit)
     (level : ℕ)
@@ -220,4 +196,4 @@ pub unanswered_after : (begins : Beginning) (told : Told) (done : List Act) (uni
     ↔ (IsUnanswered unit level done
     ⊎ (All (IsNeither unit) done × (level_of unit told.unanswered ≡ Some level)))
 unanswered_after begins told done unit level =
-    (why_kept begins unit level told done, kept_why begins unit level told done)
+    (why_kept begins unit told level done, kept_why begins unit told level done)

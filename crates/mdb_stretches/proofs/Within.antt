@@ -18,20 +18,11 @@ use Rattle.mdb_stretches.proofs.Sums.{with_within}
 
 range_weaker : (limit more : ℕ) (range : Range) → limit ≤ more → IsRangeWithin limit range
     → IsRangeWithin more range
-range_weaker limit more range le is = record {
-  least_low = omega (arith, ints, is.least_low);
-  least_high = omega (arith, ints, is.least_high);
-  greatest_low = omega (arith, ints, is.greatest_low);
-  greatest_high = omega (arith, ints, is.greatest_high);
-}
+range_weaker limit more range le is = search (arith, ints)
 
 account_weaker : (limit more : ℕ) (account : Account) → limit ≤ more
     → IsAccountWithin limit account → IsAccountWithin more account
-account_weaker limit more account le is = record {
-  device = range_weaker limit more account.device le is.device;
-  controller = range_weaker limit more account.controller le is.controller;
-  difference = range_weaker limit more account.difference le is.difference;
-}
+account_weaker limit more account le is = search (range_weaker, arith)
 
 pub totals_weaker : (limit more : ℕ) (totals : Totals) → limit ≤ more → AreWithin limit totals
     → AreWithin more totals
@@ -57,16 +48,7 @@ report_weaker limit more report le is = record {
 
 pub few_weaker : (most more : ℕ) (counts : FaultCounts) → most ≤ more → AreFew most counts
     → AreFew more counts
-few_weaker most more counts le is = record {
-  all = omega (arith, le, is.all);
-  controller = omega (arith, le, is.controller);
-  changer = omega (arith, le, is.changer);
-  bill = omega (arith, le, is.bill);
-  cashless = omega (arith, le, is.cashless);
-  cashless_2 = omega (arith, le, is.cashless_2);
-  other = omega (arith, le, is.other);
-  profile = omega (arith, le, is.profile);
-}
+few_weaker most more counts le is = search arith
 
 -- totals of so many rows, and a report on further ones
 pub can_be_added : (before rows : ℕ) (totals : Totals) (report : Report)

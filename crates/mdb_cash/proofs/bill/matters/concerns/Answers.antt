@@ -1,3 +1,4 @@
+-- An ACK of no messages leaves the state.
 use Rattle.std.proofs.Common.{◌≡◌, refl, rules}
 use Rattle.mdb_msgs.specs.declared.command.Command.TheVariants as commands
 use Rattle.mdb_bus.specs.declared.act.Act.TheVariants as acts
@@ -9,9 +10,8 @@ use Rattle.mdb_cash.proofs.bill.matters.concerns.Goals as goal
 
 pub returns-in-VmcAck-Bill-default-clause-still : goal.returns-in-VmcAck-Bill-default-clause-still
 returns-in-VmcAck-Bill-default-clause-still c =
-    let command = c.in-VmcAck-Bill-default.field-0-0 in
-    let reply = c.in-VmcAck-Bill-default.reply in
-    let act : c.args.act.now ≡ acts.VmcAck (commands.Bill command) reply = search rules in
-    idle tables conduct part_of c.messages_in.result.now
-    c.args.act.now (commands.Bill command) command reply c.is_empty.result act refl
+    let act : c.args.act.now
+    ≡ acts.VmcAck (commands.Bill c.in-VmcAck-Bill-default.field-0-0)
+    c.in-VmcAck-Bill-default.reply = search rules in
+    idle tables conduct part_of _ _ _ _ _ _ act refl
     c.messages_in.ensures.parts c.is_empty.ensures

@@ -5,7 +5,7 @@ use Rattle.mdb_cashless.specs.ExtendedReader.{ReplyStep, VmcAckStep}
 use Rattle.mdb_cashless.specs.ReaderMessages.{messages_of, part_of}
 use Rattle.mdb_cashless.specs.shared.ApprovalWays.{own_as}
 use Rattle.mdb_cashless.proofs.ApprovalSteps.{ack_unheeded, reply_unheeded}
-use Rattle.mdb_cashless.proofs.Resets.{no_restart}
+use Rattle.mdb_machine.proofs.KeptLists.{no_restart}
 use Rattle.mdb_cashless.proofs.Steps.{denied}
 use Rattle.mdb_cashless.proofs.approvals.matters.heeds_choice.Goals as goal
 

@@ -1,14 +1,14 @@
+-- What concerns neither machine leaves a state of either.
 use Rattle.std.proofs.lemmas.Bool.{OnFalse_at, OnFalse_from}
 use Rattle.mdb_cashless.specs.ByProfile.{base_state, extended_state}
-use Rattle.mdb_cashless.specs.Units.{unit_of}
 use Rattle.mdb_cashless.specs.shared.ByProfileWays.{if_some}
 use Rattle.mdb_cashless.proofs.ByProfile.{stays_by}
 use Rattle.mdb_cashless.proofs.by_profile.ReaderByProfilePair.concerns.Goals as goal
 
 pub returns-else-concerns-clause-still : goal.returns-else-concerns-clause-still
 returns-else-concerns-clause-still g c = OnFalse_from c.concerns-else-concerns.result _
-    (λ is begins so_far choice before after gains. stays_by (unit_of g.row.UNIT) begins so_far
-    c.args.act.now choice before after gains c.in_default.not-Break
+    (λ is begins so_far choice before after gains. stays_by _ begins so_far _ choice before
+    after gains c.in_default.not-Break
     (if_some (base_state before)
     (λ its to. c.if-concerns.ensures.still begins so_far choice its to gains))
     (if_some (extended_state before)

@@ -1,17 +1,15 @@
+-- A choice is heeded where the machine of the profile heeds it.
 use Rattle.std.proofs.lemmas.Bool.{OnFalse_at, OnFalse_from}
-use Rattle.mdb_cashless.specs.declared.by_profile.state.StateByProfile.TheVariants.{Base, Extended}
-use Rattle.mdb_cashless.specs.Units.{unit_of}
 use Rattle.mdb_cashless.proofs.ByProfile.{plain_by}
 use Rattle.mdb_cashless.proofs.by_profile.ReaderByProfilePair.heeds_choice.Goals as goal
 
 pub returns-in-Base : goal.returns-in-Base
 returns-in-Base g c = rw c.in-Base.is (OnFalse_from c.heeds_choice.result _
-    (λ is begins so_far choice after gains stands. plain_by (unit_of g.row.UNIT) begins so_far
-    c.args.act.now choice (Base c.in-Base.state) after gains
+    (λ is begins so_far choice after gains stands. plain_by _ begins so_far _ choice _ after gains
     (λ to. OnFalse_at is c.heeds_choice.ensures begins so_far choice to gains stands) tt))
 
 pub returns-in-Extended : goal.returns-in-Extended
 returns-in-Extended g c = rw c.in-Extended.is (OnFalse_from c.heeds_choice-in-Extended.result _
-    (λ is begins so_far choice after gains stands. plain_by (unit_of g.row.UNIT) begins so_far
-    c.args.act.now choice (Extended c.in-Extended.state) after gains tt
+    (λ is begins so_far choice after gains stands. plain_by _ begins so_far _ choice _ after gains
+    tt
     (λ to. OnFalse_at is c.heeds_choice-in-Extended.ensures begins so_far choice to gains stands)))

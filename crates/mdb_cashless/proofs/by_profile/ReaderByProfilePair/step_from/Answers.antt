@@ -1,5 +1,5 @@
+-- A step is that of the machine of the profile, or from a state of the other one.
 use Rattle.std.proofs.Common.{None, Some, refl}
-use Rattle.mdb_cashless.specs.Units.{unit_of}
 use Rattle.mdb_cashless.proofs.ByProfile.{IsStray, base_step, extended_step, stray_step}
 use Rattle.mdb_cashless.proofs.by_profile.ReaderByProfilePair.step_from.Goals as goal
 use Rattle.mdb_cashless.proofs.by_profile.ReaderByProfilePair.step_from.Goals.{in_default-via-in-Base+in_default, in_default-via-in-Extended+in_default}
@@ -8,16 +8,13 @@ pub returns-in_err-after-in-Base-Base-clause-step :
     goal.returns-in_err-after-in-Base-Base-clause-step
 returns-in_err-after-in-Base-Base-clause-step g c =
     rw (c.from_residual.ensures, c.in-Base-Base.is-0, c.in-Base-Base.is-1)
-    (λ begins so_far stands. base_step (unit_of g.row.UNIT) begins so_far c.args.act.now
-    c.args.choice
-    c.in-Base-Base.state None stands (c.in_err-after-in-Base-Base.ensures.step begins so_far))
+    (λ begins so_far stands. base_step _ begins so_far _ _ _ None stands
+    (c.in_err-after-in-Base-Base.ensures.step begins so_far))
 
 pub returns-in_ok-after-in-Base-Base-clause-step : goal.returns-in_ok-after-in-Base-Base-clause-step
 returns-in_ok-after-in-Base-Base-clause-step g c =
-    rw (c.in-Base-Base.is-0, c.in-Base-Base.is-1)
-    (λ begins so_far stands. base_step (unit_of g.row.UNIT) begins so_far c.args.act.now
-    c.args.choice c.in-Base-Base.state
-    (Some (c.in_ok-after-in-Base-Base.after, c.in_ok-after-in-Base-Base.gains)) stands
+    rw (c.in-Base-Base.is-0, c.in-Base-Base.is-1) (λ begins so_far stands.
+    base_step _ begins so_far _ _ _ (Some _) stands
     (c.in_ok-after-in-Base-Base.ensures.step begins so_far))
 
 pub returns-in_err-after-in-Extended-Extended-clause-step :
@@ -28,19 +25,14 @@ returns-in_err-after-in-Extended-Extended-clause-step g c =
       c.in-Extended-Extended.is-0,
       c.in-Extended-Extended.is-1,
     )
-    (λ begins so_far stands. extended_step (unit_of g.row.UNIT) begins so_far c.args.act.now
-    c.args.choice
-    c.in-Extended-Extended.state None stands
+    (λ begins so_far stands. extended_step _ begins so_far _ _ _ None stands
     (c.in_err-after-in-Extended-Extended.ensures.step begins so_far))
 
 pub returns-in_ok-after-in-Extended-Extended-clause-step :
     goal.returns-in_ok-after-in-Extended-Extended-clause-step
 returns-in_ok-after-in-Extended-Extended-clause-step g c =
-    rw (c.in-Extended-Extended.is-0, c.in-Extended-Extended.is-1)
-    (λ begins so_far stands. extended_step (unit_of g.row.UNIT) begins so_far c.args.act.now
-    c.args.choice c.in-Extended-Extended.state
-    (Some (c.in_ok-after-in-Extended-Extended.after, c.in_ok-after-in-Extended-Extended.gains))
-    stands
+    rw (c.in-Extended-Extended.is-0, c.in-Extended-Extended.is-1) (λ begins so_far stands.
+    extended_step _ begins so_far _ _ _ (Some _) stands
     (c.in_ok-after-in-Extended-Extended.ensures.step begins so_far))
 
 pub returns-in_default-clause-step : goal.returns-in_default-clause-step
@@ -50,6 +42,5 @@ returns-in_default-clause-step g c =
       | in_default-via-in-Extended+in_default w ↦ rw (w.in_default.is-0, w.in_default.is-1) refl
     ] in
     rw (c.strayed.ensures, c.none.ensures) (λ begins so_far stands.
-    let step = stray_step (unit_of g.row.UNIT) begins so_far c.args.act.now c.args.choice
-    c.args.known.now c.args.before stray stands in
+    let step = stray_step _ begins so_far _ _ c.args.known.now c.args.before stray stands in
     ((step _ _).1 (refl, refl), λ after gains. (step after gains).0))

@@ -1,3 +1,4 @@
+-- The steps by codes are those of the machine of the profile, and of a state of the other one.
 use Rattle.std.proofs.Common.{◌≡◌, ◌+◌, ◌-◌, ◌<◌, ◌≤◌, None, arith, refl}
 use Rattle.mdb_cashless.specs.declared.by_profile.state.StateByProfile.{StateByProfile}
 use Rattle.mdb_cashless.specs.declared.by_profile.state.StateByProfile.TheVariants.{Base, Extended}
@@ -32,8 +33,7 @@ returns-in-Base-clause-steps g c = rw c.in-Base.is (λ begins so_far stands.
     let its = base_codes.whole c.args.code c.if-code-lt-READER_STATES.true in
     rw is.0 (placed_steps base_state base_part (Base base.power_on)
     (base.machine (unit_of g.row.UNIT) begins) so_far c.args.act.now c.args.choice
-    base_codes.code_of (λ n. n) (λ its. refl) its.0 c.args.code c.args.code its.1 refl
-    c.steps.result.items c.steps.result.items
+    base_codes.code_of (λ n. n) (λ its. refl) its.0 c.args.code c.args.code its.1 refl _ _
     (λ next gains. (λ has. (next, refl, has), λ has. rw has.1 at has.2))
     (c.steps.ensures.steps begins so_far is.1)))
 
@@ -48,8 +48,8 @@ returns-in-Extended-clause-steps g c = rw c.in-Extended.is (λ begins so_far sta
     rw is.0 (placed_steps extended_state extended_part (Extended extended.power_on)
     (extended.machine (unit_of g.row.UNIT) begins) so_far c.args.act.now c.args.choice
     extended_codes.code_of (λ n. READER_STATES + n) (λ its. refl) its.0 _ c.args.code its.1
-    (omega (arith, c.if-code-ge-READER_STATES.true)) c.steps-steps.result.items
-    c.raised.result.items (rw c.as_slice.ensures.value at c.raised.ensures)
+    (omega (arith, c.if-code-ge-READER_STATES.true)) _ _
+    (rw c.as_slice.ensures.value at c.raised.ensures)
     (c.steps-steps.ensures.steps begins so_far is.1)))
 
 pub returns-in-Extended-clause-below : goal.returns-in-Extended-clause-below
@@ -74,7 +74,5 @@ returns-in_default-clause-steps g c =
       c.none.ensures,
       c.new-steps.ensures,
     )
-    (λ begins so_far stands. one_step
-    ((machine (unit_of g.row.UNIT) begins).Step so_far c.args.act.now c.args.choice) c.state.result
-    _ c.args.code c.state.ensures (stray_step (unit_of g.row.UNIT) begins so_far c.args.act.now
-    c.args.choice c.args.known.now c.state.result stray stands))
+    (λ begins so_far stands. one_step _ c.state.result _ c.args.code c.state.ensures
+    (stray_step _ begins so_far _ _ c.args.known.now c.state.result stray stands))

@@ -1,6 +1,11 @@
-use Rattle.mdb_cashless.proofs.Steps.{known_stays}
+-- What changes nothing after any facts changes nothing where not all is known.
+use Rattle.std.proofs.Common.{sym}
+use Rattle.std.proofs.lemmas.Bool.{OnFalse_at}
+use Rattle.mdb_cashless.specs.inner.KnowingReader.{stays}
+use Rattle.mdb_cashless.proofs.Steps.{denied}
 use Rattle.mdb_cashless.proofs.reader.ReaderPair.concerns.Goals as goal
 
 pub returns-clause-still : goal.returns-clause-still
-returns-clause-still g c =
-    known_stays c.concerns.result c.args.act.now c.unit_of.ensures c.concerns.ensures.still
+returns-clause-still g c = denied c.concerns.result (λ is begins acts choice before after gains.
+    stays _ _ _ _ _ _ _ (λ facts. rw (sym c.unit_of.ensures)
+    (OnFalse_at is c.concerns.ensures.still facts choice before after gains)))

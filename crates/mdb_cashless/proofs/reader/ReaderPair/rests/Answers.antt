@@ -1,6 +1,10 @@
-use Rattle.mdb_cashless.proofs.Steps.{known_rests}
+-- What changes nothing after any facts changes nothing where not all is known.
+use Rattle.std.proofs.Common.{sym}
+use Rattle.std.proofs.lemmas.Bool.{OnTrue_at, OnTrue_from}
+use Rattle.mdb_cashless.specs.inner.KnowingReader.{stays}
 use Rattle.mdb_cashless.proofs.reader.ReaderPair.rests.Goals as goal
 
 pub returns : goal.returns
-returns g c =
-    known_rests c.rests.result c.args.act.now c.args.state c.unit_of.ensures c.rests.ensures
+returns g c = OnTrue_from c.rests.result _ (λ is begins acts choice after gains.
+    stays _ _ _ _ _ _ _ (λ facts. rw (sym c.unit_of.ensures)
+    (OnTrue_at is c.rests.ensures facts choice after gains)))

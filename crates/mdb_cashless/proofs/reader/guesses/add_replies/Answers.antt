@@ -1,29 +1,22 @@
-use Rattle.std.proofs.Common.{◌∙◌, ◌⊎◌, None, Some, ap, subst}
+-- A reply where it isn't known which transaction the reader took last, or where it is.
+use Rattle.std.proofs.Common.{◌∙◌, ◌⊎◌, Option, None, Some, ap, subst}
 use Rattle.mdb_machine.specs.PastValues.{if_known}
+use Rattle.mdb_cashless.specs.declared.reader.transaction.Transaction.{Transaction}
 use Rattle.mdb_cashless.specs.Reader as spec
 use Rattle.mdb_cashless.specs.ReaderFacts.{Facts, own_transaction}
-use Rattle.mdb_cashless.specs.ReaderValues.{facts_in, known_in}
+use Rattle.mdb_cashless.specs.ReaderValues.{facts_in}
 use Rattle.mdb_cashless.specs.inner.Guesses as guesses
 use Rattle.mdb_cashless.proofs.Knowing.{replies_known, replies_some}
 use Rattle.mdb_cashless.proofs.Listed.{Adds, adds_first, adds_two, none_small}
 use Rattle.mdb_cashless.proofs.reader.guesses.add_replies.Goals as goal
 
 pub returns-then-known-clause-steps : goal.returns-then-known-clause-steps
-returns-then-known-clause-steps c =
-    let known = c.args.known.now in
-    let base = facts_in known.facts in
-    adds_first c.args.steps.now.items c.add_keeping.new.steps.items
-    (guesses.IsReplyKeeping base (if_known known.knows_kept base.past.last_kept) c.args.command
-    c.args.reply.now c.args.choice c.args.before)
-    (λ after gains. guesses.OfSome (known_in known) c.args.before.holds (λ f. spec.ReplyStep f
-    c.args.command c.args.reply.now c.args.choice c.args.before after gains)) c.requires
-    c.add_keeping.ensures.items
-    (λ after gains. replies_known known c.args.command c.args.reply.now c.args.choice c.args.before
-    after gains c.if-known.true)
+returns-then-known-clause-steps c = adds_first _ _ _ _ c.requires c.add_keeping.ensures.items
+    (λ after gains. replies_known c.args.known.now c.args.before after gains c.args.command
+    c.args.reply.now c.args.choice c.if-known.true)
 
 pub returns-then-known-clause-small : goal.returns-then-known-clause-small
-returns-then-known-clause-small c =
-    c.add_keeping.ensures.small (none_small c.args.steps.now.items c.requires)
+returns-then-known-clause-small c = c.add_keeping.ensures.small (none_small _ c.requires)
 
 pub returns-clause-steps : goal.returns-clause-steps
 returns-clause-steps c =
@@ -31,25 +24,22 @@ returns-clause-steps c =
     let base = facts_in known.facts in
     let Keeps = λ (f : Facts). guesses.IsReplyKeeping f (if_known known.knows_kept f.past.last_kept)
     c.args.command c.args.reply.now c.args.choice c.args.before in
-    let other : Facts = record base { taken = None } in
+    let taking = λ (t : Option Transaction). record base { taken = t } in
     let its = own_transaction (spec.taken c.args.command c.args.reply.now) in
-    let same : Facts = record base { taken = Some (guesses.again its) } in
     let old = c.args.steps.now.items in
     let mid = c.add_keeping-2.new.steps.items in
     let new = c.add_keeping-3.new.steps.items in
-    adds_first old new (λ after gains. Keeps other after gains ⊎ Keeps same after gains)
-    (λ after gains. guesses.OfSome (known_in known) c.args.before.holds (λ f. spec.ReplyStep f
-    c.args.command c.args.reply.now c.args.choice c.args.before after gains)) c.requires
-    (adds_two old mid new (Keeps other) (Keeps same)
+    adds_first old new (λ after gains. Keeps (taking None) after gains
+    ⊎ Keeps (taking (Some (guesses.again its))) after gains) _ c.requires
+    (adds_two old mid new _ _
     (subst (λ (f : Facts). Adds old mid (Keeps f)) c.taking-other.ensures
     c.add_keeping-2.ensures.items)
-    (subst (λ (f : Facts). Adds mid new (Keeps f))
-    (c.taking-same.ensures ∙ ap (λ t. record base { taken = Some t })
-    (c.again.ensures ∙ ap guesses.again c.taken_by.ensures)) c.add_keeping-3.ensures.items))
-    (λ after gains. replies_some known c.args.command c.args.reply.now c.args.choice c.args.before
-    after gains c.if-known.false)
+    (subst (λ (f : Facts). Adds mid new (Keeps f)) (c.taking-same.ensures
+    ∙ ap (λ t. taking (Some t)) (c.again.ensures ∙ ap guesses.again c.taken_by.ensures))
+    c.add_keeping-3.ensures.items))
+    (λ after gains. replies_some known c.args.before after gains c.args.command c.args.reply.now
+    c.args.choice c.if-known.false)
 
 pub returns-clause-small : goal.returns-clause-small
-returns-clause-small c =
-    c.add_keeping-3.ensures.small
-    (c.add_keeping-2.ensures.small (none_small c.args.steps.now.items c.requires))
+returns-clause-small c = c.add_keeping-3.ensures.small
+    (c.add_keeping-2.ensures.small (none_small _ c.requires))

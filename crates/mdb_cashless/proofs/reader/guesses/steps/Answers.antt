@@ -1,49 +1,34 @@
-use Rattle.std.proofs.Common.{◌≡◌, ◌∙◌, ap, length, rules, sym}
-use Rattle.mdb_bus.specs.declared.act.Act.TheVariants as acts
-use Rattle.std.specs.List.{Contains}
+-- The steps are the one by a settled act, or those of the guesses.
+use Rattle.std.proofs.Common.{◌∙◌, ap, length, sym}
 use Rattle.mdb_cashless.specs.Reader as spec
 use Rattle.mdb_cashless.specs.ReaderValues.{known_in}
 use Rattle.mdb_cashless.proofs.Listed.{adds_first, adds_one, none_small, small_one}
-use Rattle.mdb_cashless.proofs.Steps.{acks_knowing, asks_knowing, replies_knowing}
+use Rattle.mdb_cashless.proofs.Steps.{knowing_of}
 use Rattle.mdb_cashless.proofs.reader.guesses.steps.Goals as goal
 
 pub returns-then-settles-clause-steps : goal.returns-then-settles-clause-steps
 returns-then-settles-clause-steps c =
     let Step = spec.StepKnowing c.args.unit (known_in c.args.known.now) c.args.act.now c.args.choice
     c.args.before in
-    adds_first c.new-steps.result.items c.add_step.new.steps.items Step Step
-    (ap length c.new-steps.ensures)
-    (adds_one c.new-steps.result.items c.add_step.new.steps.items Step c.step_settled.result
-    c.step_settled.ensures.step c.add_step.ensures.items)
+    adds_first _ _ Step Step (ap length c.new-steps.ensures)
+    (adds_one _ _ Step _ c.step_settled.ensures.step c.add_step.ensures.items)
     (λ after gains. (λ step. step, λ step. step))
 
 pub returns-then-settles-clause-small : goal.returns-then-settles-clause-small
-returns-then-settles-clause-small c =
-    small_one c.new-steps.result.items c.add_step.new.steps.items c.step_settled.result
-    (none_small c.new-steps.result.items (ap length c.new-steps.ensures))
-    c.step_settled.ensures.small
+returns-then-settles-clause-small c = small_one _ _ _
+    (none_small _ (ap length c.new-steps.ensures)) c.step_settled.ensures.small
     c.add_step.ensures.items
 
 pub returns-in-Some-clause-steps : goal.returns-in-Some-clause-steps
-returns-in-Some-clause-steps c = λ after gains.
-    let act : c.args.act.now ≡ acts.Ask c.in-Ask.command = search rules in
-    asks_knowing c.args.unit (known_in c.args.known.now) c.args.act.now c.in-Ask.command
-    c.in-Some.command c.args.choice c.args.before after gains
-    (Contains c.add_asks.new.steps.items (after, gains)) act (sym c.own.ensures ∙ c.in-Some.is)
-    (c.add_asks.ensures.steps after gains)
+returns-in-Some-clause-steps c = λ after gains. knowing_of
+    (rw (c.in-Ask.is, sym c.own.ensures ∙ c.in-Some.is) (c.add_asks.ensures.steps after gains))
 
 pub returns-in-Some-own-clause-steps : goal.returns-in-Some-own-clause-steps
-returns-in-Some-own-clause-steps c = λ after gains.
-    let act : c.args.act.now ≡ acts.Ack c.in-Ack.command = search rules in
-    acks_knowing c.args.unit (known_in c.args.known.now) c.args.act.now c.in-Ack.command
-    c.in-Some-own.command c.args.choice c.args.before after gains
-    (Contains c.add_acks.new.steps.items (after, gains)) act
-    (sym c.own-in-Ack.ensures ∙ c.in-Some-own.is) (c.add_acks.ensures.steps after gains)
+returns-in-Some-own-clause-steps c = λ after gains. knowing_of
+    (rw (c.in-Ack.is, sym c.own-in-Ack.ensures ∙ c.in-Some-own.is)
+    (c.add_acks.ensures.steps after gains))
 
 pub returns-in-Some-own-2-clause-steps : goal.returns-in-Some-own-2-clause-steps
-returns-in-Some-own-2-clause-steps c = λ after gains.
-    let act : c.args.act.now ≡ acts.Reply c.in-Reply.command c.in-Reply.reply = search rules in
-    replies_knowing c.args.unit (known_in c.args.known.now) c.args.act.now c.in-Reply.command
-    c.in-Reply.reply c.in-Some-own-2.command c.args.choice c.args.before after gains
-    (Contains c.add_replies.new.steps.items (after, gains)) act
-    (sym c.own-in-Reply.ensures ∙ c.in-Some-own-2.is) (c.add_replies.ensures.steps after gains)
+returns-in-Some-own-2-clause-steps c = λ after gains. knowing_of
+    (rw (c.in-Reply.is, sym c.own-in-Reply.ensures ∙ c.in-Some-own-2.is)
+    (c.add_replies.ensures.steps after gains))

@@ -1,25 +1,31 @@
-use Rattle.std.proofs.Common.{◌≡◌, rules}
+-- A choice is heeded where it may lead elsewhere than the plain one.
+use Rattle.std.proofs.Common.{false, sym, ◌∙◌, ◌≡◌, rules}
 use Rattle.mdb_msgs.specs.declared.command.Command.TheVariants as commands
 use Rattle.mdb_bus.specs.declared.act.Act.TheVariants as acts
+use Rattle.mdb_cashless.specs.ReaderMessages.{messages_of, part_of}
 use Rattle.mdb_cashless.proofs.Choices.{unheard, unread, untaken}
 use Rattle.mdb_cashless.proofs.reader.steps.heeds_choice.Goals as goal
+use Rattle.std.proofs.lemmas.Bool.{OnFalse_at}
+use Rattle.mdb_machine.proofs.KeptLists.{no_restart}
+use Rattle.mdb_cashless.proofs.Steps.{denied}
 
 pub returns-in-Ack-Reader : goal.returns-in-Ack-Reader
 returns-in-Ack-Reader c =
-    let act : c.args.act.now
-    ≡ acts.Ack (commands.Reader c.in-Ack-Reader.field-0-0 c.in-Ack-Reader.command) =
-    search rules in
-    untaken c.args.state c.args.act.now c.in-Ack-Reader.field-0-0 c.in-Ack-Reader.command
-    c.heeds_taking.result act c.heeds_taking.ensures
+    let act : c.args.act.now ≡ acts.Ack (commands.Reader c.in-Ack-Reader.field-0-0
+    c.in-Ack-Reader.command) = search rules in
+    denied c.heeds_taking.result (λ no unit facts choice after gains stands. rw act
+    (untaken unit facts c.args.state after gains c.in-Ack-Reader.field-0-0 c.in-Ack-Reader.command
+    choice (OnFalse_at no c.heeds_taking.ensures)))
 
 pub returns-in-Reply : goal.returns-in-Reply
 returns-in-Reply c =
-    let act : c.args.act.now ≡ acts.Reply c.in-Reply.field-0 c.in-Reply.reply = search rules in
-    unread c.args.state c.args.act.now c.in-Reply.field-0 c.in-Reply.reply
-    c.tells_of_reset.result act c.tells_of_reset.ensures
+    denied c.tells_of_reset.result (λ no unit facts choice after gains stands. rw c.in-Reply.is
+    (unread unit facts c.args.state after gains c.in-Reply.field-0 c.in-Reply.reply choice
+    (no_restart false part_of (messages_of c.in-Reply.reply) (sym no ∙ c.tells_of_reset.ensures))
+    (rw c.in-Reply.is at stands)))
 
 pub returns-in-VmcAck : goal.returns-in-VmcAck
 returns-in-VmcAck c =
-    let act : c.args.act.now ≡ acts.VmcAck c.in-VmcAck.field-0 c.in-VmcAck.field-1 =
-    search rules in
-    unheard c.args.state c.args.act.now c.in-VmcAck.field-0 c.in-VmcAck.field-1 act
+    denied c.args.state.holds (λ free unit facts choice after gains stands. rw c.in-VmcAck.is
+    (unheard unit facts c.args.state after gains c.in-VmcAck.field-0 c.in-VmcAck.field-1 choice
+    free))

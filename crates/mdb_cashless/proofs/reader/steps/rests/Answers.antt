@@ -1,16 +1,12 @@
+-- An ACK to POLL while nothing is held leaves the state and the sums.
 use Rattle.std.proofs.Common.{◌≡◌, ◌∙◌, Some, ap, rules, sym}
 use Rattle.mdb_msgs.specs.declared.command.ReaderCommand.TheVariants as reader
-use Rattle.mdb_bus.specs.declared.act.Act.TheVariants as acts
-use Rattle.mdb_cashless.specs.Units.{own}
 use Rattle.mdb_cashless.proofs.Steps.{poll_rests, where_not}
 use Rattle.mdb_cashless.proofs.reader.steps.rests.Goals as goal
 
 pub returns-in-Some-Poll : goal.returns-in-Some-Poll
 returns-in-Some-Poll c =
-    let act : c.args.act.now ≡ acts.Ack c.in-Ack.command = search rules in
     let poll : c.in-Some-Poll.field-0 ≡ reader.Poll = search rules in
-    let found : own c.args.unit c.in-Ack.command ≡ Some reader.Poll =
-    sym c.own.ensures ∙ c.in-Some-Poll.is ∙ ap Some poll in
     where_not c.args.state.holds (λ free facts choice after gains.
-    poll_rests facts choice c.args.state after gains c.args.unit c.args.act.now c.in-Ack.command
-    act found free)
+    rw (c.in-Ack.is, sym c.own.ensures ∙ c.in-Some-Poll.is ∙ ap Some poll)
+    (poll_rests facts c.args.state after gains choice free))

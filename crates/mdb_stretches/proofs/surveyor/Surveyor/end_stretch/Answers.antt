@@ -1,16 +1,13 @@
-use Rattle.std.proofs.Common.{arith, refl, sym, subst, ◌∙◌, ◌+◌, ◌*◌, ◌^◌}
+-- The stretch that a fault ends, and the next one.
+use Rattle.std.proofs.Common.{arith, refl, sym, ◌∙◌, ◌+◌}
 use Rattle.mdb_follow.specs.Follower as follow
-use Rattle.mdb_stretches.specs.OtherMoney.{WhoIsAskedBefore}
-use Rattle.mdb_stretches.specs.Totals.{AreWithin}
 use Rattle.mdb_stretches.proofs.Standing.{next_stands}
 use Rattle.mdb_stretches.proofs.Within.{added_within, can_be_added, few_weaker}
 use Rattle.mdb_stretches.proofs.surveyor.Surveyor.end_stretch.Goals as goal
 
 pub with-self-requires : goal.with-self-requires
 with-self-requires c =
-    can_be_added c.args.self.now.before (follow.rows_of c.args.self.now.follower)
-    c.args.self.now.totals
-    c.report_before-report.result c.args.self.now.few c.args.self.now.within
+    can_be_added c.args.self.now.before _ _ _ c.args.self.now.few c.args.self.now.within
     c.report_before-report.ensures.within c.report_before-report.ensures.rows
 
 pub running-stretch-requires : goal.running-stretch-requires
@@ -24,12 +21,10 @@ invariant_of-self-3 c = record {
       few_weaker (c.args.self.now.before + 1) (c.args.self.now.before + c.in-Some.offence.row)
       c.add.new.self (omega (arith, c.in-Some.ensures.numbered))
       (c.add.ensures.few c.args.self.now.before c.args.self.now.few_faults);
-  within = subst (λ t. AreWithin ((c.args.self.now.before + c.in-Some.offence.row) * 2 ^ 32) t)
-      (sym c.with-self.ensures)
+  within = rw c.with-self.ensures
       (added_within c.args.self.now.before (follow.rows_of c.args.self.now.follower)
-      (c.args.self.now.before + c.in-Some.offence.row) c.args.self.now.totals
-      c.report_before-report.result (omega (arith, c.in-Some.ensures.numbered))
-      c.args.self.now.within
+      (c.args.self.now.before + c.in-Some.offence.row) _ _
+      (omega (arith, c.in-Some.ensures.numbered)) c.args.self.now.within
       c.report_before-report.ensures.within c.report_before-report.ensures.rows);
 }
 
@@ -40,7 +35,6 @@ returns-clause-ended c scope rows row ended on =
     c.asked_before-asked.result on
     (sym c.offence.ensures.met ∙ c.in-Some.is)
     c.report_before-report.ensures.before c.running-stretch.ensures c.scoped.ensures.stands
-    (subst (λ bytes. WhoIsAskedBefore c.in-Some.offence.rule bytes c.asked_before-asked.result)
-    c.open_block.ensures c.asked_before-asked.ensures)
+    (rw c.open_block.ensures at c.asked_before-asked.ensures)
     (c.scoped.ensures.scope ∙ c.scope_after-self.ensures) c.scope_after-self.ensures
     c.begin.ensures refl c.add.ensures.counts c.with-self.ensures

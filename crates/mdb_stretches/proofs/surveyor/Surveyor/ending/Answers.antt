@@ -1,3 +1,4 @@
+-- The stretch that runs at the end, and the summary.
 use Rattle.std.proofs.Common.{arith, ap, sym, ◌∙◌}
 use Rattle.mdb_follow.specs.Follower as follow
 use Rattle.mdb_stretches.specs.declared.stretch.Stretch.{Stretch}
@@ -13,9 +14,7 @@ running-last-requires c =
 
 pub with-requires : goal.with-requires
 with-requires c =
-    can_be_added c.args.self.now.before (follow.rows_of c.args.self.now.follower)
-    c.args.self.now.totals
-    c.report_before-report.result c.args.self.now.few c.args.self.now.within
+    can_be_added c.args.self.now.before _ _ _ c.args.self.now.few c.args.self.now.within
     c.report_before-report.ensures.within c.report_before-report.ensures.rows
 
 pub returns : goal.returns

@@ -1,4 +1,5 @@
-use Rattle.std.proofs.Common.{arith, [], ◌∷◌, ◌++◌, subst}
+-- Rows are fed one by one until a stretch ends.
+use Rattle.std.proofs.Common.{sym, arith, [], ◌∷◌, ◌++◌, subst}
 use Rattle.mdb_stretches.specs.Surveyor.{StandsFor}
 use Rattle.mdb_stretches.proofs.Feeding.{fed_to}
 use Rattle.mdb_stretches.proofs.surveyor.Surveyor.feed_all.Goals as goal
@@ -8,8 +9,6 @@ returns-then-not-take-clause-ended c =
     fed_to c.args.self.now c.loop-at.self c.end_stretch.new.self c.args.rows.now c.loop-at.at
     c.index-rows-at.result c.end_stretch.result c.loop-at-test.true c.loop-at.invariant
     (omega (arith, c.end_stretch.ensures.counted, c.if-not-take.ensures.uncounted))
-    (λ scope before ended on. subst (λ row.
-    StandsFor c.end_stretch.new.self scope (before ++ row ∷ []) (c.end_stretch.result ∷ ended))
-    c.index-rows-at.is
+    (λ scope before ended on. rw (sym c.index-rows-at.is)
     (c.end_stretch.ensures.ended scope before c.index-rows-at.result ended
     (c.if-not-take.ensures.halted scope before ended on)))

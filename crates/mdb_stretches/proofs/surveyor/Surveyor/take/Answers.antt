@@ -1,3 +1,4 @@
+-- A row is taken, or it halts the stretch.
 use Rattle.std.proofs.Common.{◌≡◌, arith, refl, ap, ◌∙◌}
 use Rattle.mdb_bus.specs.Bus.{ended_act}
 use Rattle.mdb_follow.specs.Feeding.{HasRefused}
@@ -9,21 +10,15 @@ use Rattle.mdb_stretches.proofs.surveyor.Surveyor.take.Goals as goal
 
 pub returns-in-Some-clause-taken : goal.returns-in-Some-clause-taken
 returns-in-Some-clause-taken c scope rows ended on =
-    taken_more c.transcripts_have_one_act_list.ensures c.args.self.now _ scope rows ended
-    c.args.event
-    (ended_act c.in-Some.has_ended (follow.act_of c.feed_ending.new.self)) on
-    c.in-Some.ensures.taken.stands
-    c.feed_ending.ensures.scope c.in-Some.ensures.act
-    (c.learn_if.ensures
-    ∙ ap (λ act. told_if c.args.self.now.scope.begins
-    (ended_act c.in-Some.has_ended act) c.args.self.now.told) c.act.ensures)
-    refl refl refl refl
+    taken_more c.transcripts_have_one_act_list.ensures c.args.self.now _ scope rows c.args.event
+    ended (ended_act c.in-Some.has_ended (follow.act_of c.feed_ending.new.self)) on
+    c.in-Some.ensures.taken.stands c.feed_ending.ensures.scope c.in-Some.ensures.act
+    (rw c.act.ensures at c.learn_if.ensures) refl refl refl refl
 
 pub returns-in-None-clause-halted : goal.returns-in-None-clause-halted
 returns-in-None-clause-halted c scope rows ended on =
     halted_by c.transcripts_have_one_act_list.ensures c.args.self.now _ scope rows c.args.event
-    ended on c.in-None.ensures.refused
-    c.feed_ending.ensures.scope refl refl refl refl refl
+    ended on c.in-None.ensures.refused c.feed_ending.ensures.scope refl refl refl refl refl
 
 pub invariant_of-self-in-None : goal.invariant_of-self-in-None
 invariant_of-self-in-None c =
