@@ -11,21 +11,13 @@ use Rattle.mdb_follow.specs.AccountNames.{account_in, account_slot}
 
 -- each account has a slot
 pub slot-below : (account : AccountName) → account_slot account < SLOTS
-slot-below CoinsIn = omega arith
-slot-below BillsIn = omega arith
-slot-below PaidOut = omega arith
 slot-below (Approved First) = omega arith
 slot-below (Sold First) = omega arith
-slot-below (Approved Second) = omega arith
-slot-below (Sold Second) = omega arith
+slot-below account = omega arith
 
 -- and its place among all
 pub listed : (of : AccountName → Account) (account : AccountName)
     → account_in account (map of ALL) ≡ of account
-listed of CoinsIn = refl
-listed of BillsIn = refl
-listed of PaidOut = refl
 listed of (Approved First) = refl
 listed of (Sold First) = refl
-listed of (Approved Second) = refl
-listed of (Sold Second) = refl
+listed of account = refl

@@ -21,7 +21,7 @@ module _ {State : Type 0} (its_state : StateByProfile → Option State) (power_o
       (gains : Gains) (one : State) → before ≡ Some one → StepOf Step Stray before after gains
       → (other : State) × (after ≡ Some other) × Step one other gains
   step_in Step Stray (Some x) (Some y) gains one is step =
-      (y, refl, subst (λ x. Step x y gains) (same_Some x one is) step)
+      (y, refl, rw (same_Some x one is) at step)
   step_in Step Stray (Some x) None gains one is step = absurd step
   step_in Step Stray None after gains one is step = absurd (cc is)
 

@@ -80,8 +80,7 @@ without_last scope joins goes rows row reached =
     let run = reached.1 in
     let from = goes rows row run.pieces run.act_list in
     let earlier = some_before scope.begins from.act (acts_of from.before)
-    (subst (SomeArrive scope.begins) from.acts
-    (some_of scope (rows ++ row ∷ []) reached.0 run)) in (
+    (rw from.acts at (some_of scope (rows ++ row ∷ []) reached.0 run)) in (
       (λ device. (earlier device).sums),
       run_of scope joins rows from.before (λ device. (earlier device).state)
           (λ device. (earlier device).sums) from.act_list (λ device. (earlier device).way),

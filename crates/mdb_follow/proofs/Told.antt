@@ -24,10 +24,8 @@ use Rattle.mdb_follow.proofs.OneAnswer.{map-alike}
 -- a list with one entry for each device has that of a device in its place
 pub listed : {T : Type 0} (of : Device → T) (none : T) (device : Device)
     → get_or (map of DEVICES) (device_place device) none ≡ of device
-listed of none Changer = refl
-listed of none Bill = refl
 listed of none (Reader First) = refl
-listed of none (Reader Second) = refl
+listed of none device = refl
 
 -- what a report has of a device is that of any act list of its rows
 pub device-told : (scope : Scope) → OneActList scope → (rows : List Event) (report : Report)
@@ -48,13 +46,7 @@ pub reports-are : (begins : Beginning) (pieces : List Piece) (facts : List Devic
       facts = device_facts_in facts device;
       asks = (silence_in silences device).counts;
     }) DEVICES ≡ map (λ device. device_report_of begins device pieces) DEVICES
-reports-are begins pieces facts silences is stand =
-    let made : DeviceFacts → AskCounts → DeviceReport = λ facts asks.
-    record { facts = facts; asks = asks } in
-    map-alike (λ device. made (device_facts_in facts device) (silence_in silences device).counts)
-    (λ device. device_report_of begins device pieces)
-    (λ device. ap₂ made
-    (ap (λ (all : List DeviceFacts). device_facts_in all device) is
-    ∙ listed (λ d. device_facts_of begins d (acts_of pieces)) _ device)
-    (stand device).counts)
-    DEVICES
+reports-are begins pieces facts silences is stand = map-alike _ _ (λ device.
+    let facts = ap (λ (all : List DeviceFacts). device_facts_in all device) is
+    ∙ listed (λ d. device_facts_of begins d (acts_of pieces)) _ device in
+    λ i. record { facts = facts i; asks = (stand device).counts i }) DEVICES

@@ -1,3 +1,4 @@
+-- The join of all cells is within the limit of each.
 use Rattle.std.proofs.Common.{◌∷◌, ap, subst, sym, ◌∙◌}
 use Rattle.std.proofs.lemmas.List.{take_all}
 use Rattle.std.proofs.lemmas.List.Elements.{All-head, All-tail}
@@ -13,9 +14,9 @@ returns-clause-within c limit fits =
     let entry : ℕ × Cell = c.in-Some.field-0-0.now in
     let rest = c.in-Some.rest.now in
     let Fits : ℕ × Cell → Type 0 = λ e. IsCellWithin limit e.1 in
-    let all : All Fits (entry ∷ rest) =
-    subst (IsTableWithin limit) c.in-Some.ensures.cases.0 fits in
-    subst (IsCellWithin limit)
-    (sym (c.loop-cell.invariant ∙ ap (joined_cells entry.1)
-    (take_all c.loop-cell.cell-index rest c.loop-cell-test.false)))
+    let all = rw c.in-Some.ensures.cases.0 at fits in
+    rw (
+      c.loop-cell.invariant,
+      take_all c.loop-cell.cell-index rest c.loop-cell-test.false,
+    )
     (joined-within limit entry.1 rest (All-head Fits entry rest all) (All-tail Fits entry rest all))

@@ -1,8 +1,9 @@
+-- A report goes on without further devices, since runs do.
 use Rattle.mdb_follow.proofs.ReportsWithout.{report_without}
 use Rattle.mdb_follow.proofs.laws.reports_go_on_without_further_devices.Goals as goal
 
 pub returns : goal.returns
-returns c = report_without (record {
+returns c = λ less more rows one leaves is. report_without (record {
   runs = record {
     to = c.runs_go_on_without_further_devices.ensures;
     from = c.runs_without_further_devices_come_from_runs.ensures;
@@ -14,4 +15,4 @@ returns c = report_without (record {
     known = c.what_is_known_of_a_device_is_of_its_own_acts.ensures.known;
     unvalued = c.what_is_known_of_a_device_is_of_its_own_acts.ensures.unvalued;
   };
-}) c.runs_add_nothing_of_devices_left_out.ensures
+}) less more rows one leaves is c.runs_add_nothing_of_devices_left_out.ensures

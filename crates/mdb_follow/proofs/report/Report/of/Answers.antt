@@ -1,3 +1,4 @@
+-- A report has what was found of each device and account.
 use Rattle.std.proofs.Common.{ap, refl, ◌∙◌, List, map}
 use Rattle.mdb_follow.specs.declared.account_name.TheConstants.AccountName.{ALL}
 use Rattle.mdb_follow.specs.declared.report.DeviceReport.{DeviceReport}
@@ -19,13 +20,10 @@ returns-clause-has c =
 
 pub returns-clause-telling : goal.returns-clause-telling
 returns-clause-telling c scope pieces are stand times =
-    let with : List DeviceReport → Report = λ devices. record {
+    let devices = reports-are scope.begins pieces c.args.facts.now c.args.silences.now are stand in
+    returns-clause-has c ∙ λ i. record {
       rows = c.args.rows;
-      devices = devices;
-      untimely = c.args.untimely;
+      devices = devices i;
+      untimely = times i;
       accounts = map (account_by (cell_in c.args.cells.now)) ALL;
-    } in
-    returns-clause-has c
-    ∙ (ap with (reports-are scope.begins pieces c.args.facts.now c.args.silences.now are stand)
-    ∙ ap (λ untimely. record (report_of scope c.args.rows pieces
-    (account_by (cell_in c.args.cells.now))) { untimely = untimely }) times)
+    }
