@@ -84,18 +84,10 @@ account-none {S} Kind account some kind nothing =
     }
 
 min-cases : (a b : ℤ) → (int_min a b ≡ a) ⊎ (int_min a b ≡ b)
-min-cases a b =
-    elim (int_lt b a) as (λ t. (cond t b a ≡ a) ⊎ (cond t b a ≡ b)) [
-      | true ↦ inr refl
-      | false ↦ inl refl
-    ]
+min-cases a b = search (arith, ints, clamps)
 
 max-cases : (a b : ℤ) → (int_max a b ≡ a) ⊎ (int_max a b ≡ b)
-max-cases a b =
-    elim (int_lt b a) as (λ t. (cond t a b ≡ a) ⊎ (cond t a b ≡ b)) [
-      | true ↦ inl refl
-      | false ↦ inr refl
-    ]
+max-cases a b = search (arith, ints, clamps)
 
 module _ (K L : Sums → Type 0) where
   range-joined : (value : Sums → ℤ) (one other : Range) → IsRange K value one

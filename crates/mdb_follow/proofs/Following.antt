@@ -233,7 +233,8 @@ module _ (old : Follower) (act : Act) (row : Event) (new : Follower)
   none-beyond beyond = absurd (by-rule (λ rule. rule ≡ rules.Profile → ⊥) no-device-is-beyond
       (λ is. cc is) beyond)
 
-  pub none-late : {T : Type 0} (met : Offence) → new.offence ≡ Some met → is_late met.rule ≡ true → T
+  pub none-late : {T : Type 0} (met : Offence) → new.offence ≡ Some met
+      → is_late met.rule ≡ true → T
   none-late met noted late =
       let same : Some offence ≡ Some met = sym has.noted ∙ noted in
       let one : offence ≡ met = cc same in

@@ -64,7 +64,8 @@ module _ (begins : Beginning) (loss : Loss) where
   -- each way of all is a way of each device, with what it chooses
   pub split_with_choices : (pieces : List Piece) (states : States) (sums : AllSums)
       (way : IsWay begins loss pieces states sums)
-      → AllFollow begins (acts_of pieces) (choices_of begins loss pieces states sums way) states sums
+      → AllFollow begins (acts_of pieces) (choices_of begins loss pieces states sums way) states
+      sums
   split_with_choices [] states sums way device = way device
   split_with_choices (Whole act events ∷ pieces) states sums way device =
       let go = way.go device in
@@ -123,7 +124,8 @@ module _ (begins : Beginning) (loss : Loss) where
 
   -- then there is a way of all, under the loss of the choices, and it chooses what was chosen
   way_of : (pieces : List Piece) (choices : Choices (acts_of pieces)) (states : States)
-      (sums : AllSums) → Agrees pieces choices → AllFollow begins (acts_of pieces) choices states sums
+      (sums : AllSums) → Agrees pieces choices
+      → AllFollow begins (acts_of pieces) choices states sums
       → (way : IsWay begins loss pieces states sums)
       × (choices_of begins loss pieces states sums way ≡ choices)
   way_of [] choices states sums agree ways = (ways, refl)
@@ -166,8 +168,8 @@ module _ (scope : Scope) (law : AcksMayBeHeard scope) (pieces : List Piece) wher
       → (loss : Loss) × LossFits loss pieces × IsWay scope.begins loss pieces states sums
   joined states sums are ways =
       let acts = acts_of pieces in
-      let own = λ (device : Device). chosen (machine_of scope.begins device) acts (states device) (sums device)
-      (ways device) in
+      let own = λ (device : Device). chosen (machine_of scope.begins device) acts (states device)
+      (sums device) (ways device) in
       let all : Device → Choices acts = λ device. (own device).0 in
       let found = joined_with_choices (merged acts all) states sums are
       (λ device. follows_as device (machine_of scope.begins device)

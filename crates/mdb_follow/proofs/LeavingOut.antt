@@ -74,7 +74,10 @@ module _ (laws : WithoutLaws) where
         let over = some_way laws.own_acts device machine (is_machine_of begins device) rest
         (acts_of pieces) (laws.left_out more pieces device left_out) first.0 first.1 in (
           record { state = over.0; sums = no_sums; way = over.1 },
-          record { followed = λ is. absurd (not_both more device is left_out); left_out = λ is. refl },
+          record {
+            followed = λ is. absurd (not_both more device is left_out);
+            left_out = λ is. refl;
+          },
         )
 
     -- and where it has one, each without further devices comes from one
@@ -106,8 +109,8 @@ module _ (laws : WithoutLaws) where
   run_without less more rows sums leaves run =
       let ways = rw leaves.begins at (split less.begins run.loss run.pieces run.states sums run.way)
       in
-      let all = λ (device : Device). one_without more.begins more run.pieces device (run.states device)
-      (sums device) (ways device) (has more.without device) refl in (
+      let all = λ (device : Device). one_without more.begins more run.pieces device
+      (run.states device) (sums device) (ways device) (has more.without device) refl in (
         (λ device. (all device).0.sums),
         record {
           followed = λ device. (all device).1.followed;
@@ -126,7 +129,8 @@ module _ (laws : WithoutLaws) where
   run_with less more rows other leaves reached run =
       let some = reached.1 in
       let is = laws.left less more rows some.pieces run.pieces leaves some.act_list run.act_list in
-      let without : EachArrives less.begins (acts_of (leave_out more some.pieces)) run.states other =
+      let rest = acts_of (leave_out more some.pieces) in
+      let without : EachArrives less.begins rest run.states other =
       rw leaves.begins (rw is at
       (split more.begins run.loss run.pieces run.states other run.way)) in
       let all = λ (device : Device). one_with less.begins more some.pieces device
@@ -149,6 +153,7 @@ pub run_leaves_nothing : OwnActs
     → (device : Device) → IsLeftOut scope device → sums device ≡ no_sums
 run_leaves_nothing own alone scope rows sums run device left_out =
     adds_nothing own device (machine_of scope.begins device) (is_machine_of scope.begins device)
-    (acts_of run.pieces) (acts_of run.pieces) (alone scope run.pieces device run.act_list.in_order left_out)
+    (acts_of run.pieces) (acts_of run.pieces)
+    (alone scope run.pieces device run.act_list.in_order left_out)
     (run.states device) (sums device)
     (split scope.begins run.loss run.pieces run.states sums run.way device)

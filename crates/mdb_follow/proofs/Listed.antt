@@ -202,7 +202,8 @@ module _ (code : ℕ) (cell : Cell) where
   with_cell-push [] lacks = refl
   with_cell-push (entry ∷ entries) lacks =
       by_code (λ es. es ≡ entry ∷ (entries ++ (code, cell) ∷ [])) entry entries
-      (λ is. absurd (lacks.0 is)) (λ not. ap (λ rest. entry ∷ rest) (with_cell-push entries lacks.1))
+      (λ is. absurd (lacks.0 is))
+      (λ not. ap (λ rest. entry ∷ rest) (with_cell-push entries lacks.1))
 
   pub with_cell-set : (entries : List (ℕ × Cell)) (i : ℕ) (d : ℕ × Cell) → i < length entries
       → Lacks (take i entries) code → (get_or entries i d).0 ≡ code

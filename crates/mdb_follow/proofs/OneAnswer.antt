@@ -162,7 +162,8 @@ module _ (scope : Scope) (laws : BusLaws scope) (events : List Event) (row : Eve
         let own : p.own ≡ q.own =
         sym (own-rule p) ∙ ap (λ x. rule_of (whose x)) act ∙ own-rule q in
         let fault : act_fault scope (broken-list p) row p.act p.own
-        ≡ act_fault scope (broken-list q) row q.act q.own = λ i. act_fault scope (same i) row (act i) (own i) in (
+        ≡ act_fault scope (broken-list q) row q.act q.own =
+        λ i. act_fault scope (same i) row (act i) (own i) in (
           p.counts ∙ ap (λ (f : LinkFault). f.rule) fault ∙ sym q.counts,
           p.blame ∙ ap (λ (f : LinkFault). f.blame) fault ∙ sym q.blame,
         )

@@ -56,16 +56,7 @@ use Rattle.mdb_follow.proofs.Told.{device-told}
 use Rattle.mdb_follow.proofs.Ends.{account-moves, account-none}
 use Rattle.mdb_follow.specs.Report.{device_facts_of}
 
--- what is known of devices, and the amounts without a value, are of their own acts
-pub record FactsAlike : Type 0 where
-  pub known : (begins : Beginning) (device : Device) (one other : List Act)
-      → own_acts device one ≡ own_acts device other
-      → (reported_of device).known begins one ≡ (reported_of device).known begins other
-  pub unvalued : (begins : Beginning) (device : Device) (one other : List Act)
-      → own_acts device one ≡ own_acts device other
-      → unvalued_of begins device one ≡ unvalued_of begins device other
-
--- and breaks tell nothing of them
+-- breaks tell nothing of devices
 pub record BreaksTellNothing : Type 0 where
   pub decimals : (begins : Beginning) (device : Device) (so_far : List Act)
       → All IsBreak (own_acts device so_far) → IsNotKnown begins device
@@ -73,25 +64,27 @@ pub record BreaksTellNothing : Type 0 where
   pub unvalued : (begins : Beginning) (device : Device) (so_far : List Act)
       → All IsBreak (own_acts device so_far) → unvalued_of begins device so_far ≡ 0
 
--- each run gives one without further devices, and the other way round
-pub record RunsWithout : Type 0 where
+-- what the laws say that a report without further devices needs: each run gives one without them,
+-- and the other way round, and what is known of devices is of their own acts
+pub record ReportLaws : Type 0 where
   pub to : (less more : Scope) (rows : List Event) (sums : AllSums) → LeavesOutMore less more
       → Run less rows sums
       → (other : AllSums) × AreSumsWithout more sums other × Run more rows other
   pub from : (less more : Scope) (rows : List Event) (other : AllSums) → LeavesOutMore less more
       → IsReached less rows → Run more rows other
       → (sums : AllSums) × AreSumsWithout more sums other × Run less rows sums
-
--- what the laws say that a report without further devices needs
-pub record ReportLaws : Type 0 where
-  pub runs : RunsWithout
   pub one : (scope : Scope) → OneActList scope
   pub stays : (less more : Scope) (rows : List Event) (pieces : List Piece)
       → LeavesOutMore less more → IsActList less pieces rows
       → IsActList more (leave_out more pieces) rows
   pub followed : (scope : Scope) (pieces : List Piece) (device : Device) → IsFollowed scope device
       → acts_with device (acts_of (leave_out scope pieces)) ≡ acts_with device (acts_of pieces)
-  pub facts : FactsAlike
+  pub known : (begins : Beginning) (device : Device) (one other : List Act)
+      → own_acts device one ≡ own_acts device other
+      → (reported_of device).known begins one ≡ (reported_of device).known begins other
+  pub unvalued : (begins : Beginning) (device : Device) (one other : List Act)
+      → own_acts device one ≡ own_acts device other
+      → unvalued_of begins device one ≡ unvalued_of begins device other
 
 -- what an account has come to in a run is of its device's sums there
 of_device : (account : AccountName) (one other : AllSums)
@@ -108,9 +101,9 @@ told_alike laws begins scope device followed pieces =
     let alike : (pieces : List Piece)
     → own_acts device (acts_of (leave_out scope pieces)) ≡ own_acts device (acts_of pieces) =
     λ pieces. laws.followed scope pieces device followed in
-    let known = λ (pieces : List Piece). laws.facts.known begins device
+    let known = λ (pieces : List Piece). laws.known begins device
     (acts_of (leave_out scope pieces)) (acts_of pieces) (alike pieces) in
-    let unvalued = laws.facts.unvalued begins device (acts_of (leave_out scope pieces))
+    let unvalued = laws.unvalued begins device (acts_of (leave_out scope pieces))
     (acts_of pieces) (alike pieces) in
     let facts : device_facts_of begins device (acts_of (leave_out scope pieces))
     ≡ device_facts_of begins device (acts_of pieces) = cc (known pieces, unvalued) in
@@ -125,9 +118,13 @@ module _ (laws : ReportLaws) (less more : Scope) (rows : List Event) (one : Repo
       → IsAccount (Run more rows) (sums_of account) (account_of account one)
   exact account followed = account-moves (Run less rows) (sums_of account) (Run more rows)
       (sums_of account)
-      (λ sums run. let without = laws.runs.to less more rows sums leaves run in
-      (without.0, without.2, of_device account sums without.0 (sym (without.1.followed _ followed))))
-      (λ sums run. let with = laws.runs.from less more rows sums leaves is.reached run in
+      (λ sums run. let without = laws.to less more rows sums leaves run in (
+        without.0,
+        without.2,
+        of_device account sums without.0
+            (sym (without.1.followed _ followed)),
+      ))
+      (λ sums run. let with = laws.from less more rows sums leaves is.reached run in
       (with.0, with.2, of_device account sums with.0 (with.1.followed _ followed)))
       _ (named-account less rows one is account)
 
@@ -153,7 +150,7 @@ module _ (laws : ReportLaws) (less more : Scope) (rows : List Event) (one : Repo
         → IsAccount (Run more rows) (sums_of account)
         (if left then no_account else account_of account one)
     accounts_without account true left =
-        let some = laws.runs.to less more rows is.reached.0 leaves is.reached.1 in
+        let some = laws.to less more rows is.reached.0 leaves is.reached.1 in
         account-none (Run more rows) (sums_of account) some.0 some.2
         (λ sums run. of_device account sums (λ device. no_sums) (adds more rows sums run _ left))
     accounts_without account false followed = exact account followed
@@ -165,7 +162,7 @@ module _ (laws : ReportLaws) (less more : Scope) (rows : List Event) (one : Repo
         let accounts : AccountName → Account = λ account.
         if has more.without (account_device account) then no_account
         else account_of account one in
-        let reached = laws.runs.to less more rows is.reached.0 leaves is.reached.1 in
+        let reached = laws.to less more rows is.reached.0 leaves is.reached.1 in
         let other : Report = report_of more (length rows) (leave_out more is.pieces) accounts in
         let other_is : IsReport more rows other = record {
           reached = (reached.0, reached.2);

@@ -86,7 +86,8 @@ module _ (begins : Beginning) (scope : Scope) where
         lists_stay : (pieces : List Piece)
             → asks_of begins device (leave_out scope pieces) ≡ asks_of begins device pieces
         lists_stay [] = refl
-        lists_stay (piece ∷ pieces) = newest piece (is_left_out scope piece) refl (lists_stay pieces)
+        lists_stay (piece ∷ pieces) =
+            newest piece (is_left_out scope piece) refl (lists_stay pieces)
           where
             newest : (piece : Piece) (left : Bool) → is_left_out scope piece ≡ left
                 → asks_of begins device (leave_out scope pieces) ≡ asks_of begins device pieces

@@ -1,5 +1,5 @@
 -- Ways through one act more.
-use Rattle.std.proofs.Common.{arith, ℤ, pos, ◌-ℤ◌, ◌<◌, ◌+◌, length, take, ◌≡◌, ◌⊎◌, inl, inr, ℕ}
+use Rattle.std.proofs.Common.{arith, ℤ, pos, ◌-ℤ◌, ◌<◌, ◌+◌, ◌^◌, length, take, ◌≡◌, ◌⊎◌, inl, inr, ℕ}
 use Rattle.std.proofs.Common.{refl, sym, ◌∙◌, ap, subst, add-zero, List, [], ◌∷◌}
 use Rattle.std.specs.Prelude.{All, Contains, slice_index_or, ◌↔◌}
 use Rattle.mdb_bus.specs.declared.act.Act.{Act}
@@ -23,7 +23,9 @@ use Rattle.mdb_follow.specs.Tables.{ArrivesAnywhere, ArrivesAt, Bounds, IsTable}
 use Rattle.std.proofs.lemmas.Int.{ints}
 use Rattle.std.proofs.lemmas.List.{take_more}
 use Rattle.std.proofs.lemmas.List.Elements.{All-append, All-cons, All-contains, All-nil}
-use Rattle.mdb_follow.specs.inner.Entries.{AllRest, RestsAt, joined_cells}
+use Rattle.mdb_follow.specs.inner.Entries.{AllRest, IsKeyed, IsPlaced, RestsAt, joined_cells}
+use Rattle.mdb_follow.specs.Limits.{IsTableWithin}
+use Rattle.mdb_bus.specs.declared.scope.Beginning.{Beginning}
 use Rattle.mdb_follow.proofs.Ends.{cell-joined, cell-same}
 use Rattle.mdb_follow.proofs.Led.{Led}
 use Rattle.mdb_follow.proofs.Listed.{bounds-same, contains-cases, contains-here, contains-none}
@@ -40,6 +42,19 @@ no-gains sums = fun_ext (λ slot.
     } in
     let same : sums slot ≡ with 0 = simp add-zero in
     same ∙ ap with (sym (none_at slot)))
+
+-- The entries so far: what the steps from so many of those before an act lead to.
+pub record LedSoFar {State : Type 0} (number : ℕ) (code_of : State → ℕ)
+    (machine : Beginning → Machine State) (Known : Beginning → List Act → Type 0) (act : Act)
+    (from : List (ℕ × Cell)) (count : ℕ) (into : List (ℕ × Cell)) (places : List ℕ)
+    : Type 0 where
+  pub keyed : IsKeyed number into
+  pub placed : IsPlaced into places
+  pub led : (begins : Beginning) (acts : List Act) → Known begins acts
+      → IsTable code_of (machine begins) acts from
+      → Bounds (Led (ArrivesAt code_of (Arrives (machine begins) acts))
+      (IsMove act code_of ((machine begins).Step acts act)) (take count from)) into
+  pub within : (limit : ℕ) → IsTableWithin limit from → IsTableWithin (limit + 2 ^ 32) into
 
 module _ {State : Type 0} (code_of : State → ℕ) (machine : Machine State) where
   -- The steps from the entries of a table lead to what arrives after one act more.

@@ -12,7 +12,8 @@ pub returns-then-heeds_choice-clause-whole : goal.returns-then-heeds_choice-clau
 returns-then-heeds_choice-clause-whole g c begins acts stands next gains move =
     let p = g.P.Pair in
     other-or-plain c.args.act.now p.code_of ((p.machine begins).Step acts c.args.act.now)
-    c.args.code c.other_step.result next gains (c.other_step.ensures.steps begins acts stands next gains) move
+    c.args.code c.other_step.result next gains
+    (c.other_step.ensures.steps begins acts stands next gains) move
 
 pub returns-else-heeds_choice-clause-whole : goal.returns-else-heeds_choice-clause-whole
 returns-else-heeds_choice-clause-whole g c begins acts stands next gains move =

@@ -1,5 +1,5 @@
 -- One cell more: it is joined to the entry of its code, or the code has none and it is an entry.
-use Rattle.std.proofs.Common.{rules, ◌≡◌, ℕ, List, [], sym, ◌∙◌, ap, get_or}
+use Rattle.std.proofs.Common.{rules, ◌≡◌, ℕ, Bool, false, List, [], sym, ◌∙◌, ap, get_or}
 use Rattle.std.specs.Prelude.{IsTrue}
 use Rattle.std.proofs.lemmas.Bool.{false≢true}
 use Rattle.mdb_follow.specs.declared.cell.Cell.{Cell}
@@ -34,19 +34,19 @@ returns-then-has_at-clause-placed g c =
     c.requires.placed)
 
 -- what the test tells where it fails
-lacks-told : (entries slice : List (ℕ × Cell)) (places : List ℕ) (code : ℕ)
-    → slice ≡ entries → IsPlaced entries places
-    → (HasAt slice (get_or places code 0) code → ⊥) → Lacks entries code
-lacks-told entries slice places code is placed not =
+lacks-told : (entries slice : List (ℕ × Cell)) (places : List ℕ) (code : ℕ) (told : Bool)
+    → slice ≡ entries → IsPlaced entries places → told ≡ false
+    → (HasAt slice (get_or places code 0) code → IsTrue told) → Lacks entries code
+lacks-told entries slice places code told is placed failed finds =
     placed-lacks entries places code (0, record { accounts = [] }) placed
-    (λ has. not (rw is has))
+    (λ has. false≢true (sym failed ∙ finds (rw is has)))
 
 pub push-requires : goal.push-requires
 push-requires g c =
     let entries = c.args.entries.now in
     let lacks = lacks-told entries c.as_slice.result.now c.args.places.now c.args.code
-    c.as_slice.ensures c.requires.placed
-    (λ has. false≢true (sym c.if-has_at.false ∙ c.has_at.ensures.1 has)) in (
+    c.has_at.result c.as_slice.ensures c.requires.placed c.if-has_at.false
+    c.has_at.ensures.1 in (
       search rules,
       keyed-room _ entries c.args.code c.requires.keyed c.requires.below lacks c.args.cell.now,
     )
@@ -55,8 +55,8 @@ pub returns-else-has_at-clause-entries : goal.returns-else-has_at-clause-entries
 returns-else-has_at-clause-entries g c =
     let entries = c.args.entries.now in
     let lacks = lacks-told entries c.as_slice.result.now c.args.places.now c.args.code
-    c.as_slice.ensures c.requires.placed
-    (λ has. false≢true (sym c.if-has_at.false ∙ c.has_at.ensures.1 has)) in
+    c.has_at.result c.as_slice.ensures c.requires.placed c.if-has_at.false
+    c.has_at.ensures.1 in
     c.push.ensures
     ∙ sym (with_cell-push c.args.code c.moved-else-has_at.result entries lacks)
     ∙ ap (with_cell entries c.args.code) c.moved-else-has_at.ensures
@@ -70,8 +70,8 @@ pub returns-else-has_at-clause-placed : goal.returns-else-has_at-clause-placed
 returns-else-has_at-clause-placed g c =
     let entries = c.args.entries.now in
     let lacks = lacks-told entries c.as_slice.result.now c.args.places.now c.args.code
-    c.as_slice.ensures c.requires.placed
-    (λ has. false≢true (sym c.if-has_at.false ∙ c.has_at.ensures.1 has)) in
+    c.has_at.result c.as_slice.ensures c.requires.placed c.if-has_at.false
+    c.has_at.ensures.1 in
     placed-push entries c.push.new.self c.args.places.now c.args.code c.len.result
     c.moved-else-has_at.result c.requires.placed lacks (search rules) c.len.ensures
     c.push.ensures

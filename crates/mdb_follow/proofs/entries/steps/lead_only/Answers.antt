@@ -7,8 +7,11 @@ use Rattle.mdb_follow.proofs.entries.steps.lead_only.Goals.{in_default-via-in_de
 
 pub returns-in-Some-other-clause-led : goal.returns-in-Some-other-clause-led
 returns-in-Some-other-clause-led g c entry is =
-    rw (c.in-None.is, c.in-Some-other.is)
-    (c.in-Some-other.step ∷ [], two-moves None (Some c.in-Some-other.step), c.move_only.ensures.moved entry is)
+    rw (c.in-None.is, c.in-Some-other.is) (
+      c.in-Some-other.step ∷ [],
+      two-moves None (Some c.in-Some-other.step),
+      c.move_only.ensures.moved entry is,
+    )
 
 pub returns-in-Some-other-2-clause-led : goal.returns-in-Some-other-2-clause-led
 returns-in-Some-other-2-clause-led g c entry is =

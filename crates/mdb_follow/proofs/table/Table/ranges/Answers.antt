@@ -19,8 +19,8 @@ pub returns-else-self-clause-exact : goal.returns-else-self-clause-exact
 returns-else-self-clause-exact g c begins acts table =
     let is = c.as_slice-else-self.ensures ∙ rw c.if-self.false at c.self.view_is in
     table-joined g.P.Pair.code_of (g.P.Pair.machine begins) acts c.args.self.now
-    c.join_all-else-self.result (λ entry rest same. c.join_all-else-self.ensures.joined entry rest (is ∙ same))
-    table
+    c.join_all-else-self.result
+    (λ entry rest same. c.join_all-else-self.ensures.joined entry rest (is ∙ same)) table
 
 pub returns-else-self-clause-within : goal.returns-else-self-clause-within
 returns-else-self-clause-within g c limit fits =

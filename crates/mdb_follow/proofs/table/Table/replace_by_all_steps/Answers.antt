@@ -10,7 +10,7 @@ returns-then-is_empty-clause-none g c begins acts stands table =
     let is = c.as_slice.ensures ∙ rw c.if-self.true at c.self.view_is in
     nothing-arrives g.P.Pair.code_of (g.P.Pair.machine begins) (c.args.act.now ∷ acts)
     c.fill_all.new.into (c.fill_all.ensures.table begins acts stands (rw is table))
-    (nil-told c.fill_all.new.into c.is_empty.result c.is_empty.ensures c.if-is_empty.true)
+    (nil-told _ c.is_empty.result c.is_empty.ensures c.if-is_empty.true)
 
 pub returns-then-is_empty-clause-within : goal.returns-then-is_empty-clause-within
 returns-then-is_empty-clause-within g c limit all =
@@ -28,14 +28,15 @@ returns-else-is_empty-clause-table g c begins acts stands table =
     let is = c.as_slice.ensures ∙ rw c.if-self.true at c.self.view_is in
     table-some g.P.Pair.code_of (g.P.Pair.machine begins) (c.args.act.now ∷ acts)
     c.fill_all.new.into (c.fill_all.ensures.table begins acts stands (rw is table))
-    (some-told c.fill_all.new.into c.is_empty.result c.is_empty.ensures c.if-is_empty.false)
+    (some-told _ c.is_empty.result c.is_empty.ensures c.if-is_empty.false)
 
 pub returns-then-is_empty-2-clause-none : goal.returns-then-is_empty-2-clause-none
 returns-then-is_empty-2-clause-none g c begins acts stands table =
     let is = c.as_slice-else-self.ensures ∙ rw c.if-self.false at c.self.view_is in
     nothing-arrives g.P.Pair.code_of (g.P.Pair.machine begins) (c.args.act.now ∷ acts)
-    c.fill_all-else-self.new.into (c.fill_all-else-self.ensures.table begins acts stands (rw is table))
-    (nil-told c.fill_all-else-self.new.into c.is_empty-else-self.result c.is_empty-else-self.ensures c.if-is_empty-2.true)
+    c.fill_all-else-self.new.into
+    (c.fill_all-else-self.ensures.table begins acts stands (rw is table))
+    (nil-told _ c.is_empty-else-self.result c.is_empty-else-self.ensures c.if-is_empty-2.true)
 
 pub returns-then-is_empty-2-clause-within : goal.returns-then-is_empty-2-clause-within
 returns-then-is_empty-2-clause-within g c limit all =
@@ -52,5 +53,6 @@ pub returns-else-is_empty-2-clause-table : goal.returns-else-is_empty-2-clause-t
 returns-else-is_empty-2-clause-table g c begins acts stands table =
     let is = c.as_slice-else-self.ensures ∙ rw c.if-self.false at c.self.view_is in
     table-some g.P.Pair.code_of (g.P.Pair.machine begins) (c.args.act.now ∷ acts)
-    c.fill_all-else-self.new.into (c.fill_all-else-self.ensures.table begins acts stands (rw is table))
-    (some-told c.fill_all-else-self.new.into c.is_empty-else-self.result c.is_empty-else-self.ensures c.if-is_empty-2.false)
+    c.fill_all-else-self.new.into
+    (c.fill_all-else-self.ensures.table begins acts stands (rw is table))
+    (some-told _ c.is_empty-else-self.result c.is_empty-else-self.ensures c.if-is_empty-2.false)
