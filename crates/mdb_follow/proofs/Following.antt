@@ -170,9 +170,7 @@ module _ (joins : (scope : Scope) → Joins scope) where
   accepted-reached follower events has =
       let some = some-ways follower events has in (
         (λ device. (some device).sums),
-        run_of (scope_of follower) (joins (scope_of follower)) events has.pieces
-            (λ device. (some device).state) (λ device. (some device).sums) has.act_list
-            (λ device. (some device).way),
+        run_of (scope_of follower) (joins (scope_of follower)) events has.pieces has.act_list some,
       )
 
   pub reached-by : (follower : Follower) (events : List Event)
@@ -411,8 +409,7 @@ module _ (scope : Scope) (one : OneActList scope) (rows : List Event) (pieces : 
             let all = with_one Some_way device its some in (
               (λ d. (all d).sums),
               ap (λ way. way.sums) (with_one-same Some_way device its some),
-              run_of scope joins rows pieces (λ d. (all d).state) (λ d. (all d).sums) list
-                  (λ d. (all d).way),
+              run_of scope joins rows pieces list all,
             );
         lower = λ all run. record { state = run.states device; way = arrived all run device };
       }

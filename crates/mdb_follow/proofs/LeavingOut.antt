@@ -117,9 +117,7 @@ module _ (laws : WithoutLaws) where
           left_out = λ device. (all device).1.left_out;
         },
         run_of more (laws.joins more) rows (leave_out more run.pieces)
-            (λ device. (all device).0.state) (λ device. (all device).0.sums)
-            (laws.stays less more rows run.pieces leaves run.act_list)
-            (λ device. (all device).0.way),
+            (laws.stays less more rows run.pieces leaves run.act_list) (λ device. (all device).0),
       )
 
   -- where rows have a run, each run without further devices comes from one
@@ -141,8 +139,7 @@ module _ (laws : WithoutLaws) where
           followed = λ device. (all device).1.followed;
           left_out = λ device. (all device).1.left_out;
         },
-        run_of less (laws.joins less) rows some.pieces (λ device. (all device).0.state)
-            (λ device. (all device).0.sums) some.act_list (λ device. (all device).0.way),
+        run_of less (laws.joins less) rows some.pieces some.act_list (λ device. (all device).0),
       )
 
 -- in a run the sums of a device that is left out are nothing

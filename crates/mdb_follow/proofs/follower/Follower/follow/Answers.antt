@@ -1,3 +1,4 @@
+-- Sides that follow an act stay within the limit of the rows, and stand for acts.
 use Rattle.std.proofs.Common.{arith, ◌*◌, ◌^◌}
 use Rattle.mdb_follow.specs.inner.SideSteps.{AreStanding, AreWithin}
 use Rattle.mdb_follow.proofs.Sided.{by-stay}
