@@ -1,8 +1,8 @@
 -- A table of one entry, which is led over an act where it stands.
-use Rattle.std.proofs.Common.{◌≡◌, ◌⊎◌, ◌+◌, ◌<◌, ◌^◌, ℕ, Bool, false, true, refl, sym, subst}
+use Rattle.std.proofs.Common.{◌≡◌, ◌⊎◌, ◌+◌, ◌<◌, ◌^◌, ℕ, Bool, false, true, refl}
 use Rattle.std.proofs.Common.{arith, List, [], ◌∷◌, length, Option, Some, None}
 use Rattle.std.specs.Bool.{OnFalse, OnTrue}
-use Rattle.std.specs.Prelude.{All, Contains, IfSome, ◌↔◌}
+use Rattle.std.specs.Prelude.{All, IfSome, ◌↔◌}
 use Rattle.std.proofs.lemmas.List.Elements.{All-nil}
 use Rattle.mdb_msgs.specs.declared.command.Device.{Device}
 use Rattle.mdb_bus.specs.declared.act.Act.{Act}
@@ -16,8 +16,8 @@ use Rattle.mdb_follow.specs.declared.cell.Cell.{Cell}
 use Rattle.mdb_follow.specs.Arrivals.{Arrives}
 use Rattle.mdb_follow.specs.Limits.{IsCellWithin, IsTableWithin}
 use Rattle.mdb_follow.specs.Tables.{ArrivesAt, Bounds, IsTable}
-use Rattle.mdb_follow.specs.inner.Entries.{AreBelow, AreMoves, IsKeyed, LeadTo, with_moves}
-use Rattle.mdb_follow.proofs.Led.{Led, keyed-with_moves, led-more, led-none}
+use Rattle.mdb_follow.specs.inner.Entries.{AreBelow, AreMoves, LeadTo}
+use Rattle.mdb_follow.proofs.Led.{keyed-with_moves, led-more, led-none}
 use Rattle.mdb_follow.proofs.Led.{moves-kept, within-with_moves}
 use Rattle.mdb_follow.proofs.Listed.{contains-here}
 use Rattle.mdb_follow.proofs.TwoSteps.{either-moves, two-moves}

@@ -1,6 +1,6 @@
 -- What is kept of each device, by the places of the devices: that of one goes on, and in a loop
 -- over the devices that of each.
-use Rattle.std.proofs.Common.{refl, ap, subst, sym, inl, inr, ◌∙◌, ◌≡◌, ◌⊎◌, ◌+◌, ◌<◌, ◌≤◌, ℕ, zero}
+use Rattle.std.proofs.Common.{refl, ap, sym, inl, inr, ◌∙◌, ◌≡◌, ◌⊎◌, ◌+◌, ◌<◌, ◌≤◌, ℕ}
 use Rattle.std.proofs.Common.{suc, arith, get_or}
 use Rattle.std.proofs.lemmas.Bool.{cases_eq}
 use Rattle.mdb_msgs.specs.declared.command.Device.{Device}

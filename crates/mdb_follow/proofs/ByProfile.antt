@@ -1,5 +1,5 @@
 -- A way of a reader by either profile is one of the machine of its profile.
-use Rattle.std.proofs.Common.{refl, subst, ◌≡◌, List, [], ◌∷◌, Option, Some, None}
+use Rattle.std.proofs.Common.{refl, ◌≡◌, List, [], ◌∷◌, Option, Some, None}
 use Rattle.std.specs.Prelude.{IsSomeAnd}
 use Rattle.std.proofs.lemmas.Option.{same_Some}
 use Rattle.mdb_bus.specs.declared.act.Act.{Act}

@@ -1,9 +1,7 @@
 -- Ranges of sums of one kind and another, and of sums that a step added to.
-use Rattle.std.proofs.Common.{◌≡◌, ◌⊎◌, inl, inr, ℕ, ◌+◌, ◌≤◌, ◌<◌, ◌^◌, refl, sym, ◌∙◌, ap, subst, arith}
-use Rattle.std.proofs.Common.{cond, true, false}
+use Rattle.std.proofs.Common.{◌≡◌, ◌⊎◌, inl, inr, ℕ, ◌+◌, ◌≤◌, ◌<◌, ◌^◌, refl, sym, ◌∙◌, ap, arith}
 use Rattle.std.specs.Prelude.{ℤ, pos, neg_ℤ, ◌+ℤ◌, ◌-ℤ◌, ◌≤ℤ◌}
 use Rattle.std.specs.Int.{int_max, int_min}
-use Rattle.std.specs.Int.RustNames.{int_lt}
 use Rattle.std.proofs.lemmas.Int.{ints, clamps}
 use Rattle.mdb_machine.specs.declared.gains.Gains.{Gains}
 use Rattle.mdb_machine.specs.SmallGains.{IsSmall}
@@ -11,7 +9,7 @@ use Rattle.mdb_follow.specs.declared.range.Range.{Range}
 use Rattle.mdb_follow.specs.declared.account.Account.{Account}
 use Rattle.mdb_follow.specs.declared.cell.Cell.{Cell}
 use Rattle.mdb_machine.proofs.Slots.{at_slot, small_at}
-use Rattle.mdb_follow.specs.Cells.{joined_account, joined_cell, joined_range, joined_slot, IsCell}
+use Rattle.mdb_follow.specs.Cells.{joined_cell, joined_range, joined_slot, IsCell}
 use Rattle.mdb_follow.specs.Cells.{moved_account, moved_cell, moved_range, moved_slot}
 use Rattle.mdb_follow.specs.Limits.{IsAccountWithin, IsCellWithin, IsRangeWithin}
 use Rattle.mdb_follow.specs.Ranges.{IsRange, no_account}

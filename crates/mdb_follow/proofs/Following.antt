@@ -1,5 +1,5 @@
 -- What a follower that stands for events goes on to, and what it answers.
-use Rattle.std.proofs.Common.{refl, sym, ap, subst, ◌∙◌, ◌≡◌, inl, inr, ℕ, ℤ, pos, ◌-ℤ◌, ◌+◌, List}
+use Rattle.std.proofs.Common.{refl, sym, ap, subst, ◌∙◌, ◌≡◌, inl, inr, ℕ, ◌+◌, List}
 use Rattle.std.proofs.Common.{[], ◌∷◌, ◌++◌, length, length-append, ◌<◌, ◌≤◌, take, drop, get_or}
 use Rattle.std.proofs.Common.{append_assoc, add-one, arith, map, Option, Some, None}
 use Rattle.std.proofs.lemmas.List.{take_all, take_more}
@@ -34,7 +34,6 @@ use Rattle.mdb_follow.specs.declared.account_name.TheConstants.AccountName.{ALL}
 use Rattle.mdb_follow.specs.declared.cell.Cell.{Cell}
 use Rattle.mdb_follow.specs.declared.follower.Follower.{Follower}
 use Rattle.mdb_follow.specs.declared.offence.Offence.{Offence}
-use Rattle.mdb_follow.specs.declared.range.Range.{Range}
 use Rattle.mdb_follow.specs.declared.report.Report.{Report}
 use Rattle.mdb_follow.specs.AccountNames.{account_device, account_in, account_slot}
 use Rattle.mdb_follow.specs.Cells.{account_by, IsCell, slot_account}
@@ -45,7 +44,6 @@ use Rattle.mdb_follow.specs.Follower.{HasAccepted, StandsFor, is_late, rows_of, 
 use Rattle.mdb_follow.specs.Sales.{SalesFollowApprovals}
 use Rattle.mdb_follow.specs.inner.FollowerSteps.{HasFollowedAct, HasStopped}
 use Rattle.mdb_follow.specs.Limits.{IsAccountWithin, IsCellWithin}
-use Rattle.mdb_follow.specs.Ranges.{IsRange}
 use Rattle.mdb_follow.specs.AccountRanges.{IsAccount}
 use Rattle.mdb_follow.specs.Sums.{Sums}
 use Rattle.mdb_follow.specs.Tables.{ArrivesAnywhere, EachArrives}

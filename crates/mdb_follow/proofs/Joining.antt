@@ -1,9 +1,8 @@
 -- Ways of each device, and of all.
-use Rattle.std.proofs.Common.{arith, refl, sym, ap, ◌∙◌, ◌≡◌, ◌↔◌, ◌<◌, ◌+◌, cond, nat_eq, ℕ, suc}
-use Rattle.std.proofs.Common.{Bool, true, false, List, [], ◌∷◌, ◌++◌, length, length-append}
+use Rattle.std.proofs.Common.{arith, refl, sym, ap, ◌∙◌, ◌≡◌, ◌↔◌, ◌<◌, cond, nat_eq, ℕ}
+use Rattle.std.proofs.Common.{Bool, true, false, List, [], ◌∷◌, length, length-append}
 use Rattle.std.proofs.lemmas.Bool.Decides.{nat_tests}
 use Rattle.mdb_msgs.specs.declared.command.Device.{Device}
-use Rattle.mdb_bus.specs.declared.act.Act.{Act}
 use Rattle.mdb_bus.specs.ActLists.{ArePieces, Piece, Whole, acts_of, events_of, piece_events}
 use Rattle.mdb_bus.specs.Acts.{IsAck}
 use Rattle.mdb_bus.specs.Wish.{HearsAsWished}
@@ -11,15 +10,11 @@ use Rattle.mdb_bus.specs.Loss.{IsHeard, Loss, LossFits}
 use Rattle.mdb_bus.specs.declared.scope.Beginning.{Beginning}
 use Rattle.mdb_machine.specs.declared.choice.Choice.{Choice}
 use Rattle.mdb_machine.specs.declared.choice.Choice.TheVariants.{Lost}
-use Rattle.mdb_machine.specs.declared.gains.Gains.{Gains}
-use Rattle.mdb_machine.specs.Machine.{Machine}
-use Rattle.mdb_machine.specs.Pair.{IsMachineOf}
 use Rattle.mdb_follow.specs.Tables.{EachArrives}
-use Rattle.mdb_follow.specs.Sums.{Sums}
 use Rattle.mdb_follow.specs.Machines.{machine_of}
-use Rattle.mdb_follow.specs.Runs.{AllSums, Goes, IsWay, States}
+use Rattle.mdb_follow.specs.Runs.{AllSums, IsWay, States}
 use Rattle.mdb_follow.specs.SameAcks.{HearSameAcks}
-use Rattle.mdb_follow.specs.Choosing.{AllFollow, Choices, Follows, FollowsBy, choices_of}
+use Rattle.mdb_follow.specs.Choosing.{AllFollow, Choices, choices_of}
 use Rattle.mdb_follow.proofs.Choosing.{arrives, chosen, follows_as, merged, merged_agrees}
 use Rattle.mdb_follow.proofs.Machines.{is_machine_of}
 use Rattle.mdb_bus.specs.declared.scope.Scope.{Scope}

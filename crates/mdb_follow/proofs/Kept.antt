@@ -1,7 +1,6 @@
 -- What is kept of silences goes on as the lists of asks do: of one device, and of each.
-use Rattle.std.proofs.Common.{subst, sym, inl, inr, ◌∙◌, ◌≡◌, ◌+◌, ◌≤◌, ℕ, Bool, List, [], ◌∷◌}
+use Rattle.std.proofs.Common.{sym, inl, inr, ◌∙◌, ◌≡◌, ◌+◌, ◌≤◌, ℕ, List}
 use Rattle.std.proofs.Common.{arith, length, set, get_or}
-use Rattle.std.specs.List.{AllByRecursion}
 use Rattle.std.specs.Prelude.{if◌then◌else◌}
 use Rattle.std.proofs.lemmas.Bool.{false_from_ne_true}
 use Rattle.std.proofs.lemmas.Grind.{get_or-set_at}
@@ -14,7 +13,7 @@ use Rattle.mdb_follow.specs.declared.silence.Silence.{Silence}
 use Rattle.mdb_follow.specs.declared.silence.Silences.{Silences}
 use Rattle.mdb_follow.specs.declared.silence.Unanswered.TheVariants.{Nothing}
 use Rattle.mdb_follow.specs.ReportedDevices.{device_place}
-use Rattle.mdb_follow.specs.Silences.{TimedAsk, each_count, no_counts}
+use Rattle.mdb_follow.specs.Silences.{TimedAsk, no_counts}
 use Rattle.mdb_follow.specs.SilencesKept.{AreAtMost, silence_in}
 use Rattle.mdb_follow.specs.SilenceSteps.{AllGoOn, SilenceGoesOn, OneGoesOn}
 use Rattle.mdb_follow.proofs.ByDevice.{below, one_place, same_or_not}

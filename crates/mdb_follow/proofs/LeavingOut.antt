@@ -1,5 +1,5 @@
 -- Runs where further devices are left out.
-use Rattle.std.proofs.Common.{refl, subst, sym, ◌∙◌, ◌≡◌, Bool, true, false, List}
+use Rattle.std.proofs.Common.{refl, sym, ◌∙◌, ◌≡◌, Bool, true, false, List}
 use Rattle.mdb_words.specs.declared.event.Event.{Event}
 use Rattle.mdb_msgs.specs.declared.command.Device.{Device}
 use Rattle.mdb_msgs.specs.DeviceSets.{has}

@@ -1,6 +1,6 @@
 -- What the steps from all entries lead to.
 use Rattle.std.proofs.Common.{◌≡◌, ◌⊎◌, inl, inr, ℕ, ◌+◌, ◌<◌, ◌^◌, sym, ap, subst, List, [], ◌∷◌}
-use Rattle.std.proofs.Common.{◌++◌, ◌∙◌, refl, length, get_or, take}
+use Rattle.std.proofs.Common.{◌++◌, refl, length, get_or, take}
 use Rattle.std.specs.Prelude.{Contains, All, ◌↔◌}
 use Rattle.std.proofs.lemmas.List.Elements.{All-head, All-tail, Contains-append_left}
 use Rattle.std.proofs.lemmas.List.Elements.{Contains-get_or, Contains-push, Contains-push_cases}

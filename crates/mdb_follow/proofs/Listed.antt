@@ -3,7 +3,7 @@ use Rattle.std.proofs.Common.{◌≡◌, ◌⊎◌, inl, inr, ℕ, zero, suc, �
 use Rattle.std.proofs.Common.{arith, Bool, true, false, List, [], ◌∷◌, ◌++◌, length, get_or, take}
 use Rattle.std.proofs.Common.{eqb, map}
 use Rattle.std.proofs.lemmas.List.{length-map}
-use Rattle.std.specs.Prelude.{Contains, All, slice_set, ◌==◌, ◌||◌, if◌then◌else◌}
+use Rattle.std.specs.Prelude.{Contains, All, slice_set, ◌==◌, if◌then◌else◌}
 use Rattle.std.specs.List.{IsDistinct, AllByRecursion, list_any}
 use Rattle.std.proofs.lemmas.List.Elements.{All-cons, All-head, All-tail}
 use Rattle.std.proofs.lemmas.Bool.{eqb-true, eq-eqb, false≢true}
@@ -14,7 +14,7 @@ use Rattle.mdb_follow.specs.Cells.{joined_cell, IsCell}
 use Rattle.mdb_follow.specs.Limits.{IsCellWithin, IsTableWithin}
 use Rattle.mdb_follow.specs.Sums.{Sums}
 use Rattle.mdb_follow.specs.Tables.{Bounds}
-use Rattle.mdb_follow.specs.inner.Entries.{AreApart, AreBelow, HasAt, IsKeyed, Lacks, with_cell}
+use Rattle.mdb_follow.specs.inner.Entries.{AreApart, AreBelow, IsKeyed, Lacks, with_cell}
 use Rattle.mdb_follow.proofs.Ends.{cell-joined, cell-joined-within, cell-same}
 use Rattle.std.proofs.lemmas.Bool.{cases_eq, false_from_ne_true}
 

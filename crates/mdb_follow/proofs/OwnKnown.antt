@@ -1,5 +1,5 @@
 -- What is known of any device, and the amounts of it without a value, by what is known of each.
-use Rattle.std.proofs.Common.{ap, refl, ◌∙◌, ◌≡◌, ℕ, List, [], None, All, option_map}
+use Rattle.std.proofs.Common.{refl, ◌≡◌, ℕ, List, [], None, All}
 use Rattle.mdb_msgs.specs.declared.command.Device.{Device}
 use Rattle.mdb_msgs.specs.declared.command.Device.TheVariants as devices
 use Rattle.mdb_msgs.specs.declared.command.ReaderUnit.{ReaderUnit}

@@ -1,5 +1,5 @@
 -- Reached rows.
-use Rattle.std.proofs.Common.{subst, List, [], ◌∷◌, ◌++◌, Option, Some, None}
+use Rattle.std.proofs.Common.{List, [], ◌∷◌, ◌++◌, Option, Some, None}
 use Rattle.mdb_words.specs.declared.event.Event.{Event}
 use Rattle.mdb_msgs.specs.declared.command.Device.{Device}
 use Rattle.mdb_bus.specs.declared.act.Act.{Act}
@@ -55,7 +55,7 @@ pub run_of : (scope : Scope) → Joins scope → (rows : List Event) (pieces : L
     → Run scope rows (λ device. (all device).sums)
 run_of scope joins rows pieces list all =
     let found = joins pieces (λ device. (all device).state) (λ device. (all device).sums)
-        list.in_order (λ device. (all device).way) in
+    list.in_order (λ device. (all device).way) in
     record {
       pieces = pieces;
       act_list = list;

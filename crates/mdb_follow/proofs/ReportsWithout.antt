@@ -1,9 +1,7 @@
 -- Reports, reached rows and offences where further devices are left out.
-use Rattle.std.proofs.Common.{ap, ap₂, refl, subst, sym, ◌∙◌, ◌≡◌, inl, inr, ℕ, ℤ, ◌≤ℤ◌, pos}
-use Rattle.std.specs.Prelude.{◌-ℤ◌}
-use Rattle.std.proofs.Common.{Bool, true, false, ◌&&◌, if◌then◌else◌, arith, length}
+use Rattle.std.proofs.Common.{ap, refl, sym, ◌∙◌, ◌≡◌, inl, inr}
+use Rattle.std.proofs.Common.{Bool, true, false, ◌&&◌, if◌then◌else◌, length}
 use Rattle.std.proofs.Common.{List, [], ◌∷◌, ◌++◌, Option, Some, None, All}
-use Rattle.std.proofs.lemmas.Int.{ints}
 use Rattle.std.proofs.lemmas.List.Elements.{All-from_recursion}
 use Rattle.mdb_words.specs.declared.event.Event.{Event}
 use Rattle.mdb_msgs.specs.Commands.{device_of}
@@ -30,24 +28,19 @@ use Rattle.mdb_machine.specs.Pair.{IsBreak, own_acts}
 use Rattle.mdb_follow.specs.declared.account.Account.{Account}
 use Rattle.mdb_follow.specs.declared.account_name.AccountName.{AccountName}
 use Rattle.mdb_follow.specs.declared.offence.Offence.{Offence}
-use Rattle.mdb_follow.specs.declared.range.Range.{Range}
-use Rattle.mdb_follow.specs.declared.report.DeviceReport.{DeviceReport}
 use Rattle.mdb_follow.specs.declared.report.Report.{Report}
-use Rattle.mdb_follow.specs.declared.report.DeviceFacts.{DeviceFacts}
-use Rattle.mdb_follow.specs.declared.silence.AskCounts.{AskCounts}
 use Rattle.mdb_follow.specs.AccountNames.{account_device, account_of, account_slot, sums_of}
 use Rattle.mdb_follow.specs.ReportedDevices.{reported_of}
 use Rattle.mdb_follow.specs.LeavingOut.{AreSumsWithout, HasNothingLeftOut, HaveSameFollowed}
 use Rattle.mdb_follow.specs.LeavingOut.{IsNotKnown}
 use Rattle.mdb_follow.specs.Offences.{IsOffence}
-use Rattle.mdb_follow.specs.Ranges.{IsRange, no_account}
+use Rattle.mdb_follow.specs.Ranges.{no_account}
 use Rattle.mdb_follow.specs.AccountRanges.{IsAccount}
-use Rattle.mdb_follow.specs.Report.{IsReport, decimals_of, device_report, device_report_of}
+use Rattle.mdb_follow.specs.Report.{IsReport, decimals_of, device_report_of}
 use Rattle.mdb_follow.specs.Report.{report_of, device_facts_of, unvalued_of}
 use Rattle.mdb_follow.specs.Runs.{AllSums, IsReached, Run}
 use Rattle.mdb_follow.specs.Senders.{sender_of}
-use Rattle.mdb_follow.specs.Silences.{limit_of}
-use Rattle.mdb_follow.specs.Sums.{AccountSums, no_sums}
+use Rattle.mdb_follow.specs.Sums.{no_sums}
 use Rattle.mdb_follow.proofs.Following.{OneActList}
 use Rattle.mdb_follow.proofs.OneAnswer.{named-account, one-account}
 use Rattle.mdb_follow.proofs.OwnWays.{are_breaks}

@@ -1,6 +1,6 @@
 -- Sides go on by an act: the side of one device, those of all, and those that have no part in it.
 use Rattle.std.proofs.Common.{◌≡◌, inl, inr, ◌+◌, ◌^◌, ◌<◌, ◌∙◌, ℕ, List, Option, ap, arith}
-use Rattle.std.proofs.Common.{get_or, refl, subst, sym, Ok, Err, Result, ◌∷◌}
+use Rattle.std.proofs.Common.{get_or, refl, sym, Ok, Err, Result, ◌∷◌}
 use Rattle.std.proofs.Math.Logic.{∥∥₁_elim}
 use Rattle.std.specs.Prelude.{IfErr, IfOk, OnErr}
 use Rattle.mdb_msgs.specs.declared.command.Device.{Device}
@@ -24,9 +24,9 @@ use Rattle.mdb_follow.specs.ReportedDevices.{reported_of}
 use Rattle.mdb_follow.specs.Machines.{machine_of}
 use Rattle.mdb_follow.specs.Offences.{HasNoStep, rule_of}
 use Rattle.mdb_follow.specs.Report.{decimals_of, unvalued_of}
-use Rattle.mdb_follow.specs.Sides.{AreSides, FactsOf, IsSideOf, SideOf, code_of, side_spec_of}
+use Rattle.mdb_follow.specs.Sides.{FactsOf, IsSideOf, SideOf, code_of, side_spec_of}
 use Rattle.mdb_follow.specs.Sides.{side_in, stands_for}
-use Rattle.mdb_follow.specs.inner.SideSteps.{AreStanding, AreWithin, FollowsOf, IsSideWithin}
+use Rattle.mdb_follow.specs.inner.SideSteps.{AreStanding, AreWithin, FollowsOf}
 use Rattle.mdb_follow.specs.inner.SideSteps.{IsWithin, OneFollows, SidesFollow, SidesStay}
 use Rattle.mdb_follow.specs.inner.SideSteps.{SidesStop, Stops}
 use Rattle.mdb_follow.proofs.ByDevice.{Front, front-next, same_or_not}

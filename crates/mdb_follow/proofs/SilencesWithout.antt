@@ -1,5 +1,5 @@
 -- The lists of asks to a device, and its silences, where further devices are left out.
-use Rattle.std.proofs.Common.{ap, arith, cond, refl, subst, sym, ◌∙◌, ◌+◌, ◌≡◌, ℕ, Bool, true, false, not}
+use Rattle.std.proofs.Common.{ap, cond, refl, sym, ◌∙◌, ◌≡◌, Bool, true, false, not}
 use Rattle.std.proofs.Common.{List, [], ◌∷◌, Some}
 use Rattle.std.proofs.lemmas.List.Sums.{sum_by-cons}
 use Rattle.std.specs.List.{AllByRecursion, count_by}
@@ -8,7 +8,6 @@ use Rattle.mdb_msgs.specs.Commands.{device_of}
 use Rattle.mdb_msgs.specs.DeviceSets.{has}
 use Rattle.mdb_msgs.specs.Devices.{same_device}
 use Rattle.mdb_msgs.specs.declared.command.Device.{Device}
-use Rattle.mdb_msgs.specs.declared.device_set.DeviceSet.{DeviceSet}
 use Rattle.mdb_msgs.specs.shared.SameDevices.{is_one}
 use Rattle.mdb_bus.specs.declared.act.Act.{Act}
 use Rattle.mdb_bus.specs.declared.act.Act.TheVariants as acts
@@ -18,9 +17,8 @@ use Rattle.mdb_bus.specs.ActLists.{ArePieces, Piece, Whole, acts_of}
 use Rattle.mdb_bus.specs.ActLists.{piece_events}
 use Rattle.mdb_bus.specs.LeavingOut.{device_in, is_left_out, leave_out, with_foreign, IsLeftOut}
 use Rattle.mdb_bus.specs.Scopes.{IsFollowed}
-use Rattle.mdb_follow.specs.declared.silence.AskCounts.{AskCounts}
-use Rattle.mdb_follow.specs.Silences.{TimedAsk, asks, asks_of, counts_of, ends_asking, is_silence}
-use Rattle.mdb_follow.specs.Silences.{last_start, limit_of, no_counts, with_ask}
+use Rattle.mdb_follow.specs.Silences.{TimedAsk, asks_of, counts_of, is_silence}
+use Rattle.mdb_follow.specs.Silences.{limit_of, no_counts}
 use Rattle.std.proofs.lemmas.Bool.{false≢true, false_from_ne_true}
 
 differs : (b : Bool) → b ≡ not b → ⊥

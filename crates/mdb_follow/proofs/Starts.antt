@@ -1,6 +1,6 @@
 -- The entries after no act: one for each state in which a machine may start.
-use Rattle.std.proofs.Common.{◌≡◌, ◌⊎◌, inl, inr, ℕ, ◌+◌, ◌<◌, ◌≤◌, ◌++◌, ◌∙◌, ap, arith, length}
-use Rattle.std.proofs.Common.{get_or, length-append, refl, sym, subst, List, [], ◌∷◌, pos}
+use Rattle.std.proofs.Common.{◌≡◌, inl, inr, ℕ, ◌+◌, ◌<◌, ◌≤◌, ◌++◌, ◌∙◌, ap, arith, length}
+use Rattle.std.proofs.Common.{get_or, length-append, refl, sym, subst, List, [], ◌∷◌}
 use Rattle.std.specs.Prelude.{Contains}
 use Rattle.std.proofs.lemmas.Int.{ints}
 use Rattle.std.proofs.lemmas.List.Elements.{All-push, Contains-append_left, Contains-push}
@@ -9,16 +9,14 @@ use Rattle.mdb_machine.specs.declared.gains.TheConstants.{SLOTS}
 use Rattle.mdb_machine.specs.Gains.{by_slot}
 use Rattle.mdb_machine.specs.Machine.{Machine}
 use Rattle.mdb_machine.proofs.Slots.{at_slot}
-use Rattle.mdb_follow.specs.declared.account.Account.{Account}
 use Rattle.mdb_follow.specs.declared.cell.Cell.{Cell}
-use Rattle.mdb_follow.specs.declared.range.Range.{Range}
 use Rattle.mdb_follow.specs.Arrivals.{Arrives}
 use Rattle.mdb_follow.specs.Ranges.{no_account}
 use Rattle.mdb_follow.specs.Cells.{IsCell, slot_account}
 use Rattle.mdb_follow.specs.Sums.{Sums, no_sums}
 use Rattle.mdb_follow.specs.Tables.{ArrivesAt, IsTable}
 use Rattle.mdb_follow.specs.inner.Entries.{AreBelow}
-use Rattle.mdb_follow.specs.Limits.{IsAccountWithin, IsCellWithin, IsRangeWithin}
+use Rattle.mdb_follow.specs.Limits.{IsCellWithin, IsRangeWithin}
 use Rattle.mdb_follow.specs.Limits.{IsTableWithin}
 use Rattle.std.proofs.lemmas.Bool.{cases_lt}
 use Rattle.mdb_follow.proofs.Ends.{account-none}

@@ -1,18 +1,16 @@
 -- What a report tells of a device is what the act list of its rows has of it.
-use Rattle.std.proofs.Common.{ap, ap₂, refl, ◌∙◌, ◌≡◌, List, get_or}
+use Rattle.std.proofs.Common.{ap, refl, ◌∙◌, ◌≡◌, List, get_or}
 use Rattle.std.specs.Prelude.{map}
 use Rattle.mdb_words.specs.declared.event.Event.{Event}
 use Rattle.mdb_msgs.specs.declared.command.Device.{Device}
-use Rattle.mdb_msgs.specs.declared.command.Device.TheVariants.{Changer, Bill, Reader}
-use Rattle.mdb_msgs.specs.declared.command.ReaderUnit.TheVariants.{First, Second}
+use Rattle.mdb_msgs.specs.declared.command.Device.TheVariants.{Reader}
+use Rattle.mdb_msgs.specs.declared.command.ReaderUnit.TheVariants.{First}
 use Rattle.mdb_bus.specs.ActLists.{IsActList, Piece, acts_of}
 use Rattle.mdb_bus.specs.declared.scope.Beginning.{Beginning}
 use Rattle.mdb_bus.specs.declared.scope.Scope.{Scope}
-use Rattle.mdb_follow.specs.declared.report.DeviceReport.{DeviceReport}
 use Rattle.mdb_follow.specs.declared.report.Report.{Report}
 use Rattle.mdb_follow.specs.declared.report.TheConstants.Report.{DEVICES}
 use Rattle.mdb_follow.specs.declared.report.DeviceFacts.{DeviceFacts}
-use Rattle.mdb_follow.specs.declared.silence.AskCounts.{AskCounts}
 use Rattle.mdb_follow.specs.declared.silence.Silences.{Silences}
 use Rattle.mdb_follow.specs.ReportedDevices.{device_place}
 use Rattle.mdb_follow.specs.Report.{IsReport, device_report, device_report_of, device_facts_in, device_facts_of}

@@ -1,7 +1,7 @@
 -- Ways through one act more.
-use Rattle.std.proofs.Common.{arith, ℤ, pos, ◌-ℤ◌, ◌<◌, ◌+◌, ◌^◌, length, take, ◌≡◌, ◌⊎◌, inl, inr, ℕ}
+use Rattle.std.proofs.Common.{arith, ◌<◌, ◌+◌, ◌^◌, length, take, ◌≡◌, ◌⊎◌, inl, inr, ℕ}
 use Rattle.std.proofs.Common.{refl, sym, ◌∙◌, ap, subst, add-zero, List, [], ◌∷◌}
-use Rattle.std.specs.Prelude.{All, Contains, slice_index_or, ◌↔◌}
+use Rattle.std.specs.Prelude.{Contains, slice_index_or, ◌↔◌}
 use Rattle.mdb_bus.specs.declared.act.Act.{Act}
 use Rattle.mdb_machine.specs.declared.choice.Choice.{Choice}
 use Rattle.mdb_machine.specs.declared.choice.Choice.TheVariants.{Plain}
@@ -11,18 +11,13 @@ use Rattle.mdb_machine.specs.Pair.{IsMove}
 use Rattle.mdb_machine.specs.Machine.{Machine}
 use Rattle.mdb_machine.proofs.Slots.{none_at}
 use Rattle.std.proofs.Math.Path.{fun_ext}
-use Rattle.mdb_follow.specs.declared.account.Account.{Account}
 use Rattle.mdb_follow.specs.declared.cell.Cell.{Cell}
-use Rattle.mdb_follow.specs.declared.range.Range.{Range}
 use Rattle.mdb_follow.specs.Arrivals.{Arrives}
 use Rattle.mdb_follow.specs.Cells.{joined_cell, IsCell}
-use Rattle.mdb_follow.specs.Ranges.{IsRange, no_account}
-use Rattle.mdb_follow.specs.AccountRanges.{IsAccount}
-use Rattle.mdb_follow.specs.Sums.{AccountSums, Sums, added, no_sums}
+use Rattle.mdb_follow.specs.Sums.{AccountSums, Sums, added}
 use Rattle.mdb_follow.specs.Tables.{ArrivesAnywhere, ArrivesAt, Bounds, IsTable}
-use Rattle.std.proofs.lemmas.Int.{ints}
 use Rattle.std.proofs.lemmas.List.{take_more}
-use Rattle.std.proofs.lemmas.List.Elements.{All-append, All-cons, All-contains, All-nil}
+use Rattle.std.proofs.lemmas.List.Elements.{All-contains}
 use Rattle.mdb_follow.specs.inner.Entries.{AllRest, IsKeyed, IsPlaced, RestsAt, joined_cells}
 use Rattle.mdb_follow.specs.Limits.{IsTableWithin}
 use Rattle.mdb_bus.specs.declared.scope.Beginning.{Beginning}

@@ -1,6 +1,5 @@
 -- However rows are cut, what is told of the slices is told of the whole.
-use Rattle.std.proofs.Common.{subst}
-use Rattle.mdb_follow.specs.Slices.{AnswersRows, joined}
+use Rattle.mdb_follow.specs.Slices.{joined}
 use Rattle.mdb_follow.proofs.Cuts.{in-slices, one-answer, whole}
 use Rattle.mdb_follow.proofs.laws.cuts_change_no_answer.Goals as goal
 

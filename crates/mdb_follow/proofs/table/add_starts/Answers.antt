@@ -1,8 +1,8 @@
 -- The entries of the states in which a machine may start, code by code.
-use Rattle.std.proofs.Common.{rules, ◌≡◌, ◌<◌, ◌+◌, ◌∙◌, arith, refl, subst, sym}
+use Rattle.std.proofs.Common.{rules, ◌≡◌, ◌∙◌, arith, refl, sym}
 use Rattle.std.proofs.lemmas.Bool.{false≢true}
 use Rattle.mdb_follow.specs.declared.cell.TheConstants.Cell.{NOTHING}
-use Rattle.mdb_follow.proofs.Starts.{AreStarts, more-starts, same-starts, table-starts}
+use Rattle.mdb_follow.proofs.Starts.{more-starts, same-starts, table-starts}
 use Rattle.mdb_follow.proofs.table.add_starts.Goals as goal
 use Rattle.mdb_follow.proofs.table.add_starts.Goals.{else-may_start, then-may_start}
 

@@ -1,14 +1,9 @@
 -- The entries after an act that the facts settle: the loop reads those before it one by one.
-use Rattle.std.proofs.Common.{rules, ◌≡◌, ◌<◌, ℕ, Option, refl, sym, subst}
+use Rattle.std.proofs.Common.{rules, ◌<◌, refl}
 use Rattle.std.proofs.lemmas.List.{take_all}
 use Rattle.std.proofs.lemmas.List.Elements.{Contains-get_or}
-use Rattle.std.specs.Prelude.{IfSome}
-use Rattle.mdb_machine.specs.declared.gains.Gains.{Gains}
 use Rattle.mdb_machine.specs.SmallGains.{IsSmall}
-use Rattle.mdb_machine.specs.Pair.{IsMove}
 use Rattle.mdb_machine.proofs.Ways.{small_moves}
-use Rattle.mdb_follow.specs.Arrivals.{Arrives}
-use Rattle.mdb_follow.specs.Tables.{ArrivesAt, Bounds}
 use Rattle.mdb_follow.proofs.Led.{led-read, moves-kept, within-with_moves}
 use Rattle.mdb_follow.proofs.TwoSteps.{either-moves}
 use Rattle.mdb_follow.proofs.Ways.{table-led}

@@ -1,6 +1,6 @@
 -- A table of one entry after an act: what the two steps from it lead to.
 use Rattle.std.proofs.Common.{true, false, ◌≡◌, ◌+◌, ◌∷◌, ◌^◌, ◌∙◌, [], ap, arith, get_or, ℕ, List}
-use Rattle.std.proofs.Common.{refl, subst}
+use Rattle.std.proofs.Common.{refl}
 use Rattle.std.proofs.lemmas.Bool.{OnFalse_at, OnFalse_from, OnTrue_at, OnTrue_from}
 use Rattle.std.proofs.lemmas.List.Elements.{All-head}
 use Rattle.mdb_follow.specs.Sums.{Sums}

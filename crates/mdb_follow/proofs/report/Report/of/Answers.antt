@@ -1,10 +1,7 @@
 -- A report has what was found of each device and account.
-use Rattle.std.proofs.Common.{ap, refl, ◌∙◌, List, map}
+use Rattle.std.proofs.Common.{refl, ◌∙◌, map}
 use Rattle.mdb_follow.specs.declared.account_name.TheConstants.AccountName.{ALL}
-use Rattle.mdb_follow.specs.declared.report.DeviceReport.{DeviceReport}
-use Rattle.mdb_follow.specs.declared.report.Report.{Report}
 use Rattle.mdb_follow.specs.Cells.{account_by, cell_in}
-use Rattle.mdb_follow.specs.Report.{report_of}
 use Rattle.mdb_follow.proofs.Told.{reports-are}
 use Rattle.mdb_follow.proofs.report.Report.of.Goals as goal
 

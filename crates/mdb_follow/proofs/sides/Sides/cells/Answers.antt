@@ -1,13 +1,6 @@
 -- The cell of each device has the ranges of its side.
-use Rattle.std.proofs.Common.{[], ◌∷◌}
 use Rattle.mdb_msgs.specs.declared.command.Device.TheVariants as devices
 use Rattle.mdb_msgs.specs.declared.command.ReaderUnit.TheVariants.{First, Second}
-use Rattle.mdb_follow.specs.Arrivals.{Arrives}
-use Rattle.mdb_follow.specs.Cells.{cell_in, IsCell}
-use Rattle.mdb_follow.specs.Limits.{IsCellWithin}
-use Rattle.mdb_follow.specs.Machines.{machine_of}
-use Rattle.mdb_follow.specs.Tables.{ArrivesAnywhere}
-use Rattle.mdb_follow.specs.inner.SideSteps.{IsWithin}
 use Rattle.mdb_follow.proofs.ByDevice.{each}
 use Rattle.mdb_follow.proofs.sides.Sides.cells.Goals as goal
 

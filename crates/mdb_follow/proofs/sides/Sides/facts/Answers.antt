@@ -1,10 +1,8 @@
 -- What is found of each device is what its side has.
-use Rattle.std.proofs.Common.{refl, ◌∙◌, ◌≡◌, ℕ, List, [], ◌∷◌, Option}
+use Rattle.std.proofs.Common.{refl, ◌∙◌}
 use Rattle.mdb_msgs.specs.declared.command.Device.{Device}
 use Rattle.mdb_msgs.specs.declared.command.Device.TheVariants as devices
 use Rattle.mdb_msgs.specs.declared.command.ReaderUnit.TheVariants.{First, Second}
-use Rattle.mdb_follow.specs.declared.report.DeviceFacts.{DeviceFacts}
-use Rattle.mdb_follow.specs.Report.{device_facts_in}
 use Rattle.mdb_follow.specs.Sides.{side_in}
 use Rattle.mdb_follow.proofs.ByDevice.{each}
 use Rattle.mdb_follow.proofs.Sided.{decimals-are}
