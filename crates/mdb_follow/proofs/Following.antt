@@ -293,12 +293,9 @@ stands-still old new bus events row on goes same_bus same_scope same_sides same_
       rows = more ∙ ap (λ n. n + 1) on.rows ∙ sym (length-append events (row ∷ []));
       going = same ∙ on.going;
       sides = rw (same_scope, goes.acts, same_sides) on.sides;
-      silences = λ device. rw (
-        same_scope,
-        same_silences,
-        asks-stay (scope_of old).begins device on.pieces row goes.longer goes.grown,
-      )
-          (on.silences device);
+      silences = λ device. rw (same_scope, same_silences)
+          (rw (asks-stay (scope_of old).begins device on.pieces row goes.longer goes.grown)
+          (on.silences device));
       untimely = times;
     }
 
@@ -322,14 +319,11 @@ stands-on old mid new events row act on goes old_scope like has counts few times
       rows = has.rows ∙ ap (λ n. n + 1) (like.3 ∙ on.rows) ∙ sym (length-append events (row ∷ []));
       going = has.going ∙ like.4 ∙ on.going;
       sides = rw (same_scope, goes.acts) sides;
-      silences = λ device. rw (
-        same_scope,
-        ← (asks-go-on begins device on.pieces row act goes.longer
-            new.sides.first_reader.facts new.sides.second_reader.facts goes.grown
-            (sides (devices.Reader First)).facts (sides (devices.Reader Second)).facts),
-      )
+      silences = λ device. rw same_scope (rw (asks-go-on begins device on.pieces row act
+          goes.longer new.sides.first_reader.facts new.sides.second_reader.facts goes.grown
+          (sides (devices.Reader First)).facts (sides (devices.Reader Second)).facts) at
           ((has.silences device).stands (asks_of begins device on.pieces)
-          (rw like.1 (on.silences device)));
+          (rw like.1 (on.silences device))));
       untimely = times;
     }
 

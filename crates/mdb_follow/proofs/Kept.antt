@@ -54,9 +54,7 @@ pub all-go-on : (further : Device → List (List TimedAsk) → List (List TimedA
     old new
 all-go-on further which old new one device = elim (same_or_not device which) [
   | inl same ↦ rw ((says device which).1 same) (rw same one.own)
-  | inr apart ↦ rw (
-    false_from_ne_true (same_device device which) (λ same. apart (is_one device which same)),
-    one.others device apart,
-  )
-      (stays (silence_in old device))
+  | inr apart ↦ rw (false_from_ne_true (same_device device which)
+      (λ same. apart (is_one device which same)))
+      (rw (one.others device apart) (stays (silence_in old device)))
 ]

@@ -40,11 +40,8 @@ module _ (laws : OwnActs) {State : Type 0} (device : Device) (machine : Machine 
   twice : (so_far : List Act) → own_acts device (own_acts device so_far) ≡ own_acts device so_far
   twice [] = refl
   twice (act ∷ so_far) = elim (of_or_not device act) [
-    | inl own ↦ rw (
-      laws.own device act so_far own,
-      laws.own device act (own_acts device so_far) own,
-      twice so_far,
-    )
+    | inl own ↦ rw (laws.own device act so_far own)
+        (rw (laws.own device act (own_acts device so_far) own, twice so_far))
     | inr apart ↦ rw (laws.other device act so_far apart) (twice so_far)
   ]
 

@@ -68,21 +68,15 @@ placed-push entries after places code place cell placed lacks within at made =
     rw made (record {
       at = λ k d lt. elim (cases_lt k (length entries)) [
         | inl before ↦
-            rw (
-              get_or_append_left entries ((code, cell) ∷ []) d k before,
-              get_or-set_other places code (get_or entries k d).0 place 0
-                  (λ is. lacks-none entries code (get_or entries k d).1 lacks
-                  (rw (← is) (Contains-get_or entries k d before))),
-            )
-            (placed.at k d before)
+            rw (get_or_append_left entries ((code, cell) ∷ []) d k before)
+            (rw (get_or-set_other places code (get_or entries k d).0 place 0
+            (λ is. lacks-none entries code (get_or entries k d).1 lacks
+            (rw (← is) (Contains-get_or entries k d before))))
+            (placed.at k d before))
         | inr later ↦
             (let more = length-append entries ((code, cell) ∷ []) in
             let is : k ≡ length entries = omega arith in
-            rw (
-              is,
-              get_or-append_seam entries (code, cell) [] d,
-              get_or-set_same places code place 0 within,
-            )
-            at)
+            rw (is, get_or-append_seam entries (code, cell) [] d)
+            (rw (get_or-set_same places code place 0 within) at))
       ];
     })

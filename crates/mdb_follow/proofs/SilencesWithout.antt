@@ -43,11 +43,9 @@ AreEmpty = AllByRecursion (λ list. list ≡ [])
 
 none_among : (lists : List (List TimedAsk)) → AreEmpty lists → count_by is_silence lists ≡ 0
 none_among [] empty = refl
-none_among (list ∷ lists) empty = rw (
-  sum_by-cons (λ list. cond (is_silence list) 1 0) list lists,
-  empty.0,
-  none_among lists empty.1,
-)
+none_among (list ∷ lists) empty =
+    rw (sum_by-cons (λ list. cond (is_silence list) 1 0) list lists)
+    (rw (empty.0, none_among lists empty.1))
 
 module _ (begins : Beginning) (scope : Scope) where
   module _ (device : Device) where

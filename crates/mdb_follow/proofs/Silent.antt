@@ -67,11 +67,8 @@ pub in-time : (silence : Silence) (lists : List (List TimedAsk)) (ask : TimedAsk
 in-time silence [] ask time is early on = absurd ((rw is at on.unanswered).0 refl)
 in-time silence (list ∷ lists) ask time is early on =
     let was = rw is at on.unanswered in
-    let no : is_silence (ask ∷ list) ≡ false = rw (
-      more ask list was.0,
-      ← was.1,
-      le-ltb time ask.at early,
-    ) was.2 in
+    let no : is_silence (ask ∷ list) ≡ false =
+    rw (more ask list was.0, ← was.1, le-ltb time ask.at early) was.2 in
     record {
       unanswered = rw is
           (some-ask ask list, was.1 ∙ sym (same-deadline ask list was.0), no);
@@ -87,11 +84,8 @@ too-late silence new [] ask time is late counts one on =
     absurd ((rw is at on.unanswered).0 refl)
 too-late silence new (list ∷ lists) ask time is late counts one on =
     let was = rw is at on.unanswered in
-    let yes : is_silence (ask ∷ list) ≡ true = rw (
-      more ask list was.0,
-      ← was.1,
-      lt-ltb time ask.at late,
-    ) refl in
+    let yes : is_silence (ask ∷ list) ≡ true =
+    rw (more ask list was.0, ← was.1, lt-ltb time ask.at late) refl in
     let more : count_by is_silence (list ∷ lists) + 1 ≡ count_by is_silence ((ask ∷ list) ∷ lists) =
     rw (count-list (ask ∷ list) lists, count-list list lists, was.2, yes) (omega arith) in
     record {

@@ -13,8 +13,7 @@ returns-clause-within c limit fits =
     let rest = c.in-Some.rest.now in
     let Fits : ℕ × Cell → Type 0 = λ e. IsCellWithin limit e.1 in
     let all = rw c.in-Some.ensures.cases.0 at fits in
-    rw (
-      c.loop-cell.invariant,
-      take_all c.loop-cell.cell-index rest c.loop-cell-test.false,
-    )
-    (joined-within limit entry.1 rest (All-head Fits entry rest all) (All-tail Fits entry rest all))
+    rw c.loop-cell.invariant
+    (rw (take_all c.loop-cell.cell-index rest c.loop-cell-test.false)
+    (joined-within limit entry.1 rest (All-head Fits entry rest all)
+    (All-tail Fits entry rest all)))

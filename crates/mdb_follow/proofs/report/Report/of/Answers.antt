@@ -7,13 +7,8 @@ use Rattle.mdb_follow.proofs.report.Report.of.Goals as goal
 
 pub returns-clause-has : goal.returns-clause-has
 returns-clause-has c =
-    rw (
-      c.reported.ensures,
-      c.reported-2.ensures,
-      c.reported-3.ensures,
-      c.reported-4.ensures,
-      c.accounts_of.ensures,
-    ) refl
+    rw (c.reported.ensures, c.reported-2.ensures, c.reported-3.ensures, c.reported-4.ensures)
+    (rw c.accounts_of.ensures)
 
 pub returns-clause-telling : goal.returns-clause-telling
 returns-clause-telling c scope pieces are stand times =
