@@ -1,31 +1,22 @@
 -- The accounts one by one.
 use Rattle.std.proofs.Common.{◌≡◌, ◌<◌, map, refl, arith}
-use Rattle.mdb_msgs.specs.declared.command.ReaderUnit.TheVariants.{First, Second}
+use Rattle.mdb_msgs.specs.declared.command.ReaderUnit.TheVariants.{First}
 use Rattle.mdb_machine.specs.declared.gains.TheConstants.{SLOTS}
 use Rattle.mdb_follow.specs.declared.account.Account.{Account}
 use Rattle.mdb_follow.specs.declared.account_name.AccountName.{AccountName}
-use Rattle.mdb_follow.specs.declared.account_name.AccountName.TheVariants.{CoinsIn, BillsIn}
-use Rattle.mdb_follow.specs.declared.account_name.AccountName.TheVariants.{PaidOut, Approved, Sold}
+use Rattle.mdb_follow.specs.declared.account_name.AccountName.TheVariants.{Approved, Sold}
 use Rattle.mdb_follow.specs.declared.account_name.TheConstants.AccountName.{ALL}
 use Rattle.mdb_follow.specs.AccountNames.{account_in, account_slot}
 
 -- each account has a slot
 pub slot-below : (account : AccountName) → account_slot account < SLOTS
-slot-below CoinsIn = omega arith
-slot-below BillsIn = omega arith
-slot-below PaidOut = omega arith
 slot-below (Approved First) = omega arith
 slot-below (Sold First) = omega arith
-slot-below (Approved Second) = omega arith
-slot-below (Sold Second) = omega arith
+slot-below account = omega arith
 
 -- and its place among all
 pub listed : (of : AccountName → Account) (account : AccountName)
     → account_in account (map of ALL) ≡ of account
-listed of CoinsIn = refl
-listed of BillsIn = refl
-listed of PaidOut = refl
 listed of (Approved First) = refl
 listed of (Sold First) = refl
-listed of (Approved Second) = refl
-listed of (Sold Second) = refl
+listed of account = refl

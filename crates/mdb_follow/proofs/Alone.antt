@@ -1,8 +1,8 @@
 -- A table of one entry, which is led over an act where it stands.
-use Rattle.std.proofs.Common.{◌≡◌, ◌⊎◌, ◌+◌, ◌<◌, ◌^◌, ℕ, Bool, false, true, refl, sym, subst}
+use Rattle.std.proofs.Common.{◌≡◌, ◌⊎◌, ◌+◌, ◌<◌, ◌^◌, ℕ, Bool, false, true, refl}
 use Rattle.std.proofs.Common.{arith, List, [], ◌∷◌, length, Option, Some, None}
 use Rattle.std.specs.Bool.{OnFalse, OnTrue}
-use Rattle.std.specs.Prelude.{All, Contains, IfSome, ◌↔◌}
+use Rattle.std.specs.Prelude.{All, IfSome, ◌↔◌}
 use Rattle.std.proofs.lemmas.List.Elements.{All-nil}
 use Rattle.mdb_msgs.specs.declared.command.Device.{Device}
 use Rattle.mdb_bus.specs.declared.act.Act.{Act}
@@ -16,9 +16,9 @@ use Rattle.mdb_follow.specs.declared.cell.Cell.{Cell}
 use Rattle.mdb_follow.specs.Arrivals.{Arrives}
 use Rattle.mdb_follow.specs.Limits.{IsCellWithin, IsTableWithin}
 use Rattle.mdb_follow.specs.Tables.{ArrivesAt, Bounds, IsTable}
-use Rattle.mdb_follow.specs.inner.Entries.{AreBelow, AreMoves, IsKeyed, LeadTo, with_moves}
-use Rattle.mdb_follow.proofs.Led.{Led, keyed-with_moves, led-more, led-none, moves-below}
-use Rattle.mdb_follow.proofs.Led.{moves-small, within-with_moves}
+use Rattle.mdb_follow.specs.inner.Entries.{AreBelow, AreMoves, LeadTo}
+use Rattle.mdb_follow.proofs.Led.{keyed-with_moves, led-more, led-none}
+use Rattle.mdb_follow.proofs.Led.{moves-kept, within-with_moves}
 use Rattle.mdb_follow.proofs.Listed.{contains-here}
 use Rattle.mdb_follow.proofs.TwoSteps.{either-moves, two-moves}
 use Rattle.mdb_follow.proofs.Ways.{table-led}
@@ -33,50 +33,35 @@ pub some-entry : {X : Type 0} (xs : List X) → 0 < length xs → xs ≡ [] → 
 some-entry [] some none = omega (arith, some)
 some-entry (x ∷ xs) some none = cc
 
-keyed-none : (number : ℕ) → IsKeyed number []
-keyed-none number = record { apart = tt; below = All-nil (λ entry. entry.0 < number) }
+-- where two steps are below a number and small, so is what they lead to
+module _ (number codes : ℕ) (one other : Option (ℕ × Gains)) (size : number ≡ codes)
+    (one_below : IfSome one (λ move. (move.0 < codes) × IsSmall move.1))
+    (other_below : IfSome other (λ move. (move.0 < codes) × IsSmall move.1)) where
+  kept : (moves : List (ℕ × Gains)) → AreMoves moves one other
+      → All (λ move. move.0 < number) moves × All (λ move. IsSmall move.1) moves
+  kept moves lists = moves-kept number codes moves moves size refl
+      (small_moves (λ next gains. (next < codes) × IsSmall gains) one other moves one_below
+      other_below lists)
 
--- the moves of two steps that are below a number and small are so
-moves-kept : (number codes : ℕ) (one other : Option (ℕ × Gains)) (moves : List (ℕ × Gains))
-    → number ≡ codes → IfSome one (λ move. (move.0 < codes) × IsSmall move.1)
-    → IfSome other (λ move. (move.0 < codes) × IsSmall move.1) → AreMoves moves one other
-    → All (λ move. move.0 < number) moves × All (λ move. IsSmall move.1) moves
-moves-kept number codes one other moves size one_below other_below lists =
-    let kept = small_moves (λ next gains. (next < codes) × IsSmall gains) one other moves
-    one_below other_below lists in
-    (moves-below number codes moves moves size refl kept, moves-small codes moves moves refl kept)
+  pub alone-below : (cell : Cell) (after : List (ℕ × Cell)) → LeadTo cell one other after
+      → AreBelow number after
+  alone-below cell after led =
+      let keyed = keyed-with_moves number [] cell led.0 (kept led.0 led.1).0
+      (record { apart = tt; below = All-nil (λ entry. entry.0 < number) }) in
+      rw led.2 keyed.below
 
-pub alone-below : (number codes : ℕ) (cell : Cell) (one other : Option (ℕ × Gains))
-    (after : List (ℕ × Cell)) → number ≡ codes
-    → IfSome one (λ move. (move.0 < codes) × IsSmall move.1)
-    → IfSome other (λ move. (move.0 < codes) × IsSmall move.1)
-    → LeadTo cell one other after → AreBelow number after
-alone-below number codes cell one other after size one_below other_below led =
-    let kept = moves-kept number codes one other led.0 size one_below other_below led.1 in
-    let keyed : IsKeyed number (with_moves [] cell led.0) =
-    keyed-with_moves number [] cell led.0 kept.0 (keyed-none number) in
-    subst (AreBelow number) (sym led.2) keyed.below
-
-pub alone-within : (limit number codes : ℕ) (cell : Cell) (one other : Option (ℕ × Gains))
-    (after : List (ℕ × Cell)) → number ≡ codes
-    → IfSome one (λ move. (move.0 < codes) × IsSmall move.1)
-    → IfSome other (λ move. (move.0 < codes) × IsSmall move.1) → IsCellWithin limit cell
-    → LeadTo cell one other after → IsTableWithin (limit + 2 ^ 32) after
-alone-within limit number codes cell one other after size one_below other_below is led =
-    let kept = moves-kept number codes one other led.0 size one_below other_below led.1 in
-    subst (IsTableWithin (limit + 2 ^ 32)) (sym led.2)
-    (within-with_moves limit [] cell led.0 kept.1 is
-    (All-nil (λ entry. IsCellWithin (limit + 2 ^ 32) entry.1)))
+  pub alone-within : (limit : ℕ) (cell : Cell) (after : List (ℕ × Cell)) → IsCellWithin limit cell
+      → LeadTo cell one other after → IsTableWithin (limit + 2 ^ 32) after
+  alone-within limit cell after is led = rw led.2 (within-with_moves limit [] cell led.0
+      (kept led.0 led.1).1 is
+      (All-nil (λ entry. IsCellWithin (limit + 2 ^ 32) entry.1)))
 
 -- what arrives after one act more is what the steps from the only entry lead to
 pub alone-led : {State : Type 0} (device : Device) (code_of : State → ℕ)
-    (machine : Machine State)
-    (act : Act) (acts : List Act) (number codes : ℕ)
+    (machine : Machine State) (act : Act) (acts : List Act)
     (entries : List (ℕ × Cell)) (entry : ℕ × Cell) (code : ℕ) (one other : Option (ℕ × Gains))
     (after : List (ℕ × Cell)) → entries ≡ entry ∷ [] → code ≡ entry.0
-    → ((one other : State) → code_of one ≡ code_of other → one ≡ other) → number ≡ codes
-    → IfSome one (λ move. (move.0 < codes) × IsSmall move.1)
-    → IfSome other (λ move. (move.0 < codes) × IsSmall move.1)
+    → ((one other : State) → code_of one ≡ code_of other → one ≡ other)
     → ((next : ℕ) (gains : Gains) → (one ≡ Some (next, gains))
     ↔ IsChosenStep device act code_of (machine.Step acts act) Plain code next gains)
     → ((next : ℕ) (gains : Gains) → other ≡ Some (next, gains)
@@ -86,37 +71,24 @@ pub alone-led : {State : Type 0} (device : Device) (code_of : State → ℕ)
     → IsTable code_of machine acts entries
     → LeadTo entry.1 one other after
     → Bounds (ArrivesAt code_of (Arrives machine (act ∷ acts))) after
-alone-led {State} device code_of machine act acts number codes entries entry code one other
-    after only at apart size one_below other_below one_is sound whole table led =
-    let table' : IsTable code_of machine acts (entry ∷ []) =
-    subst (IsTable code_of machine acts) only table in
-    let kept = moves-kept number codes one other led.0 size one_below other_below led.1 in
-    let steps : (next : ℕ) (gains : Gains) → Contains led.0 (next, gains)
-    ↔ IsMove act code_of (machine.Step acts act) entry.0 next gains =
-    subst (λ c. (next : ℕ) (gains : Gains) → Contains led.0 (next, gains)
-    ↔ IsMove act code_of (machine.Step acts act) c next gains) at
-    (either-moves device act code_of (machine.Step acts act) code one other led.0
-    one_is sound whole led.1) in
-    table-led code_of machine act acts (entry ∷ []) after apart table'
-    (subst (Bounds (Led (ArrivesAt code_of (Arrives machine acts))
-    (IsMove act code_of (machine.Step acts act)) (entry ∷ []))) (sym led.2)
-    (led-more number (ArrivesAt code_of (Arrives machine acts))
-    (IsMove act code_of (machine.Step acts act)) [] entry led.0 []
-    (table'.bounds.exact entry.0 entry.1 (contains-here entry [] entry refl)) steps kept.0
-    (keyed-none number)
-    (led-none (ArrivesAt code_of (Arrives machine acts))
-    (IsMove act code_of (machine.Step acts act)))))
+alone-led device code_of machine act acts entries entry code one other after only here apart
+    one_is sound whole table led =
+    let alone = rw only at table in
+    let steps = either-moves act code_of (machine.Step acts act) code device one other led.0
+    one_is sound whole led.1 in
+    table-led code_of machine act acts (entry ∷ []) after apart alone
+    (rw led.2 (led-more _ _ [] entry led.0 []
+    (alone.bounds.exact entry.0 entry.1 (contains-here entry [] entry refl)) (rw here at steps) tt
+    (led-none _ _)))
 
 -- no step leads to no entry
 pub lead-none : (cell : Cell) (one other : Option (ℕ × Gains)) → one ≡ None → other ≡ None
     → LeadTo cell one other []
-lead-none cell one other is so =
-    subst (λ o. LeadTo cell o other []) (sym is)
-    (subst (λ o. LeadTo cell None o []) (sym so) ([], two-moves None None, refl))
+lead-none cell one other is so = rw (is, so) ([], two-moves None None, refl)
 
 -- what holds of the entries that it is led to, and of those that it stays with
 pub alone-either : (P : List (ℕ × Cell) → Type 0) (found : Bool)
     (entries after : List (ℕ × Cell)) (One : Type 0) → OnTrue found One
     → OnFalse found (after ≡ entries) → (One → P after) → P entries → P after
 alone-either P true entries after One led same goes stays = goes led
-alone-either P false entries after One led same goes stays = subst P (sym same) stays
+alone-either P false entries after One led same goes stays = rw same stays

@@ -1,6 +1,6 @@
 -- What is kept of each device, by the places of the devices: that of one goes on, and in a loop
 -- over the devices that of each.
-use Rattle.std.proofs.Common.{refl, ap, subst, sym, inl, inr, ◌∙◌, ◌≡◌, ◌⊎◌, ◌+◌, ◌<◌, ◌≤◌, ℕ, zero}
+use Rattle.std.proofs.Common.{refl, ap, sym, inl, inr, ◌∙◌, ◌≡◌, ◌⊎◌, ◌+◌, ◌<◌, ◌≤◌, ℕ}
 use Rattle.std.proofs.Common.{suc, arith, get_or}
 use Rattle.std.proofs.lemmas.Bool.{cases_eq}
 use Rattle.mdb_msgs.specs.declared.command.Device.{Device}
@@ -24,16 +24,12 @@ device_at place = get_or DEVICES place devices.Changer
 
 at_place : (device : Device) → device_at (device_place device) ≡ device
 unfolding device_at
-at_place devices.Changer = refl
-at_place devices.Bill = refl
 at_place (devices.Reader First) = refl
-at_place (devices.Reader Second) = refl
+at_place device = refl
 
 pub below : (device : Device) → device_place device < 4
-below devices.Changer = omega arith
-below devices.Bill = omega arith
 below (devices.Reader First) = omega arith
-below (devices.Reader Second) = omega arith
+below device = omega arith
 
 -- devices of one place are one
 pub one_place : (one other : Device) → device_place one ≡ device_place other → one ≡ other
@@ -47,20 +43,10 @@ same_or_not one other =
       | inr apart ↦ inr (λ same. apart (ap device_place same))
     ]
 
--- What is kept of the devices before a place has gone on, and of the others it is what it was.
-pub record Front (Of : Device → Type 0)
-    (Goes : (device : Device) → Of device → Of device → Type 0) (count : ℕ)
-    (old new : (device : Device) → Of device) : Type 0 where
-  pub gone : (device : Device) → device_place device < count → Goes device (old device) (new device)
-  pub kept : (device : Device) → count ≤ device_place device → new device ≡ old device
-
 -- the place of the device that stands at a place
 pub placed : (place : ℕ) (d : Device) → place < 4 → device_place (get_or DEVICES place d) ≡ place
-placed zero d less = refl
-placed (suc zero) d less = refl
-placed (suc (suc zero)) d less = refl
-placed (suc (suc (suc zero))) d less = refl
 placed (suc (suc (suc (suc place)))) d less = absurd (omega (arith, less))
+placed place d less = refl
 
 -- a device that stands before the one after a place, and isn't that of the place, stands before it
 pub earlier : (count : ℕ) (next device : Device) → device_place next ≡ count
@@ -71,38 +57,38 @@ earlier count next device at less apart =
       | inr other ↦ omega (arith, less, at, other)
     ]
 
--- what is kept of the next device is what it was
-pub front-next : (Of : Device → Type 0) (Goes : (device : Device) → Of device → Of device → Type 0)
-    (count : ℕ) (old mid : (device : Device) → Of device) (d : Device) → count < 4
-    → Front Of Goes count old mid → mid (get_or DEVICES count d) ≡ old (get_or DEVICES count d)
-front-next Of Goes count old mid d within front =
-    let at : device_place (get_or DEVICES count d) ≡ count = placed count d within in
-    front.kept (get_or DEVICES count d) (omega (arith, at))
+-- Something of each device, of which that of one device after the other goes on.
+module _ (Of : Device → Type 0) (Goes : (device : Device) → Of device → Of device → Type 0) where
+  -- What is kept of the devices before a place has gone on, and of the others it is what it was.
+  pub record Front (count : ℕ) (old new : (device : Device) → Of device) : Type 0 where
+    pub gone : (device : Device) → device_place device < count
+        → Goes device (old device) (new device)
+    pub kept : (device : Device) → count ≤ device_place device → new device ≡ old device
 
-pub front-more : (Of : Device → Type 0) (Goes : (device : Device) → Of device → Of device → Type 0)
-    (count : ℕ) (old mid new : (device : Device) → Of device) (d : Device) → count < 4
-    → Front Of Goes count old mid → OneGoes Of Goes (get_or DEVICES count d) mid new
-    → Front Of Goes (count + 1) old new
-front-more Of Goes count old mid new d within front one =
-    let next : Device = get_or DEVICES count d in
-    let at : device_place next ≡ count = placed count d within in
-    record {
-      gone = λ device less. elim (same_or_not device next) [
-        | inl same ↦ subst (λ e. Goes e (old e) (new e)) (sym same)
-            (subst (λ before. Goes next before (new next))
-            (front-next Of Goes count old mid d within front) one.own)
-        | inr apart ↦ subst (Goes device (old device)) (sym (one.others device apart))
-            (front.gone device (earlier count next device at less apart))
-      ];
-      kept = λ device above.
-          one.others device (λ same.
-          let is : device_place device ≡ device_place next = ap device_place same in
-          omega (arith, above, at, is))
-          ∙ front.kept device (omega (arith, above));
-    }
+  module _ (count : ℕ) (old : (device : Device) → Of device) where
+    -- what is kept of the next device is what it was
+    pub front-next : (mid : (device : Device) → Of device) (d : Device) → count < 4
+        → Front count old mid → mid (get_or DEVICES count d) ≡ old (get_or DEVICES count d)
+    front-next mid d within front =
+        let at = placed count d within in front.kept (get_or DEVICES count d) (omega (arith, at))
 
-pub front-all : (Of : Device → Type 0) (Goes : (device : Device) → Of device → Of device → Type 0)
-    (count : ℕ) (old new : (device : Device) → Of device) → 4 ≤ count
-    → Front Of Goes count old new → (device : Device) → Goes device (old device) (new device)
-front-all Of Goes count old new all front device =
-    front.gone device (omega (arith, all, below device))
+    pub front-more : (mid new : (device : Device) → Of device) (d : Device) → count < 4
+        → Front count old mid → OneGoes Of Goes (get_or DEVICES count d) mid new
+        → Front (count + 1) old new
+    front-more mid new d within front one =
+        let at = placed count d within in
+        record {
+          gone = λ device less. elim (same_or_not device (get_or DEVICES count d)) [
+            | inl same ↦ rw same (rw (front-next mid d within front) at one.own)
+            | inr apart ↦ rw (one.others device apart)
+                (front.gone device (earlier count (get_or DEVICES count d) device at less apart))
+          ];
+          kept = λ device above.
+              one.others device (λ same. let is = ap device_place same in
+              omega (arith, above, at, is))
+              ∙ front.kept device (omega (arith, above));
+        }
+
+    pub front-all : (new : (device : Device) → Of device) → 4 ≤ count → Front count old new
+        → (device : Device) → Goes device (old device) (new device)
+    front-all new all front device = front.gone device (omega (arith, all, below device))

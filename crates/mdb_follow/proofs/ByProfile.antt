@@ -1,5 +1,5 @@
 -- A way of a reader by either profile is one of the machine of its profile.
-use Rattle.std.proofs.Common.{refl, subst, ◌≡◌, List, [], ◌∷◌, Option, Some, None}
+use Rattle.std.proofs.Common.{refl, ◌≡◌, List, [], ◌∷◌, Option, Some, None}
 use Rattle.std.specs.Prelude.{IsSomeAnd}
 use Rattle.std.proofs.lemmas.Option.{same_Some}
 use Rattle.mdb_bus.specs.declared.act.Act.{Act}
@@ -21,7 +21,7 @@ module _ {State : Type 0} (its_state : StateByProfile → Option State) (power_o
       (gains : Gains) (one : State) → before ≡ Some one → StepOf Step Stray before after gains
       → (other : State) × (after ≡ Some other) × Step one other gains
   step_in Step Stray (Some x) (Some y) gains one is step =
-      (y, refl, subst (λ x. Step x y gains) (same_Some x one is) step)
+      (y, refl, rw (same_Some x one is) at step)
   step_in Step Stray (Some x) None gains one is step = absurd step
   step_in Step Stray None after gains one is step = absurd (cc is)
 

@@ -10,39 +10,38 @@ use Rattle.mdb_follow.specs.Choosing.{Choices, Follows}
 use Rattle.mdb_follow.specs.Sums.{Sums}
 use Rattle.mdb_follow.proofs.Machines.{elsewhere_as, same_choice, whose}
 
--- each way is one with its choices
-pub chosen : {State : Type 0} (machine : Machine State) (acts : List Act) (state : State)
-    (sums : Sums) → Arrives machine acts state sums
-    → (choices : Choices acts) × Follows machine acts choices state sums
-chosen machine [] state sums way = (tt, way)
-chosen machine (act ∷ acts) state sums way =
-    let earlier = chosen machine acts way.before way.sums_before way.way in (
-      record { choice = way.choice; stands = way.stands; before = earlier.0 },
-      record {
-        before = way.before;
-        sums_before = way.sums_before;
-        gains = way.gains;
-        way = earlier.1;
-        step = way.step;
-        adds = way.adds;
-      },
-    )
+module _ {State : Type 0} (machine : Machine State) where
+  -- each way is one with its choices
+  pub chosen : (acts : List Act) (state : State) (sums : Sums) → Arrives machine acts state sums
+      → (choices : Choices acts) × Follows machine acts choices state sums
+  chosen [] state sums way = (tt, way)
+  chosen (act ∷ acts) state sums way =
+      let earlier = chosen acts way.before way.sums_before way.way in (
+        record { choice = way.choice; stands = way.stands; before = earlier.0 },
+        record {
+          before = way.before;
+          sums_before = way.sums_before;
+          gains = way.gains;
+          way = earlier.1;
+          step = way.step;
+          adds = way.adds;
+        },
+      )
 
--- and each way with choices is a way
-pub arrives : {State : Type 0} (machine : Machine State) (acts : List Act) (choices : Choices acts)
-    (state : State) (sums : Sums) → Follows machine acts choices state sums
-    → Arrives machine acts state sums
-arrives machine [] choices state sums way = way
-arrives machine (act ∷ acts) choices state sums way = record {
-  choice = choices.choice;
-  stands = choices.stands;
-  before = way.before;
-  sums_before = way.sums_before;
-  gains = way.gains;
-  way = arrives machine acts choices.before way.before way.sums_before way.way;
-  step = way.step;
-  adds = way.adds;
-}
+  -- and each way with choices is a way
+  pub arrives : (acts : List Act) (choices : Choices acts) (state : State) (sums : Sums)
+      → Follows machine acts choices state sums → Arrives machine acts state sums
+  arrives [] choices state sums way = way
+  arrives (act ∷ acts) choices state sums way = record {
+    choice = choices.choice;
+    stands = choices.stands;
+    before = way.before;
+    sums_before = way.sums_before;
+    gains = way.gains;
+    way = arrives acts choices.before way.before way.sums_before way.way;
+    step = way.step;
+    adds = way.adds;
+  }
 
 -- two lists of choices are the same for a device, where they matter
 abbrev pub AgreeFor : Device → (acts : List Act) → Choices acts → Choices acts → Type 0

@@ -1,5 +1,5 @@
 -- What a follower that stands for events goes on to, and what it answers.
-use Rattle.std.proofs.Common.{refl, sym, ap, subst, ◌∙◌, ◌≡◌, inl, inr, ℕ, ℤ, pos, ◌-ℤ◌, ◌+◌, List}
+use Rattle.std.proofs.Common.{refl, sym, ap, subst, ◌∙◌, ◌≡◌, inl, inr, ℕ, ◌+◌, List}
 use Rattle.std.proofs.Common.{[], ◌∷◌, ◌++◌, length, length-append, ◌<◌, ◌≤◌, take, drop, get_or}
 use Rattle.std.proofs.Common.{append_assoc, add-one, arith, map, Option, Some, None}
 use Rattle.std.proofs.lemmas.List.{take_all, take_more}
@@ -34,7 +34,6 @@ use Rattle.mdb_follow.specs.declared.account_name.TheConstants.AccountName.{ALL}
 use Rattle.mdb_follow.specs.declared.cell.Cell.{Cell}
 use Rattle.mdb_follow.specs.declared.follower.Follower.{Follower}
 use Rattle.mdb_follow.specs.declared.offence.Offence.{Offence}
-use Rattle.mdb_follow.specs.declared.range.Range.{Range}
 use Rattle.mdb_follow.specs.declared.report.Report.{Report}
 use Rattle.mdb_follow.specs.AccountNames.{account_device, account_in, account_slot}
 use Rattle.mdb_follow.specs.Cells.{account_by, IsCell, slot_account}
@@ -45,7 +44,6 @@ use Rattle.mdb_follow.specs.Follower.{HasAccepted, StandsFor, is_late, rows_of, 
 use Rattle.mdb_follow.specs.Sales.{SalesFollowApprovals}
 use Rattle.mdb_follow.specs.inner.FollowerSteps.{HasFollowedAct, HasStopped}
 use Rattle.mdb_follow.specs.Limits.{IsAccountWithin, IsCellWithin}
-use Rattle.mdb_follow.specs.Ranges.{IsRange}
 use Rattle.mdb_follow.specs.AccountRanges.{IsAccount}
 use Rattle.mdb_follow.specs.Sums.{Sums}
 use Rattle.mdb_follow.specs.Tables.{ArrivesAnywhere, EachArrives}
@@ -67,6 +65,9 @@ use Rattle.mdb_follow.proofs.Reaching.{Joins, SomeArrive, SomeWay, run_of}
 use Rattle.mdb_follow.proofs.Joining.{split}
 use Rattle.mdb_follow.proofs.Sided.{by-stay}
 use Rattle.mdb_bus.specs.declared.scope.Scope.{Scope}
+use Rattle.std.proofs.lemmas.Result.{IfOk-weaker}
+use Rattle.mdb_follow.proofs.Ends.{account-moves}
+use Rattle.mdb_follow.specs.inner.FollowerSteps.{IsLike}
 
 -- a transcript divides into acts in at most one way
 abbrev pub OneActList : (scope : Scope) → Type 0
@@ -76,8 +77,7 @@ OneActList scope = (rows : List Event) (one other : List Piece) → IsActList sc
 -- what holds of a part of an answer
 pub if-ok : {T E : Type 0} (r : Result T E) (P Q : T → Type 0) → ((x : T) → P x → Q x)
     → IfOk r P → IfOk r Q
-if-ok (Ok x) P Q weaker h = weaker x h
-if-ok (Err e) P Q weaker h = tt
+if-ok r P Q weaker h = IfOk-weaker r P Q weaker h
 
 pub on-true : (b : Bool) (P Q : Type 0) → (P → Q) → OnTrue b P → OnTrue b Q
 on-true true P Q weaker h = weaker h
@@ -114,42 +114,39 @@ few-times is some more less few counts at = few-more (few counts (sym is ∙ at)
     few-more : AreFew some counts → AreFew more counts
     few-more few = omega arith
 
--- the act list of the events with one more
-pub list-on : (bus : Bus) (events : List Event) (row : Event) (pieces : List Piece)
-    (act : Option Act) → events_of pieces ≡ events → (goes : GoesOn bus pieces row act)
-    → IsActList (link.scope_of bus) goes.longer (events ++ row ∷ [])
-list-on bus events row pieces act whole goes =
-    record { in_order = goes.stands.in_order; whole = rw whole at goes.rows }
+module _ (bus : Bus) where
+  -- the act list of the events with one more
+  pub list-on : (events : List Event) (row : Event) (pieces : List Piece) (act : Option Act)
+      → events_of pieces ≡ events → (goes : GoesOn bus pieces row act)
+      → IsActList (link.scope_of bus) goes.longer (events ++ row ∷ [])
+  list-on events row pieces act whole goes =
+      record { in_order = goes.stands.in_order; whole = rw whole at goes.rows }
 
--- the act that the bus tells is the one that ends with the row
-pub ended-by : (bus : Bus) (scope : Scope) (events : List Event) (row : Event)
-    (pieces : List Piece) (act : Option Act) → ArePieces scope pieces → events_of pieces ≡ events
-    → GoesOn bus pieces row act → link.scope_of bus ≡ scope → IsEndedAct scope events row act
-ended-by bus scope events row pieces act in_order whole goes same_scope =
-    let grown = goes.grown in
-    record {
-      newest = grown.newest;
-      earlier = grown.earlier;
-      act_list = rw (same_scope, grown.are) at (list-on bus events row pieces act whole goes);
-      begun = grown.begun;
-      rows = grown.events;
-      is = grown.ends;
-      before = pieces;
-      shorter = record { in_order = in_order; whole = whole };
-      acts = rw grown.are at goes.acts;
-    }
+  -- the act that the bus tells is the one that ends with the row
+  pub ended-by : (scope : Scope) (events : List Event) (row : Event) (pieces : List Piece)
+      (act : Option Act) → ArePieces scope pieces → events_of pieces ≡ events
+      → GoesOn bus pieces row act → link.scope_of bus ≡ scope → IsEndedAct scope events row act
+  ended-by scope events row pieces act in_order whole goes same_scope =
+      let grown = goes.grown in
+      record {
+        newest = grown.newest;
+        earlier = grown.earlier;
+        act_list = rw (same_scope, grown.are) at (list-on events row pieces act whole goes);
+        begun = grown.begun;
+        rows = grown.events;
+        is = grown.ends;
+        before = pieces;
+        shorter = record { in_order = in_order; whole = whole };
+        acts = rw grown.are at goes.acts;
+      }
 
 -- What a follower stands for.
 module _ (follower : Follower) (events : List Event) where
-  -- the act list of the events
-  list-of : (on : StandsFor follower events) → IsActList (scope_of follower) on.pieces events
-  list-of on = record { in_order = on.on_bus.in_order; whole = on.whole }
-
   -- a follower has accepted the events that it stands for
-  pub accepted : StandsFor follower events → HasAccepted follower events
+  abbrev pub accepted : StandsFor follower events → HasAccepted follower events
   accepted on = record {
     pieces = on.pieces;
-    act_list = list-of on;
+    act_list = record { in_order = on.on_bus.in_order; whole = on.whole };
     rows = on.rows;
     sides = on.sides;
     silences = on.silences;
@@ -171,9 +168,7 @@ module _ (joins : (scope : Scope) → Joins scope) where
   accepted-reached follower events has =
       let some = some-ways follower events has in (
         (λ device. (some device).sums),
-        run_of (scope_of follower) (joins (scope_of follower)) events has.pieces
-            (λ device. (some device).state) (λ device. (some device).sums) has.act_list
-            (λ device. (some device).way),
+        run_of (scope_of follower) (joins (scope_of follower)) events has.pieces has.act_list some,
       )
 
   pub reached-by : (follower : Follower) (events : List Event)
@@ -193,7 +188,7 @@ module _ (joins : (scope : Scope) → Joins scope) where
     number = number ∙ ap (λ n. n + 1) on.rows;
     why = inl (record {
       pieces = on.pieces;
-      act_list = list-of old events on;
+      act_list = (accepted old events on).act_list;
       fault = rw (rule, blame) is;
     });
   }
@@ -211,38 +206,36 @@ module _ (joins : (scope : Scope) → Joins scope) where
     counted = counted;
   }
 
--- a rule of a device isn't that of what isn't followed
+-- a rule of a device isn't that of what isn't followed, nor that of a word that comes too late
 no-device-is-beyond : (device : Device) → rule_of device ≡ rules.Profile → ⊥
-no-device-is-beyond devices.Changer is = cc
-no-device-is-beyond devices.Bill is = cc
 no-device-is-beyond (devices.Reader unit) is = cc
+no-device-is-beyond device is = cc
+
+no-device-is-late : (device : Device) → is_late (rule_of device) ≡ true → ⊥
+no-device-is-late (devices.Reader unit) is = cc is
+no-device-is-late device is = cc is
 
 -- nor is the one that counts in haste
-pub none-beyond : {T : Type 0} (old : Follower) (act : Act) (row : Event) (new : Follower)
-    (offence : Offence) → HasStopped old act row new offence → offence.rule ≡ rules.Profile → T
-none-beyond old act row new offence has beyond = elim has.either [
-  | inl own ↦ absurd (no-device-is-beyond has.none.0 (sym has.none.1.rule ∙ sym own ∙ beyond))
-  | inr early ↦ absurd (let clash : rules.Early ≡ rules.Profile = sym early ∙ beyond in cc clash)
-]
+module _ (old : Follower) (act : Act) (row : Event) (new : Follower)
+    (offence : Offence) (has : HasStopped old act row new offence) where
+  by-rule : (Never : Rule → Type 0) → ((device : Device) → Never (rule_of device))
+      → Never rules.Early → Never offence.rule
+  by-rule Never own early = elim has.either [
+    | inl is ↦ rw (is, has.none.1.rule) (own has.none.0)
+    | inr is ↦ rw is early
+  ]
 
--- nor is it that of a word that comes too late
-no-device-is-late : {T : Type 0} (device : Device) → is_late (rule_of device) ≡ true → T
-no-device-is-late devices.Changer is = absurd (cc is)
-no-device-is-late devices.Bill is = absurd (cc is)
-no-device-is-late (devices.Reader unit) is = absurd (cc is)
+  pub none-beyond : {T : Type 0} → offence.rule ≡ rules.Profile → T
+  none-beyond beyond = absurd (by-rule (λ rule. rule ≡ rules.Profile → ⊥) no-device-is-beyond
+      (λ is. cc is) beyond)
 
-pub none-late : {T : Type 0} (old : Follower) (act : Act) (row : Event) (new : Follower)
-    (offence : Offence) → HasStopped old act row new offence → (met : Offence)
-    → new.offence ≡ Some met → is_late met.rule ≡ true → T
-none-late old act row new offence has met noted late =
-    let same : Some offence ≡ Some met = sym has.noted ∙ noted in
-    let one : offence ≡ met = cc same in
-    let is : is_late offence.rule ≡ true = ap (λ (o : Offence). is_late o.rule) one ∙ late in
-    elim has.either [
-      | inl own ↦ no-device-is-late has.none.0 (ap is_late (sym has.none.1.rule ∙ sym own) ∙ is)
-      | inr early ↦ absurd (let clash : is_late rules.Early ≡ true = ap is_late (sym early) ∙ is
-          in cc clash)
-    ]
+  pub none-late : {T : Type 0} (met : Offence) → new.offence ≡ Some met
+      → is_late met.rule ≡ true → T
+  none-late met noted late =
+      let same : Some offence ≡ Some met = sym has.noted ∙ noted in
+      let one : offence ≡ met = cc same in
+      absurd (by-rule (λ rule. is_late rule ≡ true → ⊥) no-device-is-late (λ is. cc is)
+      (rw one late))
 
 -- A follower that has stopped has accepted still what it stood for.
 pub accepted-still : (old new : Follower) (events : List Event) → StandsFor old events
@@ -256,14 +249,13 @@ accepted-still old new events on same_scope same_rows stay same_silences same_un
     record { begins = begins; acts = acts_of on.pieces; stand = on.sides } in
     record {
       pieces = on.pieces;
-      act_list = rw same_scope (list-of old events on);
+      act_list = rw same_scope (accepted old events on).act_list;
       rows = same_rows ∙ on.rows;
       sides = rw same_scope (by-stay (λ sides. AreSides begins sides (acts_of on.pieces)) old.sides
           new.sides ∣ standing ∣₁ stay on.sides);
       silences = rw (same_scope, same_silences) on.silences;
       untimely = rw same_scope (same_untimely ∙ on.untimely);
-      on_bus = λ met noted late. subst (λ b. link.StandsFor b on.pieces)
-          (sym (same_bus met noted late)) on.on_bus;
+      on_bus = λ met noted late. rw (same_bus met noted late) on.on_bus;
     }
 
 -- rows out of their time are counted as the profile has it
@@ -301,46 +293,37 @@ stands-still old new bus events row on goes same_bus same_scope same_sides same_
       rows = more ∙ ap (λ n. n + 1) on.rows ∙ sym (length-append events (row ∷ []));
       going = same ∙ on.going;
       sides = rw (same_scope, goes.acts, same_sides) on.sides;
-      silences = λ device. rw (
-        same_scope,
-        same_silences,
-        asks-stay (scope_of old).begins device on.pieces row goes.longer goes.grown,
-      )
-          (on.silences device);
+      silences = λ device. rw (same_scope, same_silences)
+          (rw (asks-stay (scope_of old).begins device on.pieces row goes.longer goes.grown)
+          (on.silences device));
       untimely = times;
     }
 
 -- an act was followed
 pub stands-on : (old mid new : Follower) (events : List Event) (row : Event) (act : Act)
     (on : StandsFor old events) (goes : GoesOn mid.bus on.pieces row (Some act))
-    → scope_of mid ≡ scope_of old → mid.sides ≡ old.sides → mid.silences ≡ old.silences
-    → mid.rows ≡ old.rows → mid.offence ≡ old.offence
-    → HasFollowedAct mid act row new → (counts : Option Untimely)
+    → scope_of mid ≡ scope_of old → IsLike mid old → HasFollowedAct mid act row new
+    → (counts : Option Untimely)
     → (few : (times : Untimely) → counts ≡ Some times → AreFew new.rows times)
     → counts ≡ times_of (scope_of new) goes.longer
     → StandsFor (record new { untimely = counts; few_untimely = few }) (events ++ row ∷ [])
-stands-on old mid new events row act on goes old_scope same_sides same_silences same_rows same
-    has counts few times =
+stands-on old mid new events row act on goes old_scope like has counts few times =
     let begins : Beginning = (scope_of old).begins in
     let same_scope : scope_of new ≡ scope_of old = ap link.scope_of has.on_bus ∙ old_scope in
     let sides : AreSides begins new.sides (act ∷ acts_of on.pieces) = λ device.
-    (has.sides device).stands begins (acts_of on.pieces) (rw same_sides (on.sides device)) in
+    (has.sides device).stands begins (acts_of on.pieces) (rw like.0 (on.sides device)) in
     record {
       pieces = goes.longer;
       on_bus = rw has.on_bus goes.stands;
       whole = rw on.whole at goes.rows;
-      rows = has.rows ∙ ap (λ n. n + 1) (same_rows ∙ on.rows)
-          ∙ sym (length-append events (row ∷ []));
-      going = has.going ∙ same ∙ on.going;
+      rows = has.rows ∙ ap (λ n. n + 1) (like.3 ∙ on.rows) ∙ sym (length-append events (row ∷ []));
+      going = has.going ∙ like.4 ∙ on.going;
       sides = rw (same_scope, goes.acts) sides;
-      silences = λ device. rw (
-        same_scope,
-        ← (asks-go-on begins device on.pieces row act goes.longer
-            new.sides.first_reader.facts new.sides.second_reader.facts goes.grown
-            (sides (devices.Reader First)).facts (sides (devices.Reader Second)).facts),
-      )
+      silences = λ device. rw same_scope (rw (asks-go-on begins device on.pieces row act
+          goes.longer new.sides.first_reader.facts new.sides.second_reader.facts goes.grown
+          (sides (devices.Reader First)).facts (sides (devices.Reader Second)).facts) at
           ((has.silences device).stands (asks_of begins device on.pieces)
-          (rw same_silences (on.silences device)));
+          (rw like.1 (on.silences device))));
       untimely = times;
     }
 
@@ -349,25 +332,6 @@ pub whole-piece : (piece : Piece) (act : Act) (events : List Event) → act_in p
     → piece_events piece ≡ events → piece ≡ Whole act events
 whole-piece (Whole other rows) act events ends same = cc
 whole-piece piece act events ends same = absurd (cc)
-
--- Ways and runs of rows with one act list.
-module _ (scope : Scope) (one : OneActList scope) where
-  -- each device's way of a run leads through the acts of an act list of its rows
-  arrived : (rows : List Event) (pieces : List Piece) (sums : AllSums)
-      → IsActList scope pieces rows → (run : Run scope rows sums)
-      → EachArrives scope.begins (acts_of pieces) run.states sums
-  arrived rows pieces sums list run = rw (one rows run.pieces pieces run.act_list list) at
-      (split scope.begins run.loss run.pieces run.states sums run.way)
-
-  -- where a machine has no step by the newest act, the rows aren't reached
-  unreached : {own : Rule} {act : Act} {before : List Act} (rows : List Event)
-      (pieces : List Piece) → IsActList scope pieces rows → acts_of pieces ≡ act ∷ before
-      → NoStep scope.begins own act before → IsReached scope rows → ⊥
-  unreached rows pieces list are stops reached =
-      let ways = rw are at (arrived rows pieces reached.0 list reached.1) in
-      let way = ways stops.device in
-      stops.none way.before way.sums_before way.way way.choice way.stands
-      (reached.1.states stops.device) way.gains way.step
 
 -- The sums of a device, where a run of a kind has them, and where its ways come to them: the same
 -- ones.
@@ -381,34 +345,14 @@ abbrev pub IsCellOf : (AllSums → Type 0) → (AllSums → Sums) → Cell → T
 IsCellOf Runs of cell =
     (slot : ℕ) → slot < SLOTS → IsAccount Runs (λ sums. of sums slot) (slot_account cell slot)
 
-module _ (Runs : AllSums → Type 0) (Kind : Sums → Type 0) (of : AllSums → Sums)
-    (are : AreOf Runs Kind of) where
-  -- then their ranges are those of the runs
-  range-of-runs : (value : Sums → ℤ) (range : Range) → IsRange Kind value range
-      → IsRange Runs (λ sums. value (of sums)) range
-  range-of-runs value range is =
-      let least = are.lift is.least.0 is.least.1 in
-      let greatest = are.lift is.greatest.0 is.greatest.1 in
-      record {
-        least = (least.0, least.2, ap value least.1 ∙ is.least.2);
-        greatest = (greatest.0, greatest.2, ap value greatest.1 ∙ is.greatest.2);
-        low = λ all run. is.low (of all) (are.lower all run);
-        high = λ all run. is.high (of all) (are.lower all run);
-      }
-
-  -- and so are the three ranges of each account of a cell
-  pub cell-of-runs : (cell : Cell) → IsCell Kind cell → IsCellOf Runs of cell
-  cell-of-runs cell is slot below =
-      let ranges = slot_account cell slot in
-      let its = is slot below in
-      record {
-        device = range-of-runs (λ sums. pos (sums slot).device) ranges.device its.device;
-        controller = range-of-runs (λ sums. pos (sums slot).controller) ranges.controller
-            its.controller;
-        difference = range-of-runs
-            (λ sums. pos (sums slot).device -ℤ pos (sums slot).controller) ranges.difference
-            its.difference;
-      }
+-- then the ranges of each account of a cell are those of the runs
+pub cell-of-runs : (Runs : AllSums → Type 0) (Kind : Sums → Type 0) (of : AllSums → Sums)
+    → AreOf Runs Kind of → (cell : Cell) → IsCell Kind cell → IsCellOf Runs of cell
+cell-of-runs Runs Kind of are cell is slot below =
+    account-moves Kind (λ sums. sums slot) Runs (λ all. of all slot)
+    (λ sums kind. let its = are.lift sums kind in
+    (its.0, its.2, ap (λ (s : Sums). s slot) (sym its.1)))
+    (λ all run. (of all, are.lower all run, refl)) _ (is slot below)
 
 -- so the accounts are those of the runs
 pub accounts-of-cells : (Runs : AllSums → Type 0) (cells : Device → Cell)
@@ -426,46 +370,56 @@ accounts-within limit cells accounts are fits account =
     rw (are, listed (account_by cells) account)
     (fits (account_device account) (account_slot account) (slot-below account))
 
--- A way of one device is one of all, beside some way of each other device.
-device-is : (scope : Scope) → OneActList scope → Joins scope
-    → (rows : List Event) (pieces : List Piece)
-    → IsActList scope pieces rows → SomeArrive scope.begins (acts_of pieces) → (device : Device)
-    → AreOf (Run scope rows)
-    (ArrivesAnywhere (Arrives (machine_of scope.begins device) (acts_of pieces)))
-    (λ sums. sums device)
-device-is scope one joins rows pieces list some device =
-    let Some_way : Device → Type 0 = λ d. SomeWay (machine_of scope.begins d) (acts_of pieces) in
-    record {
-      lift = λ sums at.
-          let its : Some_way device = record { state = at.state; sums = sums; way = at.way } in
-          let all = with_one Some_way device its some in (
-            (λ d. (all d).sums),
-            ap (λ way. way.sums) (with_one-same Some_way device its some),
-            run_of scope joins rows pieces (λ d. (all d).state) (λ d. (all d).sums) list
-                (λ d. (all d).way),
-          );
-      lower = λ all run. record {
-        state = run.states device;
-        way = arrived scope one rows pieces all list run device;
-      };
-    }
+-- Ways and runs of rows with one act list.
+module _ (scope : Scope) (one : OneActList scope) (rows : List Event) (pieces : List Piece)
+    (list : IsActList scope pieces rows) where
+  -- each device's way of a run leads through the acts of an act list of its rows
+  arrived : (sums : AllSums) (run : Run scope rows sums)
+      → EachArrives scope.begins (acts_of pieces) run.states sums
+  arrived sums run = rw (one rows run.pieces pieces run.act_list list) at
+      (split scope.begins run.loss run.pieces run.states sums run.way)
+
+  -- where a machine has no step by the newest act, the rows aren't reached
+  unreached : {own : Rule} {act : Act} {before : List Act} → acts_of pieces ≡ act ∷ before
+      → NoStep scope.begins own act before → IsReached scope rows → ⊥
+  unreached are stops reached =
+      let ways = rw are at (arrived reached.0 reached.1) in
+      let way = ways stops.device in
+      stops.none way.before way.sums_before way.way way.choice way.stands
+      (reached.1.states stops.device) way.gains way.step
+
+  -- A way of one device is one of all, beside some way of each other device.
+  device-is : Joins scope → SomeArrive scope.begins (acts_of pieces) → (device : Device)
+      → AreOf (Run scope rows)
+      (ArrivesAnywhere (Arrives (machine_of scope.begins device) (acts_of pieces)))
+      (λ sums. sums device)
+  device-is joins some device =
+      let Some_way : Device → Type 0 = λ d. SomeWay (machine_of scope.begins d) (acts_of pieces) in
+      record {
+        lift = λ sums at.
+            let its : Some_way device = record { state = at.state; sums = sums; way = at.way } in
+            let all = with_one Some_way device its some in (
+              (λ d. (all d).sums),
+              ap (λ way. way.sums) (with_one-same Some_way device its some),
+              run_of scope joins rows pieces list all,
+            );
+        lower = λ all run. record { state = run.states device; way = arrived all run device };
+      }
 
 module _ (one : (scope : Scope) → OneActList scope) (joins : (scope : Scope) → Joins scope) where
   -- a machine has no step by an act
   pub machine-offence : (old mid new : Follower) (events : List Event) (row : Event) (act : Act)
       (offence : Offence) (on : StandsFor old events)
-      → GoesOn mid.bus on.pieces row (Some act) → link.scope_of mid.bus ≡ scope_of old
-      → mid.sides ≡ old.sides → mid.rows ≡ old.rows
+      → GoesOn mid.bus on.pieces row (Some act) → scope_of mid ≡ scope_of old → IsLike mid old
       → HasStopped mid act row new offence → IsOffence (scope_of old) events row offence
-  machine-offence old mid new events row act offence on goes same_scope same_sides same_rows has =
-      let scope : Scope = scope_of old in
-      let list : IsActList scope goes.longer (events ++ row ∷ []) =
-      rw same_scope at (list-on mid.bus events row on.pieces (Some act) on.whole goes) in
+  machine-offence old mid new events row act offence on goes same_scope like has =
+      let scope = scope_of old in
+      let list = rw same_scope at (list-on mid.bus events row on.pieces (Some act) on.whole goes) in
       let none : NoStep scope.begins has.own act (acts_of on.pieces) = record {
         device = has.none.0;
         rule = has.none.1.rule;
         none = has.none.1.none scope.begins (acts_of on.pieces)
-            (rw same_sides (on.sides has.none.0));
+            (rw like.0 (on.sides has.none.0));
       } in
       let grown = goes.grown in
       let are : goes.longer ≡ Whole act (grown.begun ++ row ∷ []) ∷ grown.earlier =
@@ -478,7 +432,7 @@ module _ (one : (scope : Scope) → OneActList scope) (joins : (scope : Scope) �
         reached = reached-by joins old events on;
         not_reached = unreached scope (one scope) (events ++ row ∷ []) goes.longer list goes.acts
             none;
-        number = has.number ∙ ap (λ n. n + 1) (same_rows ∙ on.rows);
+        number = has.number ∙ ap (λ n. n + 1) (like.3 ∙ on.rows);
         why = inr (record {
           act = act;
           begun = grown.begun;
@@ -500,15 +454,15 @@ module _ (one : (scope : Scope) → OneActList scope) (joins : (scope : Scope) �
       → report ≡ report_of (scope_of follower) follower.rows has.pieces (account_by cells)
       → IsReport (scope_of follower) events report
   reported follower events report cells has are telling =
-      let scope : Scope = scope_of follower in
+      let scope = scope_of follower in
       record {
         reached = accepted-reached joins follower events has;
         pieces = has.pieces;
         act_list = has.act_list;
         accounts = account_by cells;
         of_runs = accounts-of-cells (Run scope events) cells (λ device.
-            cell-of-runs (Run scope events) _ _ (device-is scope (one scope) (joins scope) events
-            has.pieces has.act_list (some-ways follower events has) device) (cells device)
+            cell-of-runs (Run scope events) _ _ (device-is scope (one scope) events has.pieces
+            has.act_list (joins scope) (some-ways follower events has) device) (cells device)
             (are device));
         telling = rw has.rows at telling;
       }
@@ -521,50 +475,49 @@ pub record HasFed (old : Follower) (events : List Event) (count : ℕ) (new : Fo
   pub still : count ≡ 0 → new ≡ old
   pub stands : (earlier : List Event) → StandsFor old earlier → StandsFor new (earlier ++ events)
 
--- all events were taken
-pub fed-all : (old new : Follower) (events : List Event) (i : ℕ) → length events ≤ i
-    → i ≤ length events → HasFed old (take i events) i new → HasFed old events (length events) new
-fed-all old new events i low high has =
-    let all : i ≡ length events = omega arith in
-    rw (take_all (length events) events (omega arith)) at (rw all at has)
+-- a row among the events
+module _ (old mid : Follower) (events : List Event) (i : ℕ)
+    (has : HasFed old (take i events) i mid) where
+  -- all events were taken
+  pub fed-all : length events ≤ i → i ≤ length events → HasFed old events (length events) mid
+  fed-all low high =
+      let all : i ≡ length events = omega arith in
+      rw (take_all (length events) events (omega arith)) at (rw all at has)
 
--- one event more was taken
-pub fed-more : (old mid new : Follower) (events : List Event) (i : ℕ) (d : Event)
-    → i < length events → HasFed old (take i events) i mid → new.rows ≡ mid.rows + 1
-    → new.offence ≡ None → scope_of new ≡ scope_of mid
-    → ((earlier : List Event) → StandsFor mid earlier
-    → StandsFor new (earlier ++ get_or events i d ∷ []))
-    → HasFed old (take (i + 1) events) (i + 1) new
-fed-more old mid new events i d within has more going same stands = record {
-  rows = omega (arith, more, has.rows);
-  going = going;
-  scope = same ∙ has.scope;
-  still = λ none. absurd (omega (arith, none));
-  stands = λ earlier on. rw (take_more events i d within, ← append_assoc)
-      (stands (earlier ++ take i events) (has.stands earlier on));
-}
+  -- one event more was taken
+  pub fed-more : (new : Follower) (d : Event) → i < length events → new.rows ≡ mid.rows + 1
+      → new.offence ≡ None → scope_of new ≡ scope_of mid
+      → ((earlier : List Event) → StandsFor mid earlier
+      → StandsFor new (earlier ++ get_or events i d ∷ []))
+      → HasFed old (take (i + 1) events) (i + 1) new
+  fed-more new d within more going same stands = record {
+    rows = omega (arith, more, has.rows);
+    going = going;
+    scope = same ∙ has.scope;
+    still = λ none. absurd (omega (arith, none));
+    stands = λ earlier on. rw (take_more events i d within, ← append_assoc)
+        (stands (earlier ++ take i events) (has.stands earlier on));
+  }
 
--- a row among the events was refused
-pub fed-refused : (old mid : Follower) (events earlier : List Event) (i : ℕ) (d : Event)
-    (offence : Offence) → i < length events → HasFed old (take i events) i mid
-    → ((before : List Event) → StandsFor mid before
-    → IsOffence (scope_of mid) before (get_or events i d) offence)
-    → StandsFor old earlier → HasOffence (scope_of old) earlier events offence
-fed-refused old mid events earlier i d offence within has refused on = record {
-  front = take i events;
-  row = get_or events i d;
-  rest = drop (i + 1) events;
-  parts = rw add-one (split_at events i d within);
-  is = rw has.scope at (refused (earlier ++ take i events) (has.stands earlier on));
-}
+  -- it was refused
+  pub fed-refused : (earlier : List Event) (d : Event) (offence : Offence) → i < length events
+      → ((before : List Event) → StandsFor mid before
+      → IsOffence (scope_of mid) before (get_or events i d) offence)
+      → StandsFor old earlier → HasOffence (scope_of old) earlier events offence
+  fed-refused earlier d offence within refused on = record {
+    front = take i events;
+    row = get_or events i d;
+    rest = drop (i + 1) events;
+    parts = rw add-one (split_at events i d within);
+    is = rw has.scope at (refused (earlier ++ take i events) (has.stands earlier on));
+  }
 
--- and those before it were accepted
-pub fed-accepted : (old mid new : Follower) (events earlier : List Event) (i : ℕ)
-    → HasFed old (take i events) i mid → new.rows ≡ mid.rows
-    → ((before : List Event) → StandsFor mid before → HasAccepted new before)
-    → StandsFor old earlier → HasAccepted new (take new.rows (earlier ++ events))
-fed-accepted old mid new events earlier i has same accepts on =
-    let rows : new.rows ≡ length earlier + i = same ∙ has.rows ∙ ap (λ n. n + i) on.rows in
-    subst (λ n. HasAccepted new (take n (earlier ++ events))) (sym rows)
-    (rw (take-append-add earlier events i)
-    (accepts (earlier ++ take i events) (has.stands earlier on)))
+  -- and those before it were accepted
+  pub fed-accepted : (new : Follower) (earlier : List Event) → new.rows ≡ mid.rows
+      → ((before : List Event) → StandsFor mid before → HasAccepted new before)
+      → StandsFor old earlier → HasAccepted new (take new.rows (earlier ++ events))
+  fed-accepted new earlier same accepts on =
+      let rows : new.rows ≡ length earlier + i = same ∙ has.rows ∙ ap (λ n. n + i) on.rows in
+      subst (λ n. HasAccepted new (take n (earlier ++ events))) (sym rows)
+      (rw (take-append-add earlier events i)
+      (accepts (earlier ++ take i events) (has.stands earlier on)))

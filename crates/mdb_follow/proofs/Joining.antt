@@ -1,9 +1,8 @@
 -- Ways of each device, and of all.
-use Rattle.std.proofs.Common.{arith, refl, sym, ap, ◌∙◌, ◌≡◌, ◌↔◌, ◌<◌, ◌+◌, cond, nat_eq, ℕ, suc}
-use Rattle.std.proofs.Common.{Bool, true, false, List, [], ◌∷◌, ◌++◌, length, length-append}
+use Rattle.std.proofs.Common.{arith, refl, sym, ap, ◌∙◌, ◌≡◌, ◌↔◌, ◌<◌, cond, nat_eq, ℕ}
+use Rattle.std.proofs.Common.{Bool, true, false, List, [], ◌∷◌, length, length-append}
 use Rattle.std.proofs.lemmas.Bool.Decides.{nat_tests}
 use Rattle.mdb_msgs.specs.declared.command.Device.{Device}
-use Rattle.mdb_bus.specs.declared.act.Act.{Act}
 use Rattle.mdb_bus.specs.ActLists.{ArePieces, Piece, Whole, acts_of, events_of, piece_events}
 use Rattle.mdb_bus.specs.Acts.{IsAck}
 use Rattle.mdb_bus.specs.Wish.{HearsAsWished}
@@ -11,63 +10,21 @@ use Rattle.mdb_bus.specs.Loss.{IsHeard, Loss, LossFits}
 use Rattle.mdb_bus.specs.declared.scope.Beginning.{Beginning}
 use Rattle.mdb_machine.specs.declared.choice.Choice.{Choice}
 use Rattle.mdb_machine.specs.declared.choice.Choice.TheVariants.{Lost}
-use Rattle.mdb_machine.specs.declared.gains.Gains.{Gains}
-use Rattle.mdb_machine.specs.Machine.{Machine}
-use Rattle.mdb_machine.specs.Pair.{IsMachineOf}
 use Rattle.mdb_follow.specs.Tables.{EachArrives}
-use Rattle.mdb_follow.specs.Sums.{Sums}
 use Rattle.mdb_follow.specs.Machines.{machine_of}
-use Rattle.mdb_follow.specs.Runs.{AllSums, Goes, IsWay, States}
+use Rattle.mdb_follow.specs.Runs.{AllSums, IsWay, States}
 use Rattle.mdb_follow.specs.SameAcks.{HearSameAcks}
-use Rattle.mdb_follow.specs.Choosing.{AllFollow, Choices, Follows, FollowsBy, choices_of}
+use Rattle.mdb_follow.specs.Choosing.{AllFollow, Choices, choices_of}
 use Rattle.mdb_follow.proofs.Choosing.{arrives, chosen, follows_as, merged, merged_agrees}
 use Rattle.mdb_follow.proofs.Machines.{is_machine_of}
 use Rattle.mdb_bus.specs.declared.scope.Scope.{Scope}
 
--- a step of a device goes on from a way with choices
-by_one : {State : Type 0} {Before : State → Sums → Type 0}
-    {Step : State → State → Gains → Type 0} {before state : State} {sums_before sums : Sums}
-    → Before before sums_before → Goes Step before state sums_before sums
-    → FollowsBy Before Step state sums
-by_one {before = before} {sums_before = sums_before} way go = record {
-  before = before;
-  sums_before = sums_before;
-  gains = go.gains;
-  way = way;
-  step = go.step;
-  adds = go.adds;
-}
-
--- each way of all is a way of each device, with what it chooses
-pub split_with_choices : (begins : Beginning) (loss : Loss) (pieces : List Piece) (states : States)
-    (sums : AllSums) (way : IsWay begins loss pieces states sums)
-    → AllFollow begins (acts_of pieces) (choices_of begins loss pieces states sums way) states sums
-split_with_choices begins loss [] states sums way = way
-split_with_choices begins loss (Whole act events ∷ pieces) states sums way =
-    let earlier = split_with_choices begins loss pieces way.before way.sums_before way.way in
-    λ device. by_one (earlier device) (way.go device)
-split_with_choices begins loss (tail ∷ pieces) states sums way =
-    split_with_choices begins loss pieces states sums way
-
--- so it is a way of each device
-pub split : (begins : Beginning) (loss : Loss) (pieces : List Piece) (states : States)
-    (sums : AllSums) → IsWay begins loss pieces states sums
-    → EachArrives begins (acts_of pieces) states sums
-split begins loss pieces states sums way = λ device.
-    arrives (machine_of begins device) (acts_of pieces)
-    (choices_of begins loss pieces states sums way) (states device) (sums device)
-    (split_with_choices begins loss pieces states sums way device)
-
 -- one of two, by whether two numbers are the same
-pick : ℕ → ℕ → Bool → Bool → Bool
-pick one other same apart = cond (nat_eq one other) same apart
-
-pick_same : (n : ℕ) (same apart : Bool) → pick n n same apart ≡ same
-unfolding pick
+pick_same : (n : ℕ) (same apart : Bool) → cond (nat_eq n n) same apart ≡ same
 pick_same n same apart = grind (arith, nat_tests)
 
-pick_other : (one other : ℕ) (same apart : Bool) → one < other → pick one other same apart ≡ apart
-unfolding pick
+pick_other : (one other : ℕ) (same apart : Bool) → one < other
+    → cond (nat_eq one other) same apart ≡ apart
 pick_other one other same apart less = grind (arith, nat_tests)
 
 -- whether a choice leaves it that an act was heard
@@ -79,7 +36,7 @@ is_heard choice = true
 chosen_at : (pieces : List Piece) → Choices (acts_of pieces) → ℕ → Bool
 chosen_at [] choices before = true
 chosen_at (Whole act events ∷ pieces) choices before =
-    pick before (length (events_of pieces)) (is_heard choices.choice)
+    cond (nat_eq before (length (events_of pieces))) (is_heard choices.choice)
     (chosen_at pieces choices.before before)
 chosen_at (tail ∷ pieces) choices before = chosen_at pieces choices before
 
@@ -91,133 +48,129 @@ lost_as Lost Heard told =
     (λ is heard. let never : false ≡ true = told.0 heard in absurd cc, λ none. refl)
 lost_as choice Heard told = (λ is. absurd cc, λ none. absurd (none (told.1 refl)))
 
--- a loss agrees with choices on each ACK
-abbrev Agrees : Loss → (pieces : List Piece) → Choices (acts_of pieces) → Type 0
-Agrees loss [] choices = Unit {0}
-Agrees loss (Whole act events ∷ pieces) choices =
-    (IsAck act
-    → IsHeard loss act (length (events_of pieces)) (length events)
-    ↔ (is_heard choices.choice ≡ true))
-    × Agrees loss pieces choices.before
-Agrees loss (tail ∷ pieces) choices = Agrees loss pieces choices
-
-agrees : (scope : Scope) (choice : ℕ → Bool) (loss : Loss) (pieces : List Piece)
-    (choices : Choices (acts_of pieces))
-    → ArePieces scope pieces
-    → ((before : ℕ) → before < length (events_of pieces)
-    → choice before ≡ chosen_at pieces choices before)
-    → HearsAsWished loss choice pieces → Agrees loss pieces choices
-unfolding chosen_at
-agrees scope choice loss [] choices are same hears = tt
-agrees scope choice loss (Whole act events ∷ pieces) choices are same hears =
-    let rows : length (events_of pieces ++ events) ≡ length (events_of pieces) + length events =
-    length-append (events_of pieces) events in
-    let some : length events ≡ suc (length are.1.others) = ap length are.1.begins in
-    let here : choice (length (events_of pieces)) ≡ is_heard choices.choice =
-    same (length (events_of pieces)) (omega (arith, rows, some))
-    ∙ pick_same (length (events_of pieces)) (is_heard choices.choice) _ in (
-      (λ ack. ((λ h. sym here ∙ (hears.0 ack).0 h), (λ h. (hears.0 ack).1 (here ∙ h)))),
-      agrees scope choice loss pieces choices.before are.2
-          (λ before less. same before (omega (arith, less, rows))
-          ∙ pick_other before (length (events_of pieces)) (is_heard choices.choice) _ less)
-          hears.1,
-    )
-agrees scope choice loss (tail ∷ pieces) choices are same hears =
-    let rows = length-append (events_of pieces) (piece_events tail) in
-    agrees scope choice loss pieces choices are.2
-    (λ before less. same before (omega (arith, less, rows))) hears
-
--- the last step of a way
-gone : {State : Type 0} {Before : State → Sums → Type 0}
-    {Step : State → State → Gains → Type 0} {state : State} {sums : Sums}
-    → (way : FollowsBy Before Step state sums)
-    → Goes Step way.before state way.sums_before sums
-gone way = record { gains = way.gains; step = way.step; adds = way.adds }
-
--- then there is a way of all, under the loss of the choices
-way_of : (begins : Beginning) (loss : Loss) (pieces : List Piece)
-    (choices : Choices (acts_of pieces)) (states : States) (sums : AllSums)
-    → Agrees loss pieces choices → AllFollow begins (acts_of pieces) choices states sums
-    → IsWay begins loss pieces states sums
-way_of begins loss [] choices states sums agree ways = ways
-way_of begins loss (Whole act events ∷ pieces) choices states sums agree ways = record {
-  choice = choices.choice;
-  stands = choices.stands;
-  as_lost = λ ack. lost_as choices.choice
-      (IsHeard loss act (length (events_of pieces)) (length events)) (agree.0 ack);
-  before = λ device. (ways device).before;
-  sums_before = λ device. (ways device).sums_before;
-  way = way_of begins loss pieces choices.before (λ device. (ways device).before)
-      (λ device. (ways device).sums_before) agree.1 (λ device. (ways device).way);
-  go = λ device. gone (ways device);
-}
-way_of begins loss (tail ∷ pieces) choices states sums agree ways =
-    way_of begins loss pieces choices states sums agree ways
-
--- and it chooses what was chosen
-way_of-choices : (begins : Beginning) (loss : Loss) (pieces : List Piece)
-    (choices : Choices (acts_of pieces)) (states : States) (sums : AllSums)
-    (agree : Agrees loss pieces choices)
-    (ways : AllFollow begins (acts_of pieces) choices states sums)
-    → choices_of begins loss pieces states sums
-    (way_of begins loss pieces choices states sums agree ways) ≡ choices
-unfolding way_of
-way_of-choices begins loss [] choices states sums agree ways = refl
-way_of-choices begins loss (Whole act events ∷ pieces) choices states sums agree ways =
-    ap (λ before. record { choice = choices.choice; stands = choices.stands; before = before })
-    (way_of-choices begins loss pieces choices.before (λ device. (ways device).before)
-    (λ device. (ways device).sums_before) agree.1 (λ device. (ways device).way))
-way_of-choices begins loss (tail ∷ pieces) choices states sums agree ways =
-    way_of-choices begins loss pieces choices states sums agree ways
-
 -- what mdb_bus says of losses: there is one by which the ACKs are heard that are wished to be
 abbrev pub AcksMayBeHeard : Scope → Type 0
 AcksMayBeHeard scope =
     (pieces : List Piece) → ArePieces scope pieces → (choice : ℕ → Bool)
     → (loss : Loss) × LossFits loss pieces × HearsAsWished loss choice pieces
 
--- ways with the same choices are together a way of all with these, under one loss that fits
-pub joined_with_choices : (scope : Scope) → AcksMayBeHeard scope
-    → (pieces : List Piece) (choices : Choices (acts_of pieces)) (states : States) (sums : AllSums)
-    → ArePieces scope pieces → AllFollow scope.begins (acts_of pieces) choices states sums
-    → (loss : Loss) × LossFits loss pieces × (way : IsWay scope.begins loss pieces states sums)
-    × (choices_of scope.begins loss pieces states sums way ≡ choices)
-joined_with_choices scope law pieces choices states sums are ways =
-    let found = law pieces are (chosen_at pieces choices) in
-    let agree = agrees scope (chosen_at pieces choices) found.0 pieces choices are
-    (λ before less. refl) found.2 in (
-      found.0,
-      found.1,
-      way_of scope.begins found.0 pieces choices states sums agree ways,
-      way_of-choices scope.begins found.0 pieces choices states sums agree ways,
-    )
+-- Ways under a loss.
+module _ (begins : Beginning) (loss : Loss) where
+  -- each way of all is a way of each device, with what it chooses
+  pub split_with_choices : (pieces : List Piece) (states : States) (sums : AllSums)
+      (way : IsWay begins loss pieces states sums)
+      → AllFollow begins (acts_of pieces) (choices_of begins loss pieces states sums way) states
+      sums
+  split_with_choices [] states sums way device = way device
+  split_with_choices (Whole act events ∷ pieces) states sums way device =
+      let go = way.go device in
+      record {
+        before = way.before device;
+        sums_before = way.sums_before device;
+        gains = go.gains;
+        way = split_with_choices pieces way.before way.sums_before way.way device;
+        step = go.step;
+        adds = go.adds;
+      }
+  split_with_choices (tail ∷ pieces) states sums way device =
+      split_with_choices pieces states sums way device
 
--- a device's way is one with the choices of all
-as_merged : {State : Type 0} (device : Device) (machine : Machine State)
-    → IsMachineOf device machine → (acts : List Act) (all : Device → Choices acts) (state : State)
-    (sums : Sums) → Follows machine acts (all device) state sums
-    → Follows machine acts (merged acts all) state sums
-as_merged device machine is acts all state sums way =
-    follows_as device machine is acts (all device) (merged acts all)
-    (merged_agrees acts all device) state sums way
+  -- so it is a way of each device
+  pub split : (pieces : List Piece) (states : States) (sums : AllSums)
+      → IsWay begins loss pieces states sums → EachArrives begins (acts_of pieces) states sums
+  split pieces states sums way device =
+      arrives (machine_of begins device) (acts_of pieces)
+      (choices_of begins loss pieces states sums way) (states device) (sums device)
+      (split_with_choices pieces states sums way device)
 
--- and there is such a loss
-pub joined : (scope : Scope) → AcksMayBeHeard scope
-    → (pieces : List Piece) (states : States) (sums : AllSums) → ArePieces scope pieces
-    → EachArrives scope.begins (acts_of pieces) states sums
-    → (loss : Loss) × LossFits loss pieces × IsWay scope.begins loss pieces states sums
-joined scope law pieces states sums are ways =
-    let own : (device : Device) → (choices : Choices (acts_of pieces))
-    × Follows (machine_of scope.begins device) (acts_of pieces) choices (states device)
-    (sums device) =
-    λ device. chosen (machine_of scope.begins device) (acts_of pieces) (states device) (sums device)
-    (ways device) in
-    let all : Device → Choices (acts_of pieces) = λ device. (own device).0 in
-    let found = joined_with_choices scope law pieces (merged (acts_of pieces) all) states sums are
-    (λ device. as_merged device (machine_of scope.begins device)
-    (is_machine_of scope.begins device) (acts_of pieces)
-    all (states device) (sums device) (own device).1) in
-    (found.0, found.1, found.2)
+  -- a loss agrees with choices on each ACK
+  abbrev Agrees : (pieces : List Piece) → Choices (acts_of pieces) → Type 0
+  Agrees [] choices = Unit {0}
+  Agrees (Whole act events ∷ pieces) choices =
+      (IsAck act
+      → IsHeard loss act (length (events_of pieces)) (length events)
+      ↔ (is_heard choices.choice ≡ true))
+      × Agrees pieces choices.before
+  Agrees (tail ∷ pieces) choices = Agrees pieces choices
+
+  agrees : (scope : Scope) (choice : ℕ → Bool) (pieces : List Piece)
+      (choices : Choices (acts_of pieces)) → ArePieces scope pieces
+      → ((before : ℕ) → before < length (events_of pieces)
+      → choice before ≡ chosen_at pieces choices before)
+      → HearsAsWished loss choice pieces → Agrees pieces choices
+  unfolding chosen_at
+  agrees scope choice [] choices are same hears = tt
+  agrees scope choice (Whole act events ∷ pieces) choices are same hears =
+      let rows = length-append (events_of pieces) events in
+      let some = ap length are.1.begins in
+      let here : choice (length (events_of pieces)) ≡ is_heard choices.choice =
+      same (length (events_of pieces)) (omega (arith, rows, some))
+      ∙ pick_same (length (events_of pieces)) (is_heard choices.choice) _ in (
+        (λ ack. ((λ h. sym here ∙ (hears.0 ack).0 h), (λ h. (hears.0 ack).1 (here ∙ h)))),
+        agrees scope choice pieces choices.before are.2
+            (λ before less. same before (omega (arith, less, rows))
+            ∙ pick_other before (length (events_of pieces)) (is_heard choices.choice) _ less)
+            hears.1,
+      )
+  agrees scope choice (tail ∷ pieces) choices are same hears =
+      let rows = length-append (events_of pieces) (piece_events tail) in
+      agrees scope choice pieces choices are.2
+      (λ before less. same before (omega (arith, less, rows))) hears
+
+  -- then there is a way of all, under the loss of the choices, and it chooses what was chosen
+  way_of : (pieces : List Piece) (choices : Choices (acts_of pieces)) (states : States)
+      (sums : AllSums) → Agrees pieces choices
+      → AllFollow begins (acts_of pieces) choices states sums
+      → (way : IsWay begins loss pieces states sums)
+      × (choices_of begins loss pieces states sums way ≡ choices)
+  way_of [] choices states sums agree ways = (ways, refl)
+  way_of (Whole act events ∷ pieces) choices states sums agree ways =
+      let earlier = way_of pieces choices.before (λ device. (ways device).before)
+      (λ device. (ways device).sums_before) agree.1 (λ device. (ways device).way) in (
+        record {
+          choice = choices.choice;
+          stands = choices.stands;
+          as_lost = λ ack. lost_as choices.choice
+              (IsHeard loss act (length (events_of pieces)) (length events)) (agree.0 ack);
+          before = λ device. (ways device).before;
+          sums_before = λ device. (ways device).sums_before;
+          way = earlier.0;
+          go = λ device. let its = ways device in
+              record { gains = its.gains; step = its.step; adds = its.adds };
+        },
+        ap (λ before. record { choice = choices.choice; stands = choices.stands; before = before })
+            earlier.1,
+      )
+  way_of (tail ∷ pieces) choices states sums agree ways =
+      way_of pieces choices states sums agree ways
+
+module _ (scope : Scope) (law : AcksMayBeHeard scope) (pieces : List Piece) where
+  -- ways with the same choices are together a way of all with these, under one loss that fits
+  pub joined_with_choices : (choices : Choices (acts_of pieces)) (states : States) (sums : AllSums)
+      → ArePieces scope pieces → AllFollow scope.begins (acts_of pieces) choices states sums
+      → (loss : Loss) × LossFits loss pieces × (way : IsWay scope.begins loss pieces states sums)
+      × (choices_of scope.begins loss pieces states sums way ≡ choices)
+  joined_with_choices choices states sums are ways =
+      let found = law pieces are (chosen_at pieces choices) in
+      let agree = agrees scope.begins found.0 scope (chosen_at pieces choices) pieces choices are
+      (λ before less. refl) found.2 in
+      let way = way_of scope.begins found.0 pieces choices states sums agree ways in
+      (found.0, found.1, way.0, way.1)
+
+  -- and there is such a loss
+  pub joined : (states : States) (sums : AllSums) → ArePieces scope pieces
+      → EachArrives scope.begins (acts_of pieces) states sums
+      → (loss : Loss) × LossFits loss pieces × IsWay scope.begins loss pieces states sums
+  joined states sums are ways =
+      let acts = acts_of pieces in
+      let own = λ (device : Device). chosen (machine_of scope.begins device) acts (states device)
+      (sums device) (ways device) in
+      let all : Device → Choices acts = λ device. (own device).0 in
+      let found = joined_with_choices (merged acts all) states sums are
+      (λ device. follows_as device (machine_of scope.begins device)
+      (is_machine_of scope.begins device) acts (all device) (merged acts all)
+      (merged_agrees acts all device) (states device) (sums device) (own device).1) in
+      (found.0, found.1, found.2)
 
 -- where the same ACKs were heard, a way under one loss is one under the other
 heard_alike : (begins : Beginning) (one other : Loss) (pieces : List Piece) (states : States)

@@ -1,5 +1,5 @@
 -- The machines that are followed: what joining needs of each.
-use Rattle.std.proofs.Common.{refl, sym, ap, subst, ◌∙◌, ◌≡◌, ◌⊎◌, inl, inr, ℕ, List, Option, Some, None, unwrap_or}
+use Rattle.std.proofs.Common.{refl, sym, ap, ◌∙◌, ◌≡◌, ◌⊎◌, inl, inr, ℕ, List, Option, Some, None, unwrap_or}
 use Rattle.std.proofs.lemmas.Option.{same_Some}
 use Rattle.mdb_msgs.specs.declared.command.Device.{Device}
 use Rattle.mdb_msgs.specs.declared.command.Device.TheVariants as devices
@@ -43,10 +43,8 @@ with_one P device one others other = others other
 pub with_one-same : (P : Device → Type 0) (device : Device) (one : P device)
     (others : (other : Device) → P other) → with_one P device one others device ≡ one
 unfolding with_one
-with_one-same P devices.Changer one others = refl
-with_one-same P devices.Bill one others = refl
 with_one-same P (devices.Reader First) one others = refl
-with_one-same P (devices.Reader Second) one others = refl
+with_one-same P device one others = refl
 
 -- a device is the one that is named, or it isn't
 named_or_not : (device : Device) (named : Option Device)
@@ -89,29 +87,26 @@ same_choice device (kinds.Break length) chosen stands own =
 same_choice device act chosen stands own =
     ap (λ named. chosen (unwrap_or named devices.Changer)) (sym own)
 
--- a step by one choice is one by another that is the same where the device has a part in the act
-pub elsewhere_as : {State : Type 0} (device : Device) (machine : Machine State)
-    → IsMachineOf device machine → (acts : List Act) (act : Act) (one other : Choice)
-    → (IsActOf device act → one ≡ other) → (before after : State) (gains : Gains)
-    → machine.Step acts act one before after gains → machine.Step acts act other before after gains
-elsewhere_as device machine is acts act one other same before after gains step =
-    elim (of_or_not device act) [
-      | inl own ↦ subst (λ c. machine.Step acts act c before after gains) (same own) step
-      | inr apart ↦
-          (is.elsewhere acts act other before after gains apart).1
-          ((is.elsewhere acts act one before after gains apart).0 step)
-    ]
+module _ {State : Type 0} (device : Device) (machine : Machine State)
+    (is : IsMachineOf device machine) where
+  -- a step by one choice is one by another that is the same where the device has a part in the act
+  pub elsewhere_as : (acts : List Act) (act : Act) (one other : Choice)
+      → (IsActOf device act → one ≡ other) → (before after : State) (gains : Gains)
+      → machine.Step acts act one before after gains
+      → machine.Step acts act other before after gains
+  elsewhere_as acts act one other same before after gains step = elim (of_or_not device act) [
+    | inl own ↦ rw (same own) at step
+    | inr apart ↦ (is.elsewhere acts act other before after gains apart).1
+        ((is.elsewhere acts act one before after gains apart).0 step)
+  ]
 
--- an act by which a machine has no step, where a way leads to some state, is of its device alone
-pub whose_none : {State : Type 0} (device : Device) (machine : Machine State)
-    → IsMachineOf device machine → (act : Act) (before : List Act) → HasNoStep machine act before
-    → (state : State) (sums : Sums) → Arrives machine before state sums → whose act ≡ device
-whose_none device machine is act before none state sums way =
-    elim (of_or_not device act) [
-      | inl own ↦ whose_is device act own (λ length same.
-          let goes = is.breaks before length Plain state in
-          none state sums way Plain tt goes.0 goes.1
-          (subst (λ a. machine.Step before a Plain state goes.0 goes.1) (sym same) goes.2))
-      | inr apart ↦ absurd (none state sums way Plain tt state no_gains
-          ((is.elsewhere before act Plain state state no_gains apart).1 (refl, refl)))
-    ]
+  -- an act by which a machine has no step, where a way leads to some state, is of its device alone
+  pub whose_none : (act : Act) (before : List Act) → HasNoStep machine act before
+      → (state : State) (sums : Sums) → Arrives machine before state sums → whose act ≡ device
+  whose_none act before none state sums way = elim (of_or_not device act) [
+    | inl own ↦ whose_is device act own (λ length same.
+        let goes = is.breaks before length Plain state in
+        none state sums way Plain tt goes.0 goes.1 (rw same goes.2))
+    | inr apart ↦ absurd (none state sums way Plain tt state no_gains
+        ((is.elsewhere before act Plain state state no_gains apart).1 (refl, refl)))
+  ]

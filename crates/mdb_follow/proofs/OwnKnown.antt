@@ -1,5 +1,5 @@
 -- What is known of any device, and the amounts of it without a value, by what is known of each.
-use Rattle.std.proofs.Common.{ap, refl, ◌∙◌, ◌≡◌, ℕ, List, [], None, All, option_map}
+use Rattle.std.proofs.Common.{refl, ◌≡◌, ℕ, List, [], None, All}
 use Rattle.mdb_msgs.specs.declared.command.Device.{Device}
 use Rattle.mdb_msgs.specs.declared.command.Device.TheVariants as devices
 use Rattle.mdb_msgs.specs.declared.command.ReaderUnit.{ReaderUnit}
@@ -26,18 +26,12 @@ any_device P changer bill reader (devices.Reader unit) = reader unit
 -- where nothing is known of a device from elsewhere it has no decimal places after no act
 none_before : (begins : Beginning) (device : Device) → IsNotKnown begins device
     → decimals_of begins device [] ≡ None
-none_before (PowerOn profile) devices.Changer none = refl
-none_before (PowerOn profile) devices.Bill none = refl
 none_before (PowerOn profiles.Base) (devices.Reader unit) none = refl
 none_before (PowerOn profiles.Extended) (devices.Reader unit) none = refl
-none_before (Joined setups profile) devices.Changer none =
-    ap (option_map (λ setup. setup.decimals)) none
-none_before (Joined setups profile) devices.Bill none =
-    ap (option_map (λ setup. setup.decimals)) none
-none_before (Joined setups profiles.Base) (devices.Reader unit) none =
-    ap (option_map (λ config. config.decimals)) none
-none_before (Joined setups profiles.Extended) (devices.Reader unit) none =
-    ap (option_map (λ config. config.decimals)) none
+none_before (PowerOn profile) device none = refl
+none_before (Joined setups profiles.Base) (devices.Reader unit) none = rw none
+none_before (Joined setups profiles.Extended) (devices.Reader unit) none = rw none
+none_before (Joined setups profile) device none = rw none
 
 -- So it has none where breaks leave its setup.
 pub no_decimals : ((begins : Beginning) (so_far : List Act)
@@ -52,14 +46,11 @@ pub no_decimals : ((begins : Beginning) (so_far : List Act)
     (so_far : List Act) → All IsBreak (own_acts device so_far) → IsNotKnown begins device
     → decimals_of begins device so_far ≡ None
 no_decimals changer bill reader begins devices.Changer so_far alone none =
-    ap (option_map (λ setup. setup.decimals)) (changer begins so_far alone)
-    ∙ none_before begins devices.Changer none
+    rw (changer begins so_far alone) (none_before begins devices.Changer none)
 no_decimals changer bill reader begins devices.Bill so_far alone none =
-    ap (option_map (λ setup. setup.decimals)) (bill begins so_far alone)
-    ∙ none_before begins devices.Bill none
+    rw (bill begins so_far alone) (none_before begins devices.Bill none)
 no_decimals changer bill reader begins (devices.Reader unit) so_far alone none =
-    ap (option_map (λ config. config.decimals)) (reader begins unit so_far alone)
-    ∙ none_before begins (devices.Reader unit) none
+    rw (reader begins unit so_far alone) (none_before begins (devices.Reader unit) none)
 
 -- no act tells no amount of a reader
 pub none_unvalued : (unit : ReaderUnit) (begins : Beginning) → unvalued unit begins [] ≡ 0

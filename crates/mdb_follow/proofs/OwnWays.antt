@@ -1,5 +1,5 @@
 -- A way of a device through acts is one through its own acts among them, and the other way round.
-use Rattle.std.proofs.Common.{ap, refl, subst, sym, ◌∙◌, ◌≡◌, inl, inr, List, [], ◌∷◌}
+use Rattle.std.proofs.Common.{ap, refl, sym, ◌∙◌, ◌≡◌, inl, inr, List, [], ◌∷◌}
 use Rattle.std.specs.List.{AllByRecursion}
 use Rattle.mdb_msgs.specs.declared.command.Device.{Device}
 use Rattle.mdb_bus.specs.declared.act.Act.{Act}
@@ -21,139 +21,11 @@ pub record OwnActs : Type 0 where
   pub other : (device : Device) (act : Act) (so_far : List Act) → (IsActOf device act → ⊥)
       → own_acts device (act ∷ so_far) ≡ own_acts device so_far
 
--- its own acts among its own acts are these
-twice : OwnActs → (device : Device) (so_far : List Act)
-    → own_acts device (own_acts device so_far) ≡ own_acts device so_far
-twice laws device [] = refl
-twice laws device (act ∷ so_far) = elim (of_or_not device act) [
-  | inl own ↦
-      ap (own_acts device) (laws.own device act so_far own)
-      ∙ laws.own device act (own_acts device so_far) own
-      ∙ ap (λ (l : List Act). act ∷ l) (twice laws device so_far)
-      ∙ sym (laws.own device act so_far own)
-  | inr apart ↦
-      ap (own_acts device) (laws.other device act so_far apart)
-      ∙ twice laws device so_far
-      ∙ sym (laws.other device act so_far apart)
-]
-
--- a way through acts is one through the device's own acts among them
-to_own : OwnActs → {State : Type 0} (device : Device) (machine : Machine State)
-    → IsMachineOf device machine → (so_far : List Act) (state : State) (sums : Sums)
-    → Arrives machine so_far state sums → Arrives machine (own_acts device so_far) state sums
-to_own laws device machine is [] state sums way = way
-to_own laws device machine is (act ∷ so_far) state sums way = elim (of_or_not device act) [
-  | inl own ↦
-      subst (λ l. Arrives machine l state sums) (sym (laws.own device act so_far own)) (record {
-        choice = way.choice;
-        stands = way.stands;
-        before = way.before;
-        sums_before = way.sums_before;
-        gains = way.gains;
-        way = to_own laws device machine is so_far way.before way.sums_before way.way;
-        step = is.own so_far (own_acts device so_far) act way.choice way.before state way.gains
-            (sym (twice laws device so_far)) way.step;
-        adds = way.adds;
-      })
-  | inr apart ↦
-      let stays =
-      (is.elsewhere so_far act way.choice way.before state way.gains apart).0 way.step in
-      let same : way.sums_before ≡ sums =
-      no-gains way.sums_before ∙ ap (added way.sums_before) (sym stays.1) ∙ sym way.adds in
-      subst (λ l. Arrives machine l state sums) (sym (laws.other device act so_far apart))
-      (subst (λ s. Arrives machine (own_acts device so_far) state s) same
-      (subst (λ s. Arrives machine (own_acts device so_far) s way.sums_before) (sym stays.0)
-      (to_own laws device machine is so_far way.before way.sums_before way.way)))
-]
-
--- and the other way round
-from_own : OwnActs → {State : Type 0} (device : Device) (machine : Machine State)
-    → IsMachineOf device machine → (so_far : List Act) (state : State) (sums : Sums)
-    → Arrives machine (own_acts device so_far) state sums → Arrives machine so_far state sums
-from_own laws device machine is [] state sums way = way
-from_own laws device machine is (act ∷ so_far) state sums way = elim (of_or_not device act) [
-  | inl own ↦
-      let its : Arrives machine (act ∷ own_acts device so_far) state sums =
-      subst (λ l. Arrives machine l state sums) (laws.own device act so_far own) way in
-      record {
-        choice = its.choice;
-        stands = its.stands;
-        before = its.before;
-        sums_before = its.sums_before;
-        gains = its.gains;
-        way = from_own laws device machine is so_far its.before its.sums_before its.way;
-        step = is.own (own_acts device so_far) so_far act its.choice its.before state its.gains
-            (twice laws device so_far) its.step;
-        adds = its.adds;
-      }
-  | inr apart ↦
-      record {
-        choice = Plain;
-        stands = tt;
-        before = state;
-        sums_before = sums;
-        gains = no_gains;
-        way = from_own laws device machine is so_far state sums
-            (subst (λ l. Arrives machine l state sums) (laws.other device act so_far apart) way);
-        step = (is.elsewhere so_far act Plain state state no_gains apart).1 (refl, refl);
-        adds = no-gains sums;
-      }
-]
-
--- so a way through acts is one through others where its own acts are the same
-pub ways_alike : OwnActs → {State : Type 0} (device : Device) (machine : Machine State)
-    → IsMachineOf device machine → (so_far other : List Act)
-    → own_acts device so_far ≡ own_acts device other → (state : State) (sums : Sums)
-    → Arrives machine so_far state sums → Arrives machine other state sums
-ways_alike laws device machine is so_far other same state sums way =
-    from_own laws device machine is other state sums
-    (subst (λ l. Arrives machine l state sums) same
-    (to_own laws device machine is so_far state sums way))
-
 -- the breaks among acts are breaks
 pub are_breaks : (so_far : List Act) → AllByRecursion IsBreak (breaks_among so_far)
 are_breaks [] = tt
-are_breaks (acts.Ask command ∷ so_far) = are_breaks so_far
 are_breaks (acts.Break length ∷ so_far) = (tt, are_breaks so_far)
 are_breaks (act ∷ so_far) = are_breaks so_far
-
--- a way through breaks alone leads to where the machine may start, and adds nothing
-over_breaks : {State : Type 0} (device : Device) (machine : Machine State)
-    → IsMachineOf device machine → (breaks : List Act) → AllByRecursion IsBreak breaks
-    → (state : State) (sums : Sums) → Arrives machine breaks state sums
-    → machine.Starts state × (sums ≡ no_sums)
-over_breaks device machine is [] all state sums way = way
-over_breaks device machine is (acts.Break length ∷ breaks) all state sums way =
-    let earlier = over_breaks device machine is breaks all.1 way.before way.sums_before way.way in
-    let over = is.starts_over breaks length way.choice way.before state way.gains way.step in (
-      over.0,
-      way.adds ∙ ap (added way.sums_before) over.1 ∙ sym (no-gains way.sums_before) ∙ earlier.1,
-    )
-over_breaks device machine is (act ∷ breaks) all state sums way = absurd all.0
-
--- and there is one, wherever the machine may start
-through_breaks : {State : Type 0} (device : Device) (machine : Machine State)
-    → IsMachineOf device machine → (breaks : List Act) → AllByRecursion IsBreak breaks
-    → (first : State) → machine.Starts first
-    → (state : State) × Arrives machine breaks state no_sums
-through_breaks device machine is [] all first starts = (first, (starts, refl))
-through_breaks device machine is (acts.Break length ∷ breaks) all first starts =
-    let earlier = through_breaks device machine is breaks all.1 first starts in
-    let goes = is.breaks breaks length Plain earlier.0 in
-    let over = is.starts_over breaks length Plain earlier.0 goes.0 goes.1 goes.2 in (
-      goes.0,
-      record {
-        choice = Plain;
-        stands = tt;
-        before = earlier.0;
-        sums_before = no_sums;
-        gains = goes.1;
-        way = earlier.1;
-        step = goes.2;
-        adds = no-gains no_sums ∙ ap (added no_sums) (sym over.1);
-      },
-    )
-through_breaks device machine is (act ∷ breaks) all first starts = absurd all.0
 
 -- a way begins where the machine may start
 pub first_of : {State : Type 0} (machine : Machine State) (so_far : List Act) (state : State)
@@ -162,25 +34,125 @@ first_of machine [] state sums way = (state, way.0)
 first_of machine (act ∷ so_far) state sums way =
     first_of machine so_far way.before way.sums_before way.way
 
--- where a device has a part in breaks alone, its ways add nothing
-pub adds_nothing : OwnActs → {State : Type 0} (device : Device) (machine : Machine State)
-    → IsMachineOf device machine → (so_far breaks : List Act)
-    → own_acts device so_far ≡ breaks_among breaks → (state : State) (sums : Sums)
-    → Arrives machine so_far state sums → sums ≡ no_sums
-adds_nothing laws device machine is so_far breaks own state sums way =
-    (over_breaks device machine is (breaks_among breaks) (are_breaks breaks) state sums
-    (subst (λ l. Arrives machine l state sums) own
-    (to_own laws device machine is so_far state sums way))).1
+module _ (laws : OwnActs) {State : Type 0} (device : Device) (machine : Machine State)
+    (is : IsMachineOf device machine) where
+  -- a device's own acts among its own acts are these
+  twice : (so_far : List Act) → own_acts device (own_acts device so_far) ≡ own_acts device so_far
+  twice [] = refl
+  twice (act ∷ so_far) = elim (of_or_not device act) [
+    | inl own ↦ rw (laws.own device act so_far own)
+        (rw (laws.own device act (own_acts device so_far) own, twice so_far))
+    | inr apart ↦ rw (laws.other device act so_far apart) (twice so_far)
+  ]
 
--- and there is one
-pub some_way : OwnActs → {State : Type 0} (device : Device) (machine : Machine State)
-    → IsMachineOf device machine → (so_far breaks : List Act)
-    → own_acts device so_far ≡ breaks_among breaks → (first : State) → machine.Starts first
-    → (state : State) × Arrives machine so_far state no_sums
-some_way laws device machine is so_far breaks own first starts =
-    let way = through_breaks device machine is (breaks_among breaks) (are_breaks breaks) first
-    starts in (
-      way.0,
-      from_own laws device machine is so_far way.0 no_sums
-          (subst (λ l. Arrives machine l way.0 no_sums) (sym own) way.1),
-    )
+  -- a way through acts is one through the device's own acts among them
+  to_own : (so_far : List Act) (state : State) (sums : Sums) → Arrives machine so_far state sums
+      → Arrives machine (own_acts device so_far) state sums
+  to_own [] state sums way = way
+  to_own (act ∷ so_far) state sums way = elim (of_or_not device act) [
+    | inl own ↦ rw (laws.own device act so_far own) (record {
+      choice = way.choice;
+      stands = way.stands;
+      before = way.before;
+      sums_before = way.sums_before;
+      gains = way.gains;
+      way = to_own so_far way.before way.sums_before way.way;
+      step = is.own so_far (own_acts device so_far) act way.choice way.before state way.gains
+          (sym (twice so_far)) way.step;
+      adds = way.adds;
+    })
+    | inr apart ↦
+        let stays = (is.elsewhere so_far act way.choice way.before state way.gains apart).0
+        way.step in
+        let same : sums ≡ way.sums_before = way.adds ∙ ap (added way.sums_before) stays.1
+        ∙ sym (no-gains way.sums_before) in
+        rw (laws.other device act so_far apart, stays.0, same)
+        (to_own so_far way.before way.sums_before way.way)
+  ]
+
+  -- and the other way round
+  from_own : (so_far : List Act) (state : State) (sums : Sums)
+      → Arrives machine (own_acts device so_far) state sums → Arrives machine so_far state sums
+  from_own [] state sums way = way
+  from_own (act ∷ so_far) state sums way = elim (of_or_not device act) [
+    | inl own ↦
+        let its = rw (laws.own device act so_far own) at way in
+        record {
+          choice = its.choice;
+          stands = its.stands;
+          before = its.before;
+          sums_before = its.sums_before;
+          gains = its.gains;
+          way = from_own so_far its.before its.sums_before its.way;
+          step = is.own (own_acts device so_far) so_far act its.choice its.before state its.gains
+              (twice so_far) its.step;
+          adds = its.adds;
+        }
+    | inr apart ↦ record {
+      choice = Plain;
+      stands = tt;
+      before = state;
+      sums_before = sums;
+      gains = no_gains;
+      way = from_own so_far state sums (rw (laws.other device act so_far apart) at way);
+      step = (is.elsewhere so_far act Plain state state no_gains apart).1 (refl, refl);
+      adds = no-gains sums;
+    }
+  ]
+
+  -- so a way through acts is one through others where its own acts are the same
+  pub ways_alike : (so_far other : List Act) → own_acts device so_far ≡ own_acts device other
+      → (state : State) (sums : Sums)
+      → Arrives machine so_far state sums → Arrives machine other state sums
+  ways_alike so_far other same state sums way =
+      from_own other state sums (rw same at (to_own so_far state sums way))
+
+  -- a way through breaks alone leads to where the machine may start, and adds nothing
+  over_breaks : (breaks : List Act) → AllByRecursion IsBreak breaks → (state : State) (sums : Sums)
+      → Arrives machine breaks state sums → machine.Starts state × (sums ≡ no_sums)
+  over_breaks [] all state sums way = way
+  over_breaks (acts.Break length ∷ breaks) all state sums way =
+      let earlier = over_breaks breaks all.1 way.before way.sums_before way.way in
+      let over = is.starts_over breaks length way.choice way.before state way.gains way.step in (
+        over.0,
+        way.adds ∙ ap (added way.sums_before) over.1 ∙ sym (no-gains way.sums_before)
+            ∙ earlier.1,
+      )
+  over_breaks (act ∷ breaks) all state sums way = absurd all.0
+
+  -- and there is one, wherever the machine may start
+  through_breaks : (breaks : List Act) → AllByRecursion IsBreak breaks → (first : State)
+      → machine.Starts first → (state : State) × Arrives machine breaks state no_sums
+  through_breaks [] all first starts = (first, (starts, refl))
+  through_breaks (acts.Break length ∷ breaks) all first starts =
+      let earlier = through_breaks breaks all.1 first starts in
+      let goes = is.breaks breaks length Plain earlier.0 in
+      let over = is.starts_over breaks length Plain earlier.0 goes.0 goes.1 goes.2 in (
+        goes.0,
+        record {
+          choice = Plain;
+          stands = tt;
+          before = earlier.0;
+          sums_before = no_sums;
+          gains = goes.1;
+          way = earlier.1;
+          step = goes.2;
+          adds = no-gains no_sums ∙ ap (added no_sums) (sym over.1);
+        },
+      )
+  through_breaks (act ∷ breaks) all first starts = absurd all.0
+
+  -- where a device has a part in breaks alone
+  module _ (so_far breaks : List Act) (own : own_acts device so_far ≡ breaks_among breaks) where
+    -- its ways add nothing
+    pub adds_nothing : (state : State) (sums : Sums) → Arrives machine so_far state sums
+        → sums ≡ no_sums
+    adds_nothing state sums way = (over_breaks (breaks_among breaks) (are_breaks breaks) state sums
+        (rw own at (to_own so_far state sums way))).1
+
+    -- and there is one
+    pub some_way : (first : State) → machine.Starts first
+        → (state : State) × Arrives machine so_far state no_sums
+    some_way first starts =
+        let way = through_breaks (breaks_among breaks) (are_breaks breaks) first starts in
+        (way.0, from_own so_far way.0 no_sums (rw own way.1))

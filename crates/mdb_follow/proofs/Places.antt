@@ -1,13 +1,15 @@
 -- The places of entries, noted under their codes.
-use Rattle.std.proofs.Common.{◌≡◌, inl, inr, ℕ, zero, suc, ◌<◌, ◌≢◌, refl, sym, ◌∙◌, ap, subst}
+use Rattle.std.proofs.Common.{◌≡◌, inl, inr, ℕ, zero, suc, ◌<◌, subst}
 use Rattle.std.proofs.Common.{arith, List, [], ◌∷◌, ◌++◌, length, get_or, take}
 use Rattle.std.specs.Prelude.{slice_set}
-use Rattle.std.proofs.lemmas.Bool.{cases_lt}
+use Rattle.std.proofs.lemmas.Bool.{cases_eq, cases_lt}
 use Rattle.std.proofs.lemmas.List.{get_or_append_left, get_or-set_other, get_or-set_same}
-use Rattle.std.proofs.lemmas.List.{length-append, length-set}
+use Rattle.std.proofs.lemmas.List.{length-append, length-set, take_all}
+use Rattle.std.proofs.lemmas.List.Elements.{Contains-get_or}
 use Rattle.std.proofs.Math.Seq.{get_or-append_seam}
 use Rattle.mdb_follow.specs.declared.cell.Cell.{Cell}
 use Rattle.mdb_follow.specs.inner.Entries.{HasAt, IsPlaced, Lacks}
+use Rattle.mdb_follow.proofs.Listed.{lacks-none}
 
 -- an entry that no place has
 lacks-front : (entries : List (ℕ × Cell)) (i code : ℕ)
@@ -19,21 +21,6 @@ lacks-front (entry ∷ entries) (suc i) code none = (
   lacks-front entries i code (λ k lt has. none (suc k) (omega arith)
       (omega (arith, has.0), λ d. has.1 d)),
 )
-
-lacks-whole : (entries : List (ℕ × Cell)) (code : ℕ)
-    → ((k : ℕ) → HasAt entries k code → ⊥) → Lacks entries code
-lacks-whole [] code none = tt
-lacks-whole (entry ∷ entries) code none = (
-  λ is. none 0 (omega arith, λ d. is),
-  lacks-whole entries code (λ k has. none (suc k) (omega (arith, has.0), λ d. has.1 d)),
-)
-
-lacks-at : (entries : List (ℕ × Cell)) (k code : ℕ) (d : ℕ × Cell) → Lacks entries code
-    → k < length entries → (get_or entries k d).0 ≡ code → ⊥
-lacks-at [] k code d lacks within is = omega arith
-lacks-at (entry ∷ entries) zero code d lacks within is = lacks.0 is
-lacks-at (entry ∷ entries) (suc k) code d lacks within is =
-    lacks-at entries k code d lacks.1 (omega arith) is
 
 -- what is noted under the code of an entry is its place
 placed-at : (entries : List (ℕ × Cell)) (places : List ℕ) (k code : ℕ) (d : ℕ × Cell)
@@ -53,30 +40,23 @@ pub placed-lacks : (entries : List (ℕ × Cell)) (places : List ℕ) (code : �
     → IsPlaced entries places → (HasAt entries (get_or places code 0) code → ⊥)
     → Lacks entries code
 placed-lacks entries places code d placed not =
-    lacks-whole entries code (λ k has.
-    not (subst (λ place. HasAt entries place code)
-    (sym (placed-at entries places k code d placed has)) has))
+    rw (take_all (length entries) entries (omega arith)) at
+    (lacks-front entries (length entries) code
+    (λ k lt has. not (rw (placed-at entries places k code d placed has) has)))
 
 -- an entry is written, and its code stays
-
-code-set : (entries : List (ℕ × Cell)) (i code k : ℕ) (cell : Cell) (d : ℕ × Cell)
-    → (get_or entries i d).0 ≡ code
-    → (get_or (slice_set entries i (code, cell)) k d).0 ≡ (get_or entries k d).0
-code-set [] i code k cell d is = refl
-code-set (entry ∷ entries) zero code zero cell d is = sym is
-code-set (entry ∷ entries) zero code (suc k) cell d is = refl
-code-set (entry ∷ entries) (suc i) code zero cell d is = refl
-code-set (entry ∷ entries) (suc i) code (suc k) cell d is =
-    code-set entries i code k cell d is
-
 pub placed-written : (entries : List (ℕ × Cell)) (places : List ℕ) (i code : ℕ) (cell : Cell)
     → HasAt entries i code → IsPlaced entries places
     → IsPlaced (slice_set entries i (code, cell)) places
 placed-written entries places i code cell has placed = record {
   at = λ k d within.
       let e = length-set entries i (code, cell) in
-      ap (λ c. get_or places c 0) (code-set entries i code k cell d (has.1 d))
-      ∙ placed.at k d (omega arith);
+      elim (cases_eq k i) [
+        | inl same ↦ rw (same, get_or-set_same entries i (code, cell) d has.0)
+            (placed-at entries places i code d placed has)
+        | inr other ↦ rw (get_or-set_other entries i k (code, cell) d other)
+            (placed.at k d (omega arith))
+      ];
 }
 
 -- an entry is added, and its place is noted
@@ -85,22 +65,18 @@ pub placed-push : (entries after : List (ℕ × Cell)) (places : List ℕ) (code
     → place ≡ length entries → after ≡ entries ++ (code, cell) ∷ []
     → IsPlaced after (slice_set places code place)
 placed-push entries after places code place cell placed lacks within at made =
-    subst (λ s. IsPlaced s (slice_set places code place)) (sym made) (record {
+    rw made (record {
       at = λ k d lt. elim (cases_lt k (length entries)) [
         | inl before ↦
-            (let old = get_or_append_left entries ((code, cell) ∷ []) d k before in
-            let other : (get_or entries k d).0 ≢ code = lacks-at entries k code d lacks before in
-            ap (λ e. get_or (slice_set places code place) e.0 0) old
-            ∙ get_or-set_other places code (get_or entries k d).0 place 0 other
-            ∙ placed.at k d before)
+            rw (get_or_append_left entries ((code, cell) ∷ []) d k before)
+            (rw (get_or-set_other places code (get_or entries k d).0 place 0
+            (λ is. lacks-none entries code (get_or entries k d).1 lacks
+            (rw (← is) (Contains-get_or entries k d before))))
+            (placed.at k d before))
         | inr later ↦
             (let more = length-append entries ((code, cell) ∷ []) in
             let is : k ≡ length entries = omega arith in
-            ap (λ n. get_or (slice_set places code place)
-            (get_or (entries ++ (code, cell) ∷ []) n d).0 0) is
-            ∙ ap (λ e. get_or (slice_set places code place) e.0 0)
-            (get_or-append_seam entries (code, cell) [] d)
-            ∙ get_or-set_same places code place 0 within
-            ∙ at ∙ sym is)
+            rw (is, get_or-append_seam entries (code, cell) [] d)
+            (rw (get_or-set_same places code place 0 within) at))
       ];
     })

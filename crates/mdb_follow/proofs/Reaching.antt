@@ -1,5 +1,5 @@
 -- Reached rows.
-use Rattle.std.proofs.Common.{subst, List, [], ◌∷◌, ◌++◌, Option, Some, None}
+use Rattle.std.proofs.Common.{List, [], ◌∷◌, ◌++◌, Option, Some, None}
 use Rattle.mdb_words.specs.declared.event.Event.{Event}
 use Rattle.mdb_msgs.specs.declared.command.Device.{Device}
 use Rattle.mdb_bus.specs.declared.act.Act.{Act}
@@ -51,16 +51,17 @@ some_before begins (Some act) before some = before_last begins act before some
 
 -- the run of an act list with a way of each device
 pub run_of : (scope : Scope) → Joins scope → (rows : List Event) (pieces : List Piece)
-    (states : States) (sums : AllSums) → IsActList scope pieces rows
-    → EachArrives scope.begins (acts_of pieces) states sums → Run scope rows sums
-run_of scope joins rows pieces states sums list ways =
-    let found = joins pieces states sums list.in_order ways in
+    → IsActList scope pieces rows → (all : SomeArrive scope.begins (acts_of pieces))
+    → Run scope rows (λ device. (all device).sums)
+run_of scope joins rows pieces list all =
+    let found = joins pieces (λ device. (all device).state) (λ device. (all device).sums)
+    list.in_order (λ device. (all device).way) in
     record {
       pieces = pieces;
       act_list = list;
       loss = found.0;
       fits = found.1;
-      states = states;
+      states = λ device. (all device).state;
       way = found.2;
     }
 
@@ -80,9 +81,7 @@ without_last scope joins goes rows row reached =
     let run = reached.1 in
     let from = goes rows row run.pieces run.act_list in
     let earlier = some_before scope.begins from.act (acts_of from.before)
-    (subst (SomeArrive scope.begins) from.acts
-    (some_of scope (rows ++ row ∷ []) reached.0 run)) in (
+    (rw from.acts at (some_of scope (rows ++ row ∷ []) reached.0 run)) in (
       (λ device. (earlier device).sums),
-      run_of scope joins rows from.before (λ device. (earlier device).state)
-          (λ device. (earlier device).sums) from.act_list (λ device. (earlier device).way),
+      run_of scope joins rows from.before from.act_list earlier,
     )

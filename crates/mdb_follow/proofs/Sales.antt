@@ -1,5 +1,5 @@
 -- That each sale in a run follows its approval.
-use Rattle.std.proofs.Common.{ap, subst, ◌≡◌, ◌⊎◌, inl, inr, ℕ, List, [], ◌∷◌, ◌++◌}
+use Rattle.std.proofs.Common.{ap, ◌≡◌, ◌⊎◌, inl, inr, ℕ, List, [], ◌∷◌, ◌++◌}
 use Rattle.std.proofs.lemmas.List.Elements.{All-cons, All-nil}
 use Rattle.mdb_words.specs.declared.event.Event.{Event}
 use Rattle.mdb_msgs.specs.declared.command.Command.{Command}
@@ -67,38 +67,38 @@ first_closed command reply (PowerOn profile) (inr e) = cc
 first_closed command reply (Joined setups profile) (inl e) = cc
 first_closed command reply (Joined setups profile) (inr e) = cc
 
--- pieces where a reply is open end in it
-pub ends_in : (scope : Scope) (command : Command) (reply : Reply) (pieces : List Piece)
-    → ArePieces scope pieces
-    → IsOpen command reply (position_of scope pieces) → EndsInReply command reply (acts_of pieces)
-ends_in scope command reply [] are here = absurd (first_closed command reply scope.begins here)
-ends_in scope command reply (Whole (acts.Reply c r) events ∷ pieces) are (inl e) = record {
-  again = [];
-  before = acts_of pieces;
-  order =
-      let same : acts.Reply c r ≡ acts.Reply command reply = cc in
-      ap (λ (a : Act). a ∷ acts_of pieces) same;
-  repeats = All-nil (IsOfReply command reply);
-}
-ends_in scope command reply (Whole (acts.Repeat c r) events ∷ pieces) are (inl e) =
-    let before = are.1.comes.0 in
-    again command reply (acts.Repeat c r) (acts_of pieces) (inr cc)
-    (ends_in scope command reply pieces are.2 (inr cc))
-ends_in scope command reply (Whole (acts.VmcRet c r) events ∷ pieces) are (inr e) =
-    let before = are.1.comes.0 in
-    again command reply (acts.VmcRet c r) (acts_of pieces) (inl cc)
-    (ends_in scope command reply pieces are.2 (inl cc))
-ends_in scope command reply (piece ∷ pieces) are (inl e) = absurd cc
-ends_in scope command reply (piece ∷ pieces) are (inr e) = absurd cc
+module _ (scope : Scope) where
+  -- pieces where a reply is open end in it
+  pub ends_in : (command : Command) (reply : Reply) (pieces : List Piece) → ArePieces scope pieces
+      → IsOpen command reply (position_of scope pieces)
+      → EndsInReply command reply (acts_of pieces)
+  ends_in command reply [] are here = absurd (first_closed command reply scope.begins here)
+  ends_in command reply (Whole (acts.Reply c r) events ∷ pieces) are (inl e) = record {
+    again = [];
+    before = acts_of pieces;
+    order =
+        let same : acts.Reply c r ≡ acts.Reply command reply = cc in
+        ap (λ (a : Act). a ∷ acts_of pieces) same;
+    repeats = All-nil (IsOfReply command reply);
+  }
+  ends_in command reply (Whole (acts.Repeat c r) events ∷ pieces) are (inl e) =
+      let before = are.1.comes.0 in
+      again command reply (acts.Repeat c r) (acts_of pieces) (inr cc)
+      (ends_in command reply pieces are.2 (inr cc))
+  ends_in command reply (Whole (acts.VmcRet c r) events ∷ pieces) are (inr e) =
+      let before = are.1.comes.0 in
+      again command reply (acts.VmcRet c r) (acts_of pieces) (inl cc)
+      (ends_in command reply pieces are.2 (inl cc))
+  ends_in command reply (piece ∷ pieces) are (inl e) = absurd cc
+  ends_in command reply (piece ∷ pieces) are (inr e) = absurd cc
 
--- each ACK of the controller stands after the reply that it acknowledges
-acks_fit : (scope : Scope) (pieces : List Piece) → ArePieces scope pieces
-    → AcksAreOfReplies (acts_of pieces)
-acks_fit scope [] are = tt
-acks_fit scope (Whole (acts.VmcAck c r) events ∷ pieces) are =
-    (ends_in scope c r pieces are.2 (inl are.1.comes.0), acks_fit scope pieces are.2)
-acks_fit scope (Whole act events ∷ pieces) are = (tt, acks_fit scope pieces are.2)
-acks_fit scope (tail ∷ pieces) are = acks_fit scope pieces are.2
+  -- each ACK of the controller stands after the reply that it acknowledges
+  acks_fit : (pieces : List Piece) → ArePieces scope pieces → AcksAreOfReplies (acts_of pieces)
+  acks_fit [] are = tt
+  acks_fit (Whole (acts.VmcAck c r) events ∷ pieces) are =
+      (ends_in c r pieces are.2 (inl are.1.comes.0), acks_fit pieces are.2)
+  acks_fit (Whole act events ∷ pieces) are = (tt, acks_fit pieces are.2)
+  acks_fit (tail ∷ pieces) are = acks_fit pieces are.2
 
 -- the laws of the views
 pub record ViewLaws : Type 0 where
@@ -116,49 +116,6 @@ pub record ViewLaws : Type 0 where
       (acts.Ask (commands.Reader unit (readers.VendSuccess item))) choice before after gains
       → IsApproved unit item so_far ⊎ MayBeRequestedBefore begins unit so_far
 
--- of each sale among acts this is so
-abbrev EachSold : (ℕ → List Act → Type 0) → ReaderUnit → List Act → Type 0
-EachSold Is unit so_far = (later before : List Act) (item : ℕ)
-    → so_far ≡ later ++ (acts.Ask (commands.Reader unit (readers.VendSuccess item)) ∷ before)
-    → Is item before
-
--- before the first act there is none
-none_sold : (Is : ℕ → List Act → Type 0) (unit : ReaderUnit) → EachSold Is unit []
-none_sold Is unit [] before item order = absurd cc
-none_sold Is unit (act ∷ later) before item order = absurd cc
-
--- one act more: a sale is the last act, or stands before it
-one_more : (Is : ℕ → List Act → Type 0) (unit : ReaderUnit) (act : Act) (so_far : List Act)
-    → ((item : ℕ) → act ≡ acts.Ask (commands.Reader unit (readers.VendSuccess item))
-    → Is item so_far) → EachSold Is unit so_far → EachSold Is unit (act ∷ so_far)
-one_more Is unit act so_far last earlier [] before item order =
-    let same : so_far ≡ before = cc in subst (Is item) same (last item cc)
-one_more Is unit act so_far last earlier (other ∷ later) before item order =
-    earlier later before item cc
-
--- a way of a reader through acts: the view where it leads may tell of the sale, and each sale is
--- approved, or may have been requested before
-all_sold : ViewLaws → (begins : Beginning) (unit : ReaderUnit) (so_far : List Act)
-    (state : ReaderState) (sums : Sums) → AcksAreOfReplies so_far
-    → Arrives (reader.machine unit begins) so_far state sums
-    → MayTellOfSale begins unit state.view so_far × SalesAreApproved begins unit so_far
-all_sold laws begins unit [] state sums fit way = (
-  laws.start unit begins state way.0,
-  none_sold _ unit,
-)
-all_sold laws begins unit (act ∷ so_far) state sums fit way =
-    let earlier = all_sold laws begins unit so_far way.before way.sums_before fit.1 way.way in (
-      laws.tells unit begins so_far act way.choice way.before state way.gains fit.0 earlier.0
-          way.step,
-      one_more _ unit act so_far
-          (λ item is. laws.approved unit begins so_far item way.choice way.before state way.gains
-          earlier.0 (subst (λ (a : Act). (reader.machine unit begins).Step so_far a way.choice
-          way.before state way.gains) is way.step))
-          earlier.1,
-    )
-
--- ---- by either profile
-
 -- the laws of the extended profile's machine
 pub record ApprovalLaws : Type 0 where
   pub only : (unit : ReaderUnit) (begins : Beginning) (so_far : List Act) (item : ℕ)
@@ -170,47 +127,78 @@ pub record ApprovalLaws : Type 0 where
   pub too : (begins : Beginning) (unit : ReaderUnit) (so_far : List Act)
       → extended_sales.SalesAreApproved begins unit so_far → SalesAreApproved begins unit so_far
 
-module _ (laws : ApprovalLaws) (begins : Beginning) (unit : ReaderUnit) where
-  all_approved : (so_far : List Act) (state : ApprovalState) (sums : Sums)
-      → AcksAreOfReplies so_far → Arrives (extended.machine unit begins) so_far state sums
-      → extended_sales.SalesAreApproved begins unit so_far
-  all_approved [] state sums fit way =
-      none_sold (λ item before. extended_sales.IsApproved unit item before
-      ⊎ MayBeRequestedBefore begins unit before) unit
-  all_approved (act ∷ so_far) state sums fit way =
-      let earlier = all_approved so_far way.before way.sums_before fit.1 way.way in
-      one_more _ unit act so_far
-      (λ item is. laws.only unit begins so_far item way.choice way.before state way.gains fit.1
-      earlier (subst (λ (a : Act). (extended.machine unit begins).Step so_far a way.choice
-      way.before state way.gains) is way.step))
-      earlier
+module _ (unit : ReaderUnit) where
+  -- of each sale among acts this is so
+  abbrev EachSold : (ℕ → List Act → Type 0) → List Act → Type 0
+  EachSold Is so_far = (later before : List Act) (item : ℕ)
+      → so_far ≡ later ++ (acts.Ask (commands.Reader unit (readers.VendSuccess item)) ∷ before)
+      → Is item before
 
--- by either profile each sale is approved
-each_sold : ViewLaws → ApprovalLaws → (profile : Profile) (begins : Beginning) (unit : ReaderUnit)
-    (so_far : List Act) (state : StateByProfile) (sums : Sums) → AcksAreOfReplies so_far
-    → Arrives (by_profile profile
-    (machine_in base_state (Base reader.power_on) (reader.machine unit begins))
-    (machine_in extended_state (Extended extended.power_on) (extended.machine unit begins)))
-    so_far state sums
-    → SalesAreApproved begins unit so_far
-each_sold views laws profiles.Base begins unit so_far state sums fit way =
-    let machine = reader.machine unit begins in
-    let all = chosen (machine_in base_state _ machine) so_far state sums way in
-    let its = own_way base_state _ machine so_far all.0 state sums all.1 in
-    (all_sold views begins unit so_far its.0 sums fit
-    (arrives machine so_far all.0 its.0 sums its.2)).1
-each_sold views laws profiles.Extended begins unit so_far state sums fit way =
-    let machine = extended.machine unit begins in
-    let all = chosen (machine_in extended_state _ machine) so_far state sums way in
-    let its = own_way extended_state _ machine so_far all.0 state sums all.1 in
-    laws.too begins unit so_far (all_approved laws begins unit so_far its.0 sums fit
-    (arrives machine so_far all.0 its.0 sums its.2))
+  module _ (Is : ℕ → List Act → Type 0) where
+    -- before the first act there is none
+    none_sold : EachSold Is []
+    none_sold [] before item order = absurd cc
+    none_sold (act ∷ later) before item order = absurd cc
+
+    -- one act more: a sale is the last act, or stands before it
+    one_more : (act : Act) (so_far : List Act)
+        → ((item : ℕ) → act ≡ acts.Ask (commands.Reader unit (readers.VendSuccess item))
+        → Is item so_far) → EachSold Is so_far → EachSold Is (act ∷ so_far)
+    one_more act so_far last earlier [] before item order =
+        let same : so_far ≡ before = cc in rw same at (last item cc)
+    one_more act so_far last earlier (other ∷ later) before item order =
+        earlier later before item cc
+
+  module _ (views : ViewLaws) (laws : ApprovalLaws) (begins : Beginning) where
+    -- a way of a reader through acts: the view where it leads may tell of the sale, and each sale
+    -- is approved, or may have been requested before
+    all_sold : (so_far : List Act) (state : ReaderState) (sums : Sums) → AcksAreOfReplies so_far
+        → Arrives (reader.machine unit begins) so_far state sums
+        → MayTellOfSale begins unit state.view so_far × SalesAreApproved begins unit so_far
+    all_sold [] state sums fit way = (views.start unit begins state way.0, none_sold _)
+    all_sold (act ∷ so_far) state sums fit way =
+        let earlier = all_sold so_far way.before way.sums_before fit.1 way.way in (
+          views.tells unit begins so_far act way.choice way.before state way.gains fit.0
+              earlier.0 way.step,
+          one_more _ act so_far
+              (λ item is. views.approved unit begins so_far item way.choice way.before state
+              way.gains earlier.0 (rw is at way.step)) earlier.1,
+        )
+
+    all_approved : (so_far : List Act) (state : ApprovalState) (sums : Sums)
+        → AcksAreOfReplies so_far → Arrives (extended.machine unit begins) so_far state sums
+        → extended_sales.SalesAreApproved begins unit so_far
+    all_approved [] state sums fit way = none_sold (λ item before.
+        extended_sales.IsApproved unit item before ⊎ MayBeRequestedBefore begins unit before)
+    all_approved (act ∷ so_far) state sums fit way =
+        let earlier = all_approved so_far way.before way.sums_before fit.1 way.way in
+        one_more _ act so_far
+        (λ item is. laws.only unit begins so_far item way.choice way.before state way.gains fit.1
+        earlier (rw is at way.step)) earlier
+
+    -- by either profile each sale is approved
+    each_sold : (profile : Profile) (so_far : List Act) (state : StateByProfile) (sums : Sums)
+        → AcksAreOfReplies so_far → Arrives (by_profile profile
+        (machine_in base_state (Base reader.power_on) (reader.machine unit begins))
+        (machine_in extended_state (Extended extended.power_on) (extended.machine unit begins)))
+        so_far state sums
+        → SalesAreApproved begins unit so_far
+    each_sold profiles.Base so_far state sums fit way =
+        let machine = reader.machine unit begins in
+        let all = chosen (machine_in base_state _ machine) so_far state sums way in
+        let its = own_way base_state _ machine so_far all.0 state sums all.1 in
+        (all_sold so_far its.0 sums fit (arrives machine so_far all.0 its.0 sums its.2)).1
+    each_sold profiles.Extended so_far state sums fit way =
+        let machine = extended.machine unit begins in
+        let all = chosen (machine_in extended_state _ machine) so_far state sums way in
+        let its = own_way extended_state _ machine so_far all.0 state sums all.1 in
+        laws.too begins unit so_far (all_approved so_far its.0 sums fit
+        (arrives machine so_far all.0 its.0 sums its.2))
 
 pub sales_follow : (scope : Scope) → ViewLaws → ApprovalLaws → (rows : List Event)
     → SalesFollowApprovals scope rows
 sales_follow scope views laws rows sums run unit =
-    let ways = split scope.begins run.loss run.pieces run.states sums run.way in
-    let device = devices.Reader unit in
-    each_sold views laws (profile_of scope.begins) scope.begins unit (acts_of run.pieces)
-    (run.states device) (sums device) (acks_fit scope run.pieces run.act_list.in_order)
-    (ways device)
+    each_sold unit views laws scope.begins (profile_of scope.begins) (acts_of run.pieces)
+    (run.states (devices.Reader unit)) (sums (devices.Reader unit))
+    (acks_fit scope run.pieces run.act_list.in_order)
+    (split scope.begins run.loss run.pieces run.states sums run.way (devices.Reader unit))

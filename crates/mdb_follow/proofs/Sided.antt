@@ -1,6 +1,6 @@
 -- Sides go on by an act: the side of one device, those of all, and those that have no part in it.
 use Rattle.std.proofs.Common.{◌≡◌, inl, inr, ◌+◌, ◌^◌, ◌<◌, ◌∙◌, ℕ, List, Option, ap, arith}
-use Rattle.std.proofs.Common.{get_or, refl, subst, sym, Ok, Err, Result, ◌∷◌}
+use Rattle.std.proofs.Common.{get_or, refl, sym, Ok, Err, Result, ◌∷◌}
 use Rattle.std.proofs.Math.Logic.{∥∥₁_elim}
 use Rattle.std.specs.Prelude.{IfErr, IfOk, OnErr}
 use Rattle.mdb_msgs.specs.declared.command.Device.{Device}
@@ -24,9 +24,9 @@ use Rattle.mdb_follow.specs.ReportedDevices.{reported_of}
 use Rattle.mdb_follow.specs.Machines.{machine_of}
 use Rattle.mdb_follow.specs.Offences.{HasNoStep, rule_of}
 use Rattle.mdb_follow.specs.Report.{decimals_of, unvalued_of}
-use Rattle.mdb_follow.specs.Sides.{AreSides, FactsOf, IsSideOf, SideOf, code_of, side_spec_of}
+use Rattle.mdb_follow.specs.Sides.{FactsOf, IsSideOf, SideOf, code_of, side_spec_of}
 use Rattle.mdb_follow.specs.Sides.{side_in, stands_for}
-use Rattle.mdb_follow.specs.inner.SideSteps.{AreStanding, AreWithin, FollowsOf, IsSideWithin}
+use Rattle.mdb_follow.specs.inner.SideSteps.{AreStanding, AreWithin, FollowsOf}
 use Rattle.mdb_follow.specs.inner.SideSteps.{IsWithin, OneFollows, SidesFollow, SidesStay}
 use Rattle.mdb_follow.specs.inner.SideSteps.{SidesStop, Stops}
 use Rattle.mdb_follow.proofs.ByDevice.{Front, front-next, same_or_not}
@@ -73,11 +73,9 @@ with_side (devices.Reader First) side sides = record sides { first_reader = side
 with_side (devices.Reader Second) side sides = record sides { second_reader = side }
 
 its : (device : Device) (side : SideOf device) (sides : Sides)
-    → side ≡ side_in (with_side device side sides) device
-its devices.Changer side sides = refl
-its devices.Bill side sides = refl
+    → side_in (with_side device side sides) device ≡ side
 its (devices.Reader First) side sides = refl
-its (devices.Reader Second) side sides = refl
+its device side sides = refl
 
 others : (device : Device) (side : SideOf device) (sides : Sides) (other : Device)
     → (other ≡ device → ⊥) → side_in (with_side device side sides) other ≡ side_in sides other
@@ -87,77 +85,36 @@ others (devices.Reader First) side sides (devices.Reader First) not = absurd (no
 others (devices.Reader Second) side sides (devices.Reader Second) not = absurd (not refl)
 others _ side sides _ not = refl
 
--- The side of the device that an arm is of goes on.
-pub one-follows : {T E : Type 0} (r : Result T E) (device which : Device) (sides : Sides)
+-- its own side in its place changes nothing
+same-side : (device : Device) (sides : Sides)
+    → with_side device (side_in sides device) sides ≡ sides
+same-side (devices.Reader First) sides = refl
+same-side device sides = refl
+
+-- The side of the device that an arm is of goes on, or it has no step and is what it was.
+pub one-led : {T : Type 0} (r : Result T Rule) (device which : Device) (sides : Sides)
     (side : SideOf which) (act : Act) → device ≡ which
     → IfOk r (λ _. FollowsOf act which (side_in sides which) side)
-    → IfOk r (λ _. OneFollows device sides act (with_side which side sides))
-one-follows (Ok x) device which sides side act is goes =
-    subst (λ d. OneFollows d sides act (with_side which side sides)) (sym is) (record {
-      own = subst (FollowsOf act which (side_in sides which)) (its which side sides) goes;
-      others = others which side sides;
-    })
-one-follows (Err e) device which sides side act is goes = tt
-
--- It has no step.
-pub one-stops : {T : Type 0} (r : Result T Rule) (device which : Device) (sides : Sides)
-    (act : Act) → device ≡ which
     → OnErr r ((begins : Beginning) (acts : List Act)
     → IsSideOf begins which (side_in sides which) acts
     → HasNoStep (machine_of begins which) act acts)
-    → IfErr r (λ broken. broken ≡ rule_of which)
-    → IfErr r (Stops device sides act)
-one-stops (Ok x) device which sides act is none its = tt
-one-stops (Err broken) device which sides act is none its =
-    subst (λ d. Stops d sides act broken) (sym is) (record { rule = its; none = none })
-
--- Where the side of the device is what it was, all are.
-pub one-stays : {T E : Type 0} (r : Result T E) (which : Device) (sides : Sides)
-    (side : SideOf which) → OnErr r (side ≡ side_in sides which)
-    → OnErr r (with_side which side sides ≡ sides)
-one-stays (Ok x) which sides side same = tt
-one-stays (Err e) devices.Changer sides side same = ap (λ s. with_side devices.Changer s sides) same
-one-stays (Err e) devices.Bill sides side same = ap (λ s. with_side devices.Bill s sides) same
-one-stays (Err e) (devices.Reader First) sides side same =
-    ap (λ s. with_side (devices.Reader First) s sides) same
-one-stays (Err e) (devices.Reader Second) sides side same =
-    ap (λ s. with_side (devices.Reader Second) s sides) same
-
--- Sides are what they were.
-pub same-stay : {T E : Type 0} (r : Result T E) (old new : Sides) → OnErr r (new ≡ old)
-    → OnErr r (SidesStay old new)
-same-stay (Ok x) old new same = tt
-same-stay (Err e) old new same = inl same
+    → IfErr r (λ broken. broken ≡ rule_of which) → OnErr r (side ≡ side_in sides which)
+    → IfOk r (λ _. OneFollows device sides act (with_side which side sides))
+    × IfErr r (Stops device sides act) × OnErr r (with_side which side sides ≡ sides)
+one-led (Ok x) device which sides side act is goes none rule same =
+    rw is (record { own = rw its goes; others = others which side sides }, tt, tt)
+one-led (Err broken) device which sides side act is goes none rule same =
+    rw is (tt, record { rule = rule; none = none }, rw same (same-side which sides))
 
 -- By a break each side has a step.
-break-stops-none : (sides : Sides) (act : Act) (broken : Rule) → IsBreak act
-    → SidesStop sides act broken → (begins : Beginning) (acts : List Act)
-    → AreSides begins sides acts → ⊥
-break-stops-none sides (told.Ask command) broken is stops begins acts on = absurd is
-break-stops-none sides (told.Ack command) broken is stops begins acts on = absurd is
-break-stops-none sides (told.Nak command) broken is stops begins acts on = absurd is
-break-stops-none sides (told.Reply command reply) broken is stops begins acts on = absurd is
-break-stops-none sides (told.VmcAck command reply) broken is stops begins acts on = absurd is
-break-stops-none sides (told.VmcNak command reply) broken is stops begins acts on = absurd is
-break-stops-none sides (told.VmcRet command reply) broken is stops begins acts on = absurd is
-break-stops-none sides (told.Repeat command reply) broken is stops begins acts on = absurd is
-break-stops-none sides told.Foreign broken is stops begins acts on = absurd is
-break-stops-none sides (told.Break length) broken is stops begins acts on =
-    let device : Device = stops.0 in
-    let some = (on device).table.some in
-    let step = (is_machine_of begins device).breaks acts length Plain some.0 in
-    stops.1.none begins acts (on device) some.0 some.1 some.2 Plain tt step.0 step.1 step.2
-
-pub break-stay : {T : Type 0} (r : Result T Rule) (old new : Sides) (act : Act) → IsBreak act
-    → IfErr r (SidesStop old act) → OnErr r (SidesStay old new)
-break-stay (Ok x) old new act is stops = tt
-break-stay (Err broken) old new act is stops =
-    inr (λ on. break-stops-none old act broken is stops on.begins on.acts on.stand)
-
--- its table is as far from 0 as that of the device
-pub within-at : (device which : Device) (limit : ℕ) (sides : Sides) → device ≡ which
-    → IsWithin device limit sides → IsWithin which limit sides
-within-at device which limit sides is = subst (λ d. IsWithin d limit sides) is
+pub break-stops-none : (sides : Sides) (act : Act) (broken : Rule) → IsBreak act
+    → SidesStop sides act broken → AreStanding sides → ⊥
+break-stops-none sides (told.Break length) broken is stops on =
+    let side = on.stand stops.0 in
+    let some = side.table.some in
+    let step = (is_machine_of on.begins stops.0).breaks on.acts length Plain some.0 in
+    stops.1.none on.begins on.acts side some.0 some.1 some.2 Plain tt step.0 step.1 step.2
+break-stops-none sides act broken is stops on = absurd is
 
 -- All go on by an act that is of no other device than one that goes on.
 pub all-follow : (device : Device) (old new : Sides) (act : Act)
@@ -165,10 +122,8 @@ pub all-follow : (device : Device) (old new : Sides) (act : Act)
     → OneFollows device old act new → SidesFollow old act new
 all-follow device old new act only follows other =
     elim (same_or_not other device) [
-      | inl same ↦ subst (λ d. FollowsOf act d (side_in old d) (side_in new d)) (sym same)
-          follows.own
-      | inr apart ↦ subst (FollowsOf act other (side_in old other))
-          (sym (follows.others other apart))
+      | inl same ↦ rw same follows.own
+      | inr apart ↦ rw (follows.others other apart)
           (still other (side_in old other) act (λ of. apart (only other of)))
     ]
 
@@ -181,31 +136,21 @@ none-follows sides act none device = still device (side_in sides device) act (no
 abbrev pub FrontFollows : ℕ → Sides → Act → Sides → Type 0
 FrontFollows count old act new = Front SideOf (FollowsOf act) count (side_in old) (side_in new)
 
--- the next side has no step where it had none before
-pub front-stops : (count : ℕ) (old : Sides) (act : Act) (mid : Sides) (d : Device) (broken : Rule)
-    → count < 4 → FrontFollows count old act mid → Stops (get_or DEVICES count d) mid act broken
-    → SidesStop old act broken
-front-stops count old act mid d broken within front stops =
-    let device : Device = get_or DEVICES count d in (
-      device,
-      record {
-        rule = stops.rule;
-        none = subst (λ (s : SideOf device). (begins : Beginning) (acts : List Act)
-            → IsSideOf begins device s acts → HasNoStep (machine_of begins device) act acts)
-            (front-next SideOf (FollowsOf act) count (side_in old) (side_in mid) d within front)
-            stops.none;
-      },
-    )
+-- the next side is what it was
+module _ (count : ℕ) (old : Sides) (act : Act) (mid : Sides) (d : Device) (within : count < 4)
+    (front : FrontFollows count old act mid) where
+  next : side_in mid (get_or DEVICES count d) ≡ side_in old (get_or DEVICES count d)
+  next = front-next SideOf (FollowsOf act) count (side_in old) (side_in mid) d within front
 
--- and is as far from 0 as it was
-pub front-fits : (count : ℕ) (old : Sides) (act : Act) (mid : Sides) (d : Device) (limit : ℕ)
-    → count < 4 → FrontFollows count old act mid → AreWithin limit old
-    → IsWithin (get_or DEVICES count d) limit mid
-front-fits count old act mid d limit within front on =
-    let device : Device = get_or DEVICES count d in
-    subst (λ (s : SideOf device). IsSideWithin limit s)
-    (sym (front-next SideOf (FollowsOf act) count (side_in old) (side_in mid) d within front))
-    (on device)
+  -- it has no step where it had none before
+  pub front-stops : (broken : Rule) → Stops (get_or DEVICES count d) mid act broken
+      → SidesStop old act broken
+  front-stops broken stops =
+      (get_or DEVICES count d, record { rule = stops.rule; none = rw next at stops.none })
+
+  -- and is as far from 0 as it was
+  pub front-fits : (limit : ℕ) → AreWithin limit old → IsWithin (get_or DEVICES count d) limit mid
+  front-fits limit on = rw next (on (get_or DEVICES count d))
 
 -- the decimal places that the facts of a device have
 abbrev pub decimals_in : (device : Device) → FactsOf device → Option ℕ
@@ -219,6 +164,6 @@ decimals-are begins device facts acts on = ap (reported_of device).decimals on
 -- what holds of sides that stand for acts holds of what they are then
 pub by-stay : (P : Sides → Type 0) (old new : Sides) → ∥ AreStanding old ∥₁ → SidesStay old new
     → P old → P new
-by-stay P old new standing (inl same) holds = subst P (sym same) holds
+by-stay P old new standing (inl same) holds = rw same holds
 by-stay P old new standing (inr none) holds =
     absurd (∥∥₁_elim standing (λ one other. absurd one) none)

@@ -1,5 +1,5 @@
 -- A list of rows has one offence: no two places in it end at one.
-use Rattle.std.proofs.Common.{sym, subst, ap, refl, ◌∙◌, ◌≡◌, ◌⊎◌, inl, inr}
+use Rattle.std.proofs.Common.{sym, ap, refl, ◌∙◌, ◌≡◌, ◌⊎◌, inl, inr}
 use Rattle.std.proofs.Common.{List, [], ◌∷◌, ◌++◌, append_assoc}
 use Rattle.mdb_words.specs.declared.event.Event.{Event}
 use Rattle.mdb_follow.specs.declared.offence.Offence.{Offence}
@@ -28,41 +28,34 @@ places (x ∷ one) (y ∷ other) row last rest tail same =
     let first : x ≡ y = cc same in
     let parts : one ++ row ∷ rest ≡ other ++ last ∷ tail = cc same in
     elim (places one other row last rest tail parts) [
-      | inl both ↦ (let fronts : one ≡ other = both.0 in inl (cc (first, fronts), both.1))
-      | inr (inl longer) ↦ (let its : other ≡ one ++ row ∷ longer.more = longer.is in
-          inr (inl (record { more = longer.more; is = cc (first, its) })))
-      | inr (inr longer) ↦ (let its : one ≡ other ++ last ∷ longer.more = longer.is in
-          inr (inr (record { more = longer.more; is = cc (first, its) })))
+      | inl both ↦ inl (cc (first, both.0), both.1)
+      | inr (inl longer) ↦
+          inr (inl (record { more = longer.more; is = cc (first, longer.is) }))
+      | inr (inr longer) ↦
+          inr (inr (record { more = longer.more; is = cc (first, longer.is) }))
     ]
 
 abbrev pub Fronts : (scope : Scope) → Type 0
 Fronts scope = (rows more : List Event) → IsReached scope (rows ++ more) → IsReached scope rows
 
--- rows after a row that isn't reached aren't either
-pub later : (scope : Scope) → Fronts scope → (earlier front other : List Event) (row : Event)
-    → Longer front row other
-    → (IsReached scope ((earlier ++ front) ++ row ∷ []) → ⊥) → IsReached scope (earlier ++ other)
-    → ⊥
-later scope fronts earlier front other row longer not_reached reached =
-    not_reached (fronts ((earlier ++ front) ++ row ∷ []) longer.more
-    (subst (IsReached scope)
-    (ap (λ rows. earlier ++ rows) longer.is
-    ∙ (sym (append_assoc earlier front (row ∷ longer.more))
-    ∙ sym (append_assoc (earlier ++ front) (row ∷ []) longer.more)))
-    reached))
+module _ (scope : Scope) (fronts : Fronts scope) where
+  -- rows after a row that isn't reached aren't either
+  pub later : (earlier front other : List Event) (row : Event) → Longer front row other
+      → (IsReached scope ((earlier ++ front) ++ row ∷ []) → ⊥)
+      → IsReached scope (earlier ++ other) → ⊥
+  later earlier front other row longer not_reached reached =
+      not_reached (fronts ((earlier ++ front) ++ row ∷ []) longer.more
+      (simp append_assoc (rw longer.is at reached)))
 
-pub one-of-rows : (scope : Scope) → Fronts scope
-    → ((rows : List Event) (row : Event) (a b : Offence) → IsOffence scope rows row a
-    → IsOffence scope rows row b → a ≡ b)
-    → (earlier rows : List Event) (a b : Offence) → HasOffence scope earlier rows a
-    → HasOffence scope earlier rows b → a ≡ b
-one-of-rows scope fronts one earlier rows a b p q =
-    elim (places p.front q.front p.row q.row p.rest q.rest (sym p.parts ∙ q.parts)) [
-      | inl same ↦ one (earlier ++ q.front) q.row a b
-          (subst (λ row. IsOffence scope (earlier ++ q.front) row a) same.1
-          (subst (λ front. IsOffence scope (earlier ++ front) p.row a) same.0 p.is)) q.is
-      | inr (inl longer) ↦ absurd (later scope fronts earlier p.front q.front p.row longer
-          p.is.not_reached q.is.reached)
-      | inr (inr longer) ↦ absurd (later scope fronts earlier q.front p.front q.row longer
-          q.is.not_reached p.is.reached)
-    ]
+  pub one-of-rows : ((rows : List Event) (row : Event) (a b : Offence)
+      → IsOffence scope rows row a → IsOffence scope rows row b → a ≡ b)
+      → (earlier rows : List Event) (a b : Offence) → HasOffence scope earlier rows a
+      → HasOffence scope earlier rows b → a ≡ b
+  one-of-rows one earlier rows a b p q =
+      elim (places p.front q.front p.row q.row p.rest q.rest (sym p.parts ∙ q.parts)) [
+        | inl same ↦ one (earlier ++ q.front) q.row a b (rw (same.0, same.1) at p.is) q.is
+        | inr (inl longer) ↦ absurd (later earlier p.front q.front p.row longer
+            p.is.not_reached q.is.reached)
+        | inr (inr longer) ↦ absurd (later earlier q.front p.front q.row longer
+            q.is.not_reached p.is.reached)
+      ]

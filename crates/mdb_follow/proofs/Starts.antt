@@ -1,6 +1,6 @@
 -- The entries after no act: one for each state in which a machine may start.
-use Rattle.std.proofs.Common.{◌≡◌, ◌⊎◌, inl, inr, ℕ, ◌+◌, ◌<◌, ◌≤◌, ◌++◌, ◌∙◌, ap, arith, length}
-use Rattle.std.proofs.Common.{get_or, length-append, refl, sym, subst, List, [], ◌∷◌, pos}
+use Rattle.std.proofs.Common.{◌≡◌, inl, inr, ℕ, ◌+◌, ◌<◌, ◌≤◌, ◌++◌, ◌∙◌, ap, arith, length}
+use Rattle.std.proofs.Common.{get_or, length-append, refl, sym, subst, List, [], ◌∷◌}
 use Rattle.std.specs.Prelude.{Contains}
 use Rattle.std.proofs.lemmas.Int.{ints}
 use Rattle.std.proofs.lemmas.List.Elements.{All-push, Contains-append_left, Contains-push}
@@ -9,59 +9,22 @@ use Rattle.mdb_machine.specs.declared.gains.TheConstants.{SLOTS}
 use Rattle.mdb_machine.specs.Gains.{by_slot}
 use Rattle.mdb_machine.specs.Machine.{Machine}
 use Rattle.mdb_machine.proofs.Slots.{at_slot}
-use Rattle.mdb_follow.specs.declared.account.Account.{Account}
 use Rattle.mdb_follow.specs.declared.cell.Cell.{Cell}
-use Rattle.mdb_follow.specs.declared.range.Range.{Range}
 use Rattle.mdb_follow.specs.Arrivals.{Arrives}
 use Rattle.mdb_follow.specs.Ranges.{no_account}
 use Rattle.mdb_follow.specs.Cells.{IsCell, slot_account}
 use Rattle.mdb_follow.specs.Sums.{Sums, no_sums}
 use Rattle.mdb_follow.specs.Tables.{ArrivesAt, IsTable}
 use Rattle.mdb_follow.specs.inner.Entries.{AreBelow}
-use Rattle.mdb_follow.specs.Limits.{IsAccountWithin, IsCellWithin, IsRangeWithin}
+use Rattle.mdb_follow.specs.Limits.{IsCellWithin, IsRangeWithin}
 use Rattle.mdb_follow.specs.Limits.{IsTableWithin}
-use Rattle.mdb_follow.proofs.Ways.{account-start}
+use Rattle.std.proofs.lemmas.Bool.{cases_lt}
+use Rattle.mdb_follow.proofs.Ends.{account-none}
+use Rattle.mdb_follow.specs.Ranges.{no_range}
 
 -- a cell is of no sums
 abbrev pub IsNothing : Cell → Type 0
 IsNothing cell = cell.accounts ≡ by_slot (λ slot. no_account)
-
--- an entry is of a state in which the machine may start, with this cell
-pub record IsStart {State : Type 0} (code_of : State → ℕ) (machine : Machine State)
-    (cell : Cell) (code : ℕ) (found : Cell) : Type 0 where
-  pub state : State
-  pub is : code_of state ≡ code
-  pub starts : machine.Starts state
-  pub same : found ≡ cell
-
--- The entries so far: those of the states with codes below a number.
-pub record AreStarts {State : Type 0} (number : ℕ) (code_of : State → ℕ) (machine : Machine State)
-    (cell : Cell) (code : ℕ) (entries : List (ℕ × Cell)) : Type 0 where
-  pub few : length entries ≤ code
-  pub below : AreBelow number entries
-  pub within : IsTableWithin 0 entries
-  pub sound : (at : ℕ) (found : Cell) → Contains entries (at, found)
-      → IsStart code_of machine cell at found
-  pub whole : (state : State) → machine.Starts state → code_of state < code
-      → Contains entries (code_of state, cell)
-
-range-within : (range : Range) → range ≡ no_account.device → IsRangeWithin 0 range
-range-within range is =
-    let least : range.least ≡ pos 0 = ap (λ r. r.least) is in
-    let greatest : range.greatest ≡ pos 0 = ap (λ r. r.greatest) is in
-    record {
-      least_low = omega (arith, ints, least);
-      least_high = omega (arith, ints, least);
-      greatest_low = omega (arith, ints, greatest);
-      greatest_high = omega (arith, ints, greatest);
-    }
-
-account-within : (ranges : Account) → ranges ≡ no_account → IsAccountWithin 0 ranges
-account-within ranges is = record {
-  device = range-within ranges.device (ap (λ r. r.device) is);
-  controller = range-within ranges.controller (ap (λ r. r.controller) is);
-  difference = range-within ranges.difference (ap (λ r. r.difference) is);
-}
 
 -- so is each of its accounts
 no-account : (cell : Cell) → IsNothing cell → (slot : ℕ) → slot < SLOTS
@@ -70,95 +33,105 @@ no-account cell is slot below =
     ap (λ accounts. get_or accounts slot no_account) is
     ∙ at_slot (λ slot. no_account) slot no_account below
 
+nothing-range : IsRangeWithin 0 no_range
+nothing-range = search (arith, ints)
+
 pub nothing-within : (cell : Cell) → IsNothing cell → IsCellWithin 0 cell
-nothing-within cell is slot below =
-    account-within (slot_account cell slot) (no-account cell is slot below)
+nothing-within cell is slot below = rw (no-account cell is slot below) (record {
+  device = nothing-range;
+  controller = nothing-range;
+  difference = nothing-range;
+})
 
 -- where all sums of a kind are nothing, they are those of that cell
 pub nothing-is : (Kind : Sums → Type 0) (cell : Cell) → IsNothing cell → Kind no_sums
     → ((sums : Sums) → Kind sums → sums ≡ no_sums) → IsCell Kind cell
-nothing-is Kind cell is none only slot below =
-    account-start Kind (λ sums. sums slot) (slot_account cell slot) none only refl
-    (no-account cell is slot below)
+nothing-is Kind cell is none only slot below = rw (no-account cell is slot below)
+    (account-none Kind (λ sums. sums slot) no_sums none
+    (λ sums kind. ap (λ (s : Sums). s slot) (only sums kind)))
 
--- a code is at most that of the last state looked at, or it is this
-last-or-not : (code at : ℕ) → at < code + 1 → (at < code) ⊎ (at ≡ code)
-last-or-not code at less = nat_cases
-  where
-    nat_cases : (at < code) ⊎ (at ≡ code)
-    nat_cases = grind (arith, less)
+module _ {State : Type 0} (number : ℕ) (code_of : State → ℕ) (machine : Machine State)
+    (cell : Cell) where
+  -- an entry is of a state in which the machine may start, with this cell
+  pub record IsStart (code : ℕ) (found : Cell) : Type 0 where
+    pub state : State
+    pub is : code_of state ≡ code
+    pub starts : machine.Starts state
+    pub same : found ≡ cell
 
--- the machine may start in the state of one code more
-pub more-starts : {State : Type 0} (number : ℕ) (code_of : State → ℕ) (machine : Machine State)
-    (cell : Cell) (code : ℕ) (before after : List (ℕ × Cell)) (state : State) → code < number
-    → ((one other : State) → code_of one ≡ code_of other → one ≡ other) → code_of state ≡ code
-    → machine.Starts state → IsNothing cell → after ≡ before ++ (code, cell) ∷ []
-    → AreStarts number code_of machine cell code before
-    → AreStarts number code_of machine cell (code + 1) after
-more-starts {State} number code_of machine cell code before after state low apart is starts nothing
-    made old =
-    let entry : ℕ × Cell = (code, cell) in
-    let few = old.few in
-    subst (AreStarts number code_of machine cell (code + 1)) (sym made) (record {
-      few = omega (arith, few, length-append before (entry ∷ []));
-      below = All-push (λ (e : ℕ × Cell). e.0 < number) before entry old.below low;
-      within = All-push (λ (e : ℕ × Cell). IsCellWithin 0 e.1) before entry old.within
-          (nothing-within cell nothing);
-      sound = λ at found has. elim (Contains-push_cases before entry (at, found) has) [
-        | inl earlier ↦ old.sound at found earlier
-        | inr same ↦ record {
-          state = state;
-          is = is ∙ ap (λ (e : ℕ × Cell). e.0) same;
-          starts = starts;
-          same = sym (ap (λ (e : ℕ × Cell). e.1) same);
-        }
-      ];
-      whole = λ other other_starts less. elim (last-or-not code (code_of other) less) [
-        | inl earlier ↦ Contains-append_left before (entry ∷ []) (code_of other, cell)
-            (old.whole other other_starts earlier)
-        | inr same ↦ subst (λ (c : ℕ). Contains (before ++ entry ∷ []) (c, cell)) (sym same)
-            (Contains-push before entry)
-      ];
-    })
+  -- The entries so far: those of the states with codes below a number.
+  pub record AreStarts (code : ℕ) (entries : List (ℕ × Cell)) : Type 0 where
+    pub few : length entries ≤ code
+    pub below : AreBelow number entries
+    pub within : IsTableWithin 0 entries
+    pub sound : (at : ℕ) (found : Cell) → Contains entries (at, found) → IsStart at found
+    pub whole : (state : State) → machine.Starts state → code_of state < code
+        → Contains entries (code_of state, cell)
 
--- and it may not
-pub same-starts : {State : Type 0} (number : ℕ) (code_of : State → ℕ) (machine : Machine State)
-    (cell : Cell) (code : ℕ) (entries : List (ℕ × Cell)) (state : State)
-    → ((one other : State) → code_of one ≡ code_of other → one ≡ other) → code_of state ≡ code
-    → (machine.Starts state → ⊥) → AreStarts number code_of machine cell code entries
-    → AreStarts number code_of machine cell (code + 1) entries
-same-starts {State} number code_of machine cell code entries state apart is not old =
-    let few = old.few in
-    record {
-      few = omega (arith, few);
-      below = old.below;
-      within = old.within;
-      sound = old.sound;
-      whole = λ other starts less. elim (last-or-not code (code_of other) less) [
-        | inl earlier ↦ old.whole other starts earlier
-        | inr same ↦ absurd (not (subst machine.Starts (apart other state (same ∙ sym is)) starts))
-      ];
-    }
+  -- the machine may start in the state of one code more
+  pub more-starts : (code : ℕ) (before after : List (ℕ × Cell)) (state : State) → code < number
+      → code_of state ≡ code → machine.Starts state → IsNothing cell
+      → after ≡ before ++ (code, cell) ∷ []
+      → AreStarts code before → AreStarts (code + 1) after
+  more-starts code before after state low is starts nothing made old =
+      let entry : ℕ × Cell = (code, cell) in
+      let few = old.few in
+      rw made (record {
+        few = omega (arith, few, length-append before (entry ∷ []));
+        below = All-push (λ (e : ℕ × Cell). e.0 < number) before entry old.below low;
+        within = All-push (λ (e : ℕ × Cell). IsCellWithin 0 e.1) before entry old.within
+            (nothing-within cell nothing);
+        sound = λ at found has. elim (Contains-push_cases before entry (at, found) has) [
+          | inl earlier ↦ old.sound at found earlier
+          | inr same ↦ record {
+            state = state;
+            is = is ∙ ap (λ (e : ℕ × Cell). e.0) same;
+            starts = starts;
+            same = sym (ap (λ (e : ℕ × Cell). e.1) same);
+          }
+        ];
+        whole = λ other other_starts less. elim (cases_lt (code_of other) code) [
+          | inl earlier ↦ Contains-append_left before (entry ∷ []) (code_of other, cell)
+              (old.whole other other_starts earlier)
+          | inr high ↦ (let same : code_of other ≡ code = omega arith in
+              rw same (Contains-push before entry))
+        ];
+      })
 
--- The entries of all states are the table after no act.
-pub table-starts : {State : Type 0} (number : ℕ) (code_of : State → ℕ) (machine : Machine State)
-    (cell : Cell) (entries : List (ℕ × Cell)) → IsNothing cell
-    → ((state : State) → code_of state < number) → (state : State) × machine.Starts state
-    → AreStarts number code_of machine cell number entries → IsTable code_of machine [] entries
-table-starts {State} number code_of machine cell entries nothing low some all = record {
-  some = (some.0, no_sums, (some.1, refl));
-  bounds = record {
-    exact = λ code found has.
-        let start = all.sound code found has in
-        let Comes : Sums → Type 0 = ArrivesAt code_of (Arrives machine []) code in
-        let here : Comes no_sums =
-        record { state = start.state; is = start.is; way = (start.starts, refl) } in
-        let only : (sums : Sums) → Comes sums → sums ≡ no_sums = λ sums comes. comes.way.1 in
-        subst (IsCell Comes) (sym start.same) (nothing-is Comes cell nothing here only);
-    whole = λ code sums comes. (
-      cell,
-      subst (λ (c : ℕ). Contains entries (c, cell)) comes.is
-          (all.whole comes.state comes.way.0 (low comes.state)),
-    );
-  };
-}
+  -- and it may not
+  pub same-starts : (code : ℕ) (entries : List (ℕ × Cell)) (state : State)
+      → ((one other : State) → code_of one ≡ code_of other → one ≡ other) → code_of state ≡ code
+      → (machine.Starts state → ⊥) → AreStarts code entries → AreStarts (code + 1) entries
+  same-starts code entries state apart is not old =
+      let few = old.few in
+      record {
+        few = omega (arith, few);
+        below = old.below;
+        within = old.within;
+        sound = old.sound;
+        whole = λ other starts less. elim (cases_lt (code_of other) code) [
+          | inl earlier ↦ old.whole other starts earlier
+          | inr high ↦ (let same : code_of other ≡ code_of state = omega arith in
+              absurd (not (rw (apart other state same) at starts)))
+        ];
+      }
+
+  -- The entries of all states are the table after no act.
+  pub table-starts : (entries : List (ℕ × Cell)) → IsNothing cell
+      → ((state : State) → code_of state < number) → (state : State) × machine.Starts state
+      → AreStarts number entries → IsTable code_of machine [] entries
+  table-starts entries nothing low some all = record {
+    some = (some.0, no_sums, (some.1, refl));
+    bounds = record {
+      exact = λ code found has.
+          let start = all.sound code found has in
+          rw start.same (nothing-is (ArrivesAt code_of (Arrives machine []) code) cell nothing
+          (record { state = start.state; is = start.is; way = (start.starts, refl) })
+          (λ sums comes. comes.way.1));
+      whole = λ code sums comes. (
+        cell,
+        subst (λ (c : ℕ). Contains entries (c, cell)) comes.is
+            (all.whole comes.state comes.way.0 (low comes.state)),
+      );
+    };
+  }

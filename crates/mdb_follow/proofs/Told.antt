@@ -1,18 +1,16 @@
 -- What a report tells of a device is what the act list of its rows has of it.
-use Rattle.std.proofs.Common.{ap, ap₂, refl, ◌∙◌, ◌≡◌, List, get_or}
+use Rattle.std.proofs.Common.{ap, refl, ◌∙◌, ◌≡◌, List, get_or}
 use Rattle.std.specs.Prelude.{map}
 use Rattle.mdb_words.specs.declared.event.Event.{Event}
 use Rattle.mdb_msgs.specs.declared.command.Device.{Device}
-use Rattle.mdb_msgs.specs.declared.command.Device.TheVariants.{Changer, Bill, Reader}
-use Rattle.mdb_msgs.specs.declared.command.ReaderUnit.TheVariants.{First, Second}
+use Rattle.mdb_msgs.specs.declared.command.Device.TheVariants.{Reader}
+use Rattle.mdb_msgs.specs.declared.command.ReaderUnit.TheVariants.{First}
 use Rattle.mdb_bus.specs.ActLists.{IsActList, Piece, acts_of}
 use Rattle.mdb_bus.specs.declared.scope.Beginning.{Beginning}
 use Rattle.mdb_bus.specs.declared.scope.Scope.{Scope}
-use Rattle.mdb_follow.specs.declared.report.DeviceReport.{DeviceReport}
 use Rattle.mdb_follow.specs.declared.report.Report.{Report}
 use Rattle.mdb_follow.specs.declared.report.TheConstants.Report.{DEVICES}
 use Rattle.mdb_follow.specs.declared.report.DeviceFacts.{DeviceFacts}
-use Rattle.mdb_follow.specs.declared.silence.AskCounts.{AskCounts}
 use Rattle.mdb_follow.specs.declared.silence.Silences.{Silences}
 use Rattle.mdb_follow.specs.ReportedDevices.{device_place}
 use Rattle.mdb_follow.specs.Report.{IsReport, device_report, device_report_of, device_facts_in, device_facts_of}
@@ -24,10 +22,8 @@ use Rattle.mdb_follow.proofs.OneAnswer.{map-alike}
 -- a list with one entry for each device has that of a device in its place
 pub listed : {T : Type 0} (of : Device → T) (none : T) (device : Device)
     → get_or (map of DEVICES) (device_place device) none ≡ of device
-listed of none Changer = refl
-listed of none Bill = refl
 listed of none (Reader First) = refl
-listed of none (Reader Second) = refl
+listed of none device = refl
 
 -- what a report has of a device is that of any act list of its rows
 pub device-told : (scope : Scope) → OneActList scope → (rows : List Event) (report : Report)
@@ -48,13 +44,7 @@ pub reports-are : (begins : Beginning) (pieces : List Piece) (facts : List Devic
       facts = device_facts_in facts device;
       asks = (silence_in silences device).counts;
     }) DEVICES ≡ map (λ device. device_report_of begins device pieces) DEVICES
-reports-are begins pieces facts silences is stand =
-    let made : DeviceFacts → AskCounts → DeviceReport = λ facts asks.
-    record { facts = facts; asks = asks } in
-    map-alike (λ device. made (device_facts_in facts device) (silence_in silences device).counts)
-    (λ device. device_report_of begins device pieces)
-    (λ device. ap₂ made
-    (ap (λ (all : List DeviceFacts). device_facts_in all device) is
-    ∙ listed (λ d. device_facts_of begins d (acts_of pieces)) _ device)
-    (stand device).counts)
-    DEVICES
+reports-are begins pieces facts silences is stand = map-alike _ _ (λ device.
+    let facts = ap (λ (all : List DeviceFacts). device_facts_in all device) is
+    ∙ listed (λ d. device_facts_of begins d (acts_of pieces)) _ device in
+    λ i. record { facts = facts i; asks = (stand device).counts i }) DEVICES

@@ -19,10 +19,7 @@ use Rattle.mdb_follow.proofs.Listed.{contains-cases, contains-here, contains-non
 
 move-is : (step : Option (ℕ × Gains)) (move : ℕ × Gains)
     → Contains (moves_of step) move ↔ (step ≡ Some move)
-move-is None move = (
-  λ has. absurd (contains-none move has),
-  λ is. absurd (none-some move is),
-)
+move-is None move = (λ has. absurd (contains-none move has), λ is. absurd (none-some move is))
 move-is (Some one) move = (
   λ has. elim (contains-cases one [] move has) [
     | inl same ↦ ap Some same
@@ -39,156 +36,113 @@ two-moves one other move = (
     | inr second ↦ inr ((move-is other move).0 second)
   ],
   λ either. elim either [
-    | inl is ↦ Contains-append_left (moves_of one) (moves_of other) move ((move-is one move).1 is)
-    | inr is ↦ Contains-append_right (moves_of one) (moves_of other) move
-        ((move-is other move).1 is)
+    | inl is ↦ Contains-append_left (moves_of one) _ move ((move-is one move).1 is)
+    | inr is ↦ Contains-append_right _ (moves_of other) move ((move-is other move).1 is)
   ],
 )
 
--- the cells of one step are taken in after those of the other
-pub with-two : (before middle after : List (ℕ × Cell)) (cell : Cell)
-    (one other : Option (ℕ × Gains)) → middle ≡ with_moves before cell (moves_of one)
-    → after ≡ with_moves middle cell (moves_of other)
-    → after ≡ with_moves before cell (moves_of one ++ moves_of other)
-with-two before middle after cell None other first second =
-    second ∙ ap (λ b. with_moves b cell (moves_of other)) first
-with-two before middle after cell (Some move) other first second =
-    second ∙ ap (λ b. with_moves b cell (moves_of other)) first
+-- where both are one, it is
+pub same-moves : (step : Option (ℕ × Gains)) → AreMoves (moves_of step) step step
+same-moves step move = (
+  λ has. inl ((move-is step move).0 has),
+  λ either. (move-is step move).1 (elim either [ inl is ↦ is | inr is ↦ is ]),
+)
 
--- what a cell is led to by one step, by the other or by both where they are the same, and by two
-
-pub lead-other : (cell : Cell) (one other : Option (ℕ × Gains)) (move : ℕ × Gains)
-    (after : List (ℕ × Cell)) → one ≡ None → other ≡ Some move
-    → after ≡ with_moves [] cell (move ∷ []) → LeadTo cell one other after
-lead-other cell one other move after none is made =
-    subst (λ o. LeadTo cell o other after) (sym none)
-    (subst (λ o. LeadTo cell None o after) (sym is)
-    (move ∷ [], two-moves None (Some move), made))
-
+-- what a cell is led to by one step, where the other is none or the same
 pub lead-one : (cell : Cell) (one other : Option (ℕ × Gains)) (move : ℕ × Gains)
     (after : List (ℕ × Cell)) → one ≡ Some move → (other ≡ None) ⊎ (other ≡ Some move)
     → after ≡ with_moves [] cell (move ∷ []) → LeadTo cell one other after
 lead-one cell one other move after is (inl none) made =
-    subst (λ o. LeadTo cell o other after) (sym is)
-    (subst (λ o. LeadTo cell (Some move) o after) (sym none)
-    (move ∷ [], two-moves (Some move) None, made))
+    rw (is, none) (move ∷ [], two-moves (Some move) None, made)
 lead-one cell one other move after is (inr same) made =
-    subst (λ o. LeadTo cell o other after) (sym is)
-    (subst (λ o. LeadTo cell (Some move) o after) (sym same) (
-      move ∷ [],
-      λ m. (
-        λ has. inl ((move-is (Some move) m).0 has),
-        λ either. elim either [
-          | inl so ↦ (move-is (Some move) m).1 so
-          | inr so ↦ (move-is (Some move) m).1 so
-        ],
-      ),
-      made,
-    ))
+    rw (is, same) (move ∷ [], same-moves (Some move), made)
 
-pub lead-both : (cell : Cell) (one other : Option (ℕ × Gains)) (move second : ℕ × Gains)
-    (after : List (ℕ × Cell)) → one ≡ Some move → other ≡ Some second
-    → after ≡ with_moves [] cell (move ∷ second ∷ []) → LeadTo cell one other after
-lead-both cell one other move second after is so made =
-    subst (λ o. LeadTo cell o other after) (sym is)
-    (subst (λ o. LeadTo cell (Some move) o after) (sym so)
-    (move ∷ second ∷ [], two-moves (Some move) (Some second), made))
+-- the moves of a state by an act
+module _ {State : Type 0} (act : Act) (code_of : State → ℕ)
+    (Step : Choice → State → State → Gains → Type 0) (code : ℕ) where
+  -- its plain step, and that by its other choice where that isn't a plain one too
+  pub either-moves : (device : Device) (plain other : Option (ℕ × Gains)) (moves : List (ℕ × Gains))
+      → ((next : ℕ) (gains : Gains) → (plain ≡ Some (next, gains))
+      ↔ IsChosenStep device act code_of Step Plain code next gains)
+      → ((next : ℕ) (gains : Gains) → other ≡ Some (next, gains)
+      → IsMove act code_of Step code next gains)
+      → ((next : ℕ) (gains : Gains) → IsMove act code_of Step code next gains
+      → (other ≡ Some (next, gains)) ⊎ IsStep code_of (Step Plain) code next gains)
+      → AreMoves moves plain other
+      → (next : ℕ) (gains : Gains) → Contains moves (next, gains)
+      ↔ IsMove act code_of Step code next gains
+  either-moves device plain other moves plain_is sound whole lists next gains = (
+    λ among. elim ((lists (next, gains)).0 among) [
+      | inl is ↦ (Plain, tt, ((plain_is next gains).0 is).1)
+      | inr is ↦ sound next gains is
+    ],
+    λ move. (lists (next, gains)).1 (elim (whole next gains move) [
+      | inl is ↦ inr is
+      | inr step ↦ inl ((plain_is next gains).1 (inl tt, step))
+    ]),
+  )
 
--- the moves by an act: its plain step, and that by its other choice where that isn't a plain one
--- too
-pub either-moves : {State : Type 0} (device : Device) (act : Act) (code_of : State → ℕ)
-    (Step : Choice → State → State → Gains → Type 0) (code : ℕ)
-    (plain other : Option (ℕ × Gains)) (moves : List (ℕ × Gains))
-    → ((next : ℕ) (gains : Gains) → (plain ≡ Some (next, gains))
-    ↔ IsChosenStep device act code_of Step Plain code next gains)
-    → ((next : ℕ) (gains : Gains) → other ≡ Some (next, gains)
-    → IsMove act code_of Step code next gains)
-    → ((next : ℕ) (gains : Gains) → IsMove act code_of Step code next gains
-    → (other ≡ Some (next, gains)) ⊎ IsStep code_of (Step Plain) code next gains)
-    → AreMoves moves plain other
-    → (next : ℕ) (gains : Gains) → Contains moves (next, gains)
-    ↔ IsMove act code_of Step code next gains
-either-moves device act code_of Step code plain other moves plain_is sound whole lists next
-    gains = (
-      λ among. elim ((lists (next, gains)).0 among) [
-        | inl is ↦ (Plain, tt, ((plain_is next gains).0 is).1)
-        | inr is ↦ sound next gains is
-      ],
-      λ move. (lists (next, gains)).1 (elim (whole next gains move) [
-        | inl is ↦ inr is
-        | inr step ↦ inl ((plain_is next gains).1 (inl tt, step))
-      ]),
-    )
+  -- a move is the step by the other choice, or a plain one
+  pub other-or-plain : (other : Option (ℕ × Gains)) (next : ℕ) (gains : Gains)
+      → (other ≡ Some (next, gains)) ↔ IsOtherMove act code_of Step code next gains
+      → IsMove act code_of Step code next gains
+      → (other ≡ Some (next, gains)) ⊎ IsStep code_of (Step Plain) code next gains
+  other-or-plain other next gains is move = elim (plain_or_not move.0) [
+    | inl same ↦ inr (subst (λ c. IsStep code_of (Step c) code next gains) same move.2)
+    | inr not ↦ inl (is.1 (move.0, move.1, not, move.2))
+  ]
 
--- a move is the step by the other choice, or a plain one
-pub other-or-plain : {State : Type 0} (act : Act) (code_of : State → ℕ)
-    (Step : Choice → State → State → Gains → Type 0) (code : ℕ) (other : Option (ℕ × Gains))
-    (next : ℕ) (gains : Gains)
-    → (other ≡ Some (next, gains)) ↔ IsOtherMove act code_of Step code next gains
-    → IsMove act code_of Step code next gains
-    → (other ≡ Some (next, gains)) ⊎ IsStep code_of (Step Plain) code next gains
-other-or-plain act code_of Step code other next gains is move =
-    elim (plain_or_not move.0) [
-      | inl same ↦ inr (subst (λ c. IsStep code_of (Step c) code next gains) same move.2)
-      | inr not ↦ inl (is.1 (move.0, move.1, not, move.2))
-    ]
+  -- where it is of no matter what is chosen of an act, each move is a plain step
+  pub unheeded : (state : State)
+      → ((one other : State) → code_of one ≡ code_of other → one ≡ other) → code_of state ≡ code
+      → ((choice : Choice) (after : State) (gains : Gains) → CanStand act choice
+      → Step choice state after gains → Step Plain state after gains)
+      → (next : ℕ) (gains : Gains) → IsMove act code_of Step code next gains
+      → IsStep code_of (Step Plain) code next gains
+  unheeded state apart its matters_not next gains move =
+      let step = move.2 in
+      record {
+        before = state;
+        after = step.after;
+        starts = its;
+        ends = step.ends;
+        step = matters_not move.0 step.after gains move.1
+            (rw (apart step.before state (step.starts ∙ sym its)) at step.step);
+      }
 
--- where it is of no matter what is chosen of an act, each move is a plain step
-pub unheeded : {State : Type 0} (act : Act) (code_of : State → ℕ)
-    (Step : Choice → State → State → Gains → Type 0) (code : ℕ) (state : State)
-    → ((one other : State) → code_of one ≡ code_of other → one ≡ other) → code_of state ≡ code
-    → ((choice : Choice) (after : State) (gains : Gains) → CanStand act choice
-    → Step choice state after gains → Step Plain state after gains)
-    → (next : ℕ) (gains : Gains) → IsMove act code_of Step code next gains
-    → IsStep code_of (Step Plain) code next gains
-unheeded act code_of Step code state apart its matters_not next gains move =
-    let step = move.2 in
-    let same : step.before ≡ state = apart step.before state (step.starts ∙ sym its) in
-    record {
-      before = state;
-      after = step.after;
-      starts = its;
-      ends = step.ends;
-      step = matters_not move.0 step.after gains move.1
-          (subst (λ s. Step move.0 s step.after gains) same step.step);
-    }
+  -- the moves by an act of which something else than the plain one can be chosen: the steps by
+  -- both, where each other choice leads nowhere else than the second
+  pub all-moves : (second : Choice) (plain other : List (ℕ × Gains)) → CanStand act second
+      → ((any : Choice) → CanStand act any → any ≢ Plain → (before after : State) (gains : Gains)
+      → Step any before after gains → Step second before after gains)
+      → ((next : ℕ) (gains : Gains) → Contains plain (next, gains)
+      ↔ IsStep code_of (Step Plain) code next gains)
+      → ((next : ℕ) (gains : Gains) → Contains other (next, gains)
+      ↔ IsStep code_of (Step second) code next gains)
+      → (next : ℕ) (gains : Gains) → Contains (plain ++ other) (next, gains)
+      ↔ IsMove act code_of Step code next gains
+  all-moves second plain other stands leads plain_are other_are next gains = (
+    λ among. elim (Contains-append_cases plain other (next, gains) among) [
+      | inl one ↦ (Plain, tt, (plain_are next gains).0 one)
+      | inr one ↦ (second, stands, (other_are next gains).0 one)
+    ],
+    λ move. elim (plain_or_not move.0) [
+      | inl same ↦ Contains-append_left plain other (next, gains) ((plain_are next gains).1
+          (subst (λ c. IsStep code_of (Step c) code next gains) same move.2))
+      | inr not ↦ Contains-append_right plain other (next, gains)
+          ((other_are next gains).1 (step_as (leads move.0 move.1 not) move.2))
+    ],
+  )
 
--- the moves by an act of which something else than the plain one can be chosen: the steps by both,
--- where each other choice leads nowhere else than the second
-pub all-moves : {State : Type 0} (act : Act) (code_of : State → ℕ)
-    (Step : Choice → State → State → Gains → Type 0) (code : ℕ) (second : Choice)
-    (plain other : List (ℕ × Gains)) → CanStand act second
-    → ((any : Choice) → CanStand act any → any ≢ Plain → (before after : State) (gains : Gains)
-    → Step any before after gains → Step second before after gains)
-    → ((next : ℕ) (gains : Gains) → Contains plain (next, gains)
-    ↔ IsStep code_of (Step Plain) code next gains)
-    → ((next : ℕ) (gains : Gains) → Contains other (next, gains)
-    ↔ IsStep code_of (Step second) code next gains)
-    → (next : ℕ) (gains : Gains) → Contains (plain ++ other) (next, gains)
-    ↔ IsMove act code_of Step code next gains
-all-moves act code_of Step code second plain other stands leads plain_are other_are next gains = (
-  λ among. elim (Contains-append_cases plain other (next, gains) among) [
-    | inl one ↦ (Plain, tt, (plain_are next gains).0 one)
-    | inr one ↦ (second, stands, (other_are next gains).0 one)
-  ],
-  λ move. elim (plain_or_not move.0) [
-    | inl same ↦ Contains-append_left plain other (next, gains) ((plain_are next gains).1
-        (subst (λ c. IsStep code_of (Step c) code next gains) same move.2))
-    | inr not ↦ Contains-append_right plain other (next, gains)
-        ((other_are next gains).1 (step_as (leads move.0 move.1 not) move.2))
-  ],
-)
-
--- and by one of which the plain one alone can
-pub plain-moves : {State : Type 0} (act : Act) (code_of : State → ℕ)
-    (Step : Choice → State → State → Gains → Type 0) (code : ℕ) (plain : List (ℕ × Gains))
-    → ((choice : Choice) → CanStand act choice → choice ≡ Plain)
-    → ((next : ℕ) (gains : Gains) → Contains plain (next, gains)
-    ↔ IsStep code_of (Step Plain) code next gains)
-    → (next : ℕ) (gains : Gains) → Contains plain (next, gains)
-    ↔ IsMove act code_of Step code next gains
-plain-moves act code_of Step code plain only plain_are next gains = (
-  λ among. (Plain, tt, (plain_are next gains).0 among),
-  λ move. (plain_are next gains).1
-      (subst (λ c. IsStep code_of (Step c) code next gains) (only move.0 move.1) move.2),
-)
+  -- and by one of which the plain one alone can
+  pub plain-moves : (plain : List (ℕ × Gains))
+      → ((choice : Choice) → CanStand act choice → choice ≡ Plain)
+      → ((next : ℕ) (gains : Gains) → Contains plain (next, gains)
+      ↔ IsStep code_of (Step Plain) code next gains)
+      → (next : ℕ) (gains : Gains) → Contains plain (next, gains)
+      ↔ IsMove act code_of Step code next gains
+  plain-moves plain only plain_are next gains = (
+    λ among. (Plain, tt, (plain_are next gains).0 among),
+    λ move. (plain_are next gains).1
+        (subst (λ c. IsStep code_of (Step c) code next gains) (only move.0 move.1) move.2),
+  )

@@ -23,12 +23,6 @@ pub sides-within-weaker : (limit more : ℕ) (sides : Sides) → limit ≤ more
 sides-within-weaker limit more sides le is device =
     side-within-weaker limit more (side_in sides device) le (is device)
 
--- what `lead` requires, of a recording of at most 100,000,000 rows
-pub sides-within-rows : (rows : ℕ) (sides : Sides) → rows ≤ 100000000
-    → AreWithin (rows * 2 ^ 32) sides → AreWithin (2 ^ 62) sides
-sides-within-rows rows sides few =
-    sides-within-weaker (rows * 2 ^ 32) (2 ^ 62) sides (omega arith)
-
 -- sides that go on from some within the limit of so many rows are within that of one row more
 pub sides-within-next : (rows : ℕ) (old : Sides) (act : Act) (new : Sides)
     → AreWithin (rows * 2 ^ 32) old → SidesFollow old act new

@@ -1,10 +1,9 @@
-use Rattle.std.proofs.Common.{◌∷◌, ap, subst, sym, ◌∙◌}
+-- The join of all cells is within the limit of each.
 use Rattle.std.proofs.lemmas.List.{take_all}
 use Rattle.std.proofs.lemmas.List.Elements.{All-head, All-tail}
-use Rattle.std.specs.Prelude.{All, ℕ}
+use Rattle.std.specs.Prelude.{ℕ}
 use Rattle.mdb_follow.specs.declared.cell.Cell.{Cell}
-use Rattle.mdb_follow.specs.Limits.{IsCellWithin, IsTableWithin}
-use Rattle.mdb_follow.specs.inner.Entries.{joined_cells}
+use Rattle.mdb_follow.specs.Limits.{IsCellWithin}
 use Rattle.mdb_follow.proofs.Limits.{joined-within}
 use Rattle.mdb_follow.proofs.entries.join_all.Goals as goal
 
@@ -13,9 +12,8 @@ returns-clause-within c limit fits =
     let entry : ℕ × Cell = c.in-Some.field-0-0.now in
     let rest = c.in-Some.rest.now in
     let Fits : ℕ × Cell → Type 0 = λ e. IsCellWithin limit e.1 in
-    let all : All Fits (entry ∷ rest) =
-    subst (IsTableWithin limit) c.in-Some.ensures.cases.0 fits in
-    subst (IsCellWithin limit)
-    (sym (c.loop-cell.invariant ∙ ap (joined_cells entry.1)
-    (take_all c.loop-cell.cell-index rest c.loop-cell-test.false)))
-    (joined-within limit entry.1 rest (All-head Fits entry rest all) (All-tail Fits entry rest all))
+    let all = rw c.in-Some.ensures.cases.0 at fits in
+    rw c.loop-cell.invariant
+    (rw (take_all c.loop-cell.cell-index rest c.loop-cell-test.false)
+    (joined-within limit entry.1 rest (All-head Fits entry rest all)
+    (All-tail Fits entry rest all)))

@@ -1,5 +1,5 @@
-use Rattle.std.proofs.Common.{subst}
-use Rattle.mdb_follow.specs.Slices.{AnswersRows, joined}
+-- However rows are cut, what is told of the slices is told of the whole.
+use Rattle.mdb_follow.specs.Slices.{joined}
 use Rattle.mdb_follow.proofs.Cuts.{in-slices, one-answer, whole}
 use Rattle.mdb_follow.proofs.laws.cuts_change_no_answer.Goals as goal
 
@@ -13,6 +13,4 @@ pub returns-clause-alike : goal.returns-clause-alike
 returns-clause-alike c scope earlier one other a b same p q =
     one-answer scope (c.fronts_of_reached_rows_are_reached.ensures scope)
     (c.rows_have_one_report.ensures scope) (c.lists_have_one_offence.ensures scope) earlier
-    (joined other) a b
-    (subst (λ rows. AnswersRows scope earlier rows a) same (whole scope earlier one a p))
-    (whole scope earlier other b q)
+    (joined other) a b (rw same at (whole scope earlier one a p)) (whole scope earlier other b q)

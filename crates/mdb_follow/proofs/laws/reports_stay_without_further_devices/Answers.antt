@@ -1,17 +1,14 @@
+-- Reports have the same of the devices that are followed, since runs without further ones match.
 use Rattle.mdb_follow.proofs.ReportsWithout.{same_followed}
 use Rattle.mdb_follow.proofs.laws.reports_stay_without_further_devices.Goals as goal
 
 pub returns : goal.returns
-returns c = same_followed (record {
-  runs = record {
-    to = c.runs_go_on_without_further_devices.ensures;
-    from = c.runs_without_further_devices_come_from_runs.ensures;
-  };
+returns c = λ less more rows one other leaves is other_is. same_followed (record {
+  to = c.runs_go_on_without_further_devices.ensures;
+  from = c.runs_without_further_devices_come_from_runs.ensures;
   one = c.transcripts_have_one_act_list.ensures;
   stays = c.act_lists_stay_without_further_devices.ensures;
   followed = c.acts_of_followed_devices_stay.ensures.followed;
-  facts = record {
-    known = c.what_is_known_of_a_device_is_of_its_own_acts.ensures.known;
-    unvalued = c.what_is_known_of_a_device_is_of_its_own_acts.ensures.unvalued;
-  };
-})
+  known = c.what_is_known_of_a_device_is_of_its_own_acts.ensures.known;
+  unvalued = c.what_is_known_of_a_device_is_of_its_own_acts.ensures.unvalued;
+}) less more rows one leaves is other other_is

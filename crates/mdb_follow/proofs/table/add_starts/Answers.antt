@@ -1,7 +1,8 @@
-use Rattle.std.proofs.Common.{rules, ◌≡◌, ◌<◌, ◌+◌, ◌∙◌, arith, refl, subst, sym}
+-- The entries of the states in which a machine may start, code by code.
+use Rattle.std.proofs.Common.{rules, ◌≡◌, ◌∙◌, arith, refl, sym}
 use Rattle.std.proofs.lemmas.Bool.{false≢true}
 use Rattle.mdb_follow.specs.declared.cell.TheConstants.Cell.{NOTHING}
-use Rattle.mdb_follow.proofs.Starts.{AreStarts, more-starts, same-starts, table-starts}
+use Rattle.mdb_follow.proofs.Starts.{more-starts, same-starts, table-starts}
 use Rattle.mdb_follow.proofs.table.add_starts.Goals as goal
 use Rattle.mdb_follow.proofs.table.add_starts.Goals.{else-may_start, then-may_start}
 
@@ -10,17 +11,12 @@ loop-code-preserved g c =
     let p = g.P.Pair in
     let machine = p.machine c.args.begins.now in
     elim c.if-may_start.branch [
-      | then-may_start w ↦ subst (AreStarts g.row.N p.code_of machine NOTHING
-          (c.loop-code.code + 1)) (sym w.entries-is)
-          (more-starts g.row.N p.code_of machine NOTHING c.loop-code.code
-          c.loop-code.entries _ c.state.result c.loop-code-test.true g.met.P.Pair.apart
-          c.state.ensures (c.may_start.ensures.0 (search rules))
-          refl w.push.ensures
+      | then-may_start w ↦ rw w.entries-is (more-starts g.row.N p.code_of machine NOTHING
+          c.loop-code.code c.loop-code.entries _ c.state.result c.loop-code-test.true
+          c.state.ensures (c.may_start.ensures.0 (search rules)) refl w.push.ensures
           c.loop-code.invariant)
-      | else-may_start w ↦ subst (AreStarts g.row.N p.code_of machine NOTHING
-          (c.loop-code.code + 1)) (sym w.entries-is)
-          (same-starts g.row.N p.code_of machine NOTHING c.loop-code.code
-          c.loop-code.entries c.state.result g.met.P.Pair.apart c.state.ensures
+      | else-may_start w ↦ rw w.entries-is (same-starts g.row.N p.code_of machine NOTHING
+          c.loop-code.code c.loop-code.entries c.state.result g.met.P.Pair.apart c.state.ensures
           (λ starts. false≢true (sym w.if-may_start.false ∙ c.may_start.ensures.1 starts))
           c.loop-code.invariant)
     ]
@@ -28,12 +24,8 @@ loop-code-preserved g c =
 pub returns-clause-table : goal.returns-clause-table
 returns-clause-table g c =
     let p = g.P.Pair in
-    let machine = p.machine c.args.begins.now in
     let all : c.loop-code.code ≡ g.row.N = omega
     (arith, c.loop-code-test.false, c.loop-code.auto.code-end) in
-    table-starts g.row.N p.code_of machine NOTHING c.loop-code.entries
-    refl
-    (λ state. subst (λ n. p.code_of state < n) (sym c.requires.size) (g.met.P.Pair.below state))
-    (g.met.P.Pair.some_start c.args.begins.now)
-    (subst (λ n. AreStarts g.row.N p.code_of machine NOTHING n
-    c.loop-code.entries) all c.loop-code.invariant)
+    table-starts g.row.N p.code_of (p.machine c.args.begins.now) NOTHING c.loop-code.entries refl
+    (λ state. rw c.requires.size (g.met.P.Pair.below state))
+    (g.met.P.Pair.some_start c.args.begins.now) (rw all at c.loop-code.invariant)

@@ -1,6 +1,5 @@
-use Rattle.std.proofs.Common.{subst}
+-- Whether all entries rest: those that the loop has come past.
 use Rattle.std.proofs.lemmas.List.{take_all}
-use Rattle.mdb_follow.specs.inner.Entries.{AllRest}
 use Rattle.mdb_follow.proofs.Ways.{rests-more}
 use Rattle.mdb_follow.proofs.table.all_rest.Goals as goal
 
@@ -13,7 +12,5 @@ loop-code-preserved g c begins =
 
 pub returns : goal.returns
 returns g c begins =
-    let p = g.P.Pair in
-    subst (AllRest p.code_of (p.machine begins) c.args.act.now)
-    (take_all c.loop-code.code-index c.args.entries.now c.loop-code-test.false)
+    rw (take_all c.loop-code.code-index c.args.entries.now c.loop-code-test.false) at
     (c.loop-code.invariant begins)

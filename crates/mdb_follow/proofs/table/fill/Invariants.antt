@@ -1,25 +1,9 @@
-use Rattle.std.proofs.Common.{ℕ, List, ◌+◌, ◌^◌, take}
-use Rattle.mdb_bus.specs.declared.act.Act.{Act}
-use Rattle.mdb_bus.specs.declared.scope.Beginning.{Beginning}
-use Rattle.mdb_machine.specs.Pair.{IsMove}
-use Rattle.mdb_follow.specs.Arrivals.{Arrives}
-use Rattle.mdb_follow.specs.Limits.{IsTableWithin}
-use Rattle.mdb_follow.specs.Tables.{ArrivesAt, Bounds, IsTable}
-use Rattle.mdb_follow.specs.inner.Entries.{IsKeyed, IsPlaced}
-use Rattle.mdb_follow.proofs.Led.{Led}
+-- The entries so far are those that the ones before the act have led to.
+use Rattle.mdb_follow.proofs.Ways.{LedSoFar}
 use Rattle.mdb_follow.proofs.table.fill.Given as goal
 
 abbrev pub invariant-loop-code : goal.invariant-loop-code
 invariant-loop-code g l =
-    let p = g.P.Pair in
-    record {
-      keyed : IsKeyed g.row.N l.into;
-      placed : IsPlaced l.into l.places;
-      led : (begins : Beginning) (acts : List Act) → p.stands_for begins l.facts acts
-          → IsTable p.code_of (p.machine begins) acts l.from
-          → Bounds (Led (ArrivesAt p.code_of (Arrives (p.machine begins) acts))
-          (IsMove l.act p.code_of ((p.machine begins).Step acts l.act))
-          (take l.code-index l.from)) l.into;
-      within : (limit : ℕ) → IsTableWithin limit l.from
-          → IsTableWithin (limit + 2 ^ 32) l.into;
-    }
+    LedSoFar g.row.N g.P.Pair.code_of g.P.Pair.machine
+    (λ begins acts. g.P.Pair.stands_for begins l.facts acts) l.act l.from l.code-index l.into
+    l.places

@@ -1,5 +1,6 @@
+-- A table of one entry after an act: what the two steps from it lead to.
 use Rattle.std.proofs.Common.{true, false, ◌≡◌, ◌+◌, ◌∷◌, ◌^◌, ◌∙◌, [], ap, arith, get_or, ℕ, List}
-use Rattle.std.proofs.Common.{refl, subst}
+use Rattle.std.proofs.Common.{refl}
 use Rattle.std.proofs.lemmas.Bool.{OnFalse_at, OnFalse_from, OnTrue_at, OnTrue_from}
 use Rattle.std.proofs.lemmas.List.Elements.{All-head}
 use Rattle.mdb_follow.specs.Sums.{Sums}
@@ -32,12 +33,10 @@ arrives : (g : given.Over) (c : goal.After-lead_only g) (begins : Beginning) (ac
     (Arrives (g.P.Pair.machine begins) (c.args.act.now ∷ acts))) after
 arrives g c begins acts entry after stands table only led =
     let p = g.P.Pair in
-    alone-led p.device p.code_of (p.machine begins) c.args.act.now acts
-    g.row.N p.CODES c.args.entries.now entry _ c.step-plain.result
-    c.second_step-second.result after only
+    alone-led p.device p.code_of (p.machine begins) c.args.act.now acts c.args.entries.now entry _
+    c.step-plain.result c.second_step-second.result after only
     (code-is c.as_slice.result.now entry _ (c.as_slice.ensures ∙ only))
-    g.met.P.Pair.apart c.requires.size c.step-plain.ensures.below
-    c.second_step-second.ensures.below (c.step-plain.ensures.steps begins acts stands)
+    g.met.P.Pair.apart (c.step-plain.ensures.steps begins acts stands)
     (c.second_step-second.ensures.sound begins acts stands)
     (c.second_step-second.ensures.whole begins acts stands) table led
 
@@ -47,9 +46,8 @@ table-told : (g : given.Over) (c : goal.After-lead_only g) → c.lead_only.resul
     → IsTable g.P.Pair.code_of (g.P.Pair.machine begins) (c.args.act.now ∷ acts)
     c.lead_only.new.entries
 table-told g c is begins acts stands table =
-    let p = g.P.Pair in
     let one = only-is c.args.entries.now c.requires.only in
-    table-some p.code_of (p.machine begins) (c.args.act.now ∷ acts)
+    table-some g.P.Pair.code_of (g.P.Pair.machine begins) (c.args.act.now ∷ acts)
     c.lead_only.new.entries
     (arrives g c begins acts one.0 c.lead_only.new.entries stands table one.1
     (OnTrue_at is c.lead_only.ensures.led one.0 one.1))
@@ -63,14 +61,12 @@ none-told : (g : given.Over) (c : goal.After-lead_only g) → c.lead_only.result
     → IsTable g.P.Pair.code_of (g.P.Pair.machine begins) acts c.args.entries.now
     → (state : g.row.P-State.Denot) (sums : Sums)
     → Arrives (g.P.Pair.machine begins) (c.args.act.now ∷ acts) state sums → ⊥
-none-told g c is begins acts stands table state sums way =
-    let p = g.P.Pair in
+none-told g c is begins acts stands table =
     let one = only-is c.args.entries.now c.requires.only in
     let none = OnFalse_at is c.lead_only.ensures.none in
-    nothing-arrives p.code_of (p.machine begins) (c.args.act.now ∷ acts) []
+    nothing-arrives g.P.Pair.code_of (g.P.Pair.machine begins) (c.args.act.now ∷ acts) []
     (arrives g c begins acts one.0 [] stands table one.1
-    (lead-none one.0.1 c.step-plain.result c.second_step-second.result none.0 none.1))
-    refl state sums way
+    (lead-none one.0.1 c.step-plain.result c.second_step-second.result none.0 none.1)) refl
 
 pub returns-clause-none : goal.returns-clause-none
 returns-clause-none g c = OnFalse_from _ _ (none-told g c)
@@ -79,23 +75,18 @@ pub returns-clause-below : goal.returns-clause-below
 returns-clause-below g c =
     let one = only-is c.args.entries.now c.requires.only in
     alone-either (AreBelow g.row.N) c.lead_only.result c.args.entries.now
-    c.lead_only.new.entries _ c.lead_only.ensures.led
-    c.lead_only.ensures.same
-    (λ led. alone-below g.row.N g.P.Pair.CODES one.0.1 c.step-plain.result
-    c.second_step-second.result c.lead_only.new.entries c.requires.size
-    c.step-plain.ensures.below c.second_step-second.ensures.below (led one.0 one.1))
-    c.requires.below
+    c.lead_only.new.entries _ c.lead_only.ensures.led c.lead_only.ensures.same
+    (λ led. alone-below g.row.N g.P.Pair.CODES c.step-plain.result c.second_step-second.result
+    c.requires.size c.step-plain.ensures.below c.second_step-second.ensures.below one.0.1 _
+    (led one.0 one.1)) c.requires.below
 
 pub returns-clause-within : goal.returns-clause-within
 returns-clause-within g c limit all =
     let one = only-is c.args.entries.now c.requires.only in
-    let within : IsCellWithin limit one.0.1 =
-    All-head (λ entry. IsCellWithin limit entry.1) one.0 []
-    (subst (IsTableWithin limit) one.1 all) in
+    let within = All-head (λ entry. IsCellWithin limit entry.1) one.0 [] (rw one.1 at all) in
     alone-either (IsTableWithin (limit + 2 ^ 32)) c.lead_only.result c.args.entries.now
-    c.lead_only.new.entries _ c.lead_only.ensures.led
-    c.lead_only.ensures.same
-    (λ led. alone-within limit g.row.N g.P.Pair.CODES one.0.1 c.step-plain.result
-    c.second_step-second.result c.lead_only.new.entries c.requires.size
-    c.step-plain.ensures.below c.second_step-second.ensures.below within (led one.0 one.1))
+    c.lead_only.new.entries _ c.lead_only.ensures.led c.lead_only.ensures.same
+    (λ led. alone-within g.row.N g.P.Pair.CODES c.step-plain.result c.second_step-second.result
+    c.requires.size c.step-plain.ensures.below c.second_step-second.ensures.below limit one.0.1 _
+    within (led one.0 one.1))
     (table-within-weaker limit (limit + 2 ^ 32) c.args.entries.now (omega arith) all)

@@ -1,13 +1,13 @@
+-- What two steps make of the entries.
 use Rattle.std.proofs.Common.{◌++◌}
 use Rattle.mdb_follow.specs.inner.Entries.{moves_of}
-use Rattle.mdb_follow.proofs.TwoSteps.{two-moves, with-two}
+use Rattle.mdb_follow.proofs.TwoSteps.{two-moves}
+use Rattle.mdb_follow.proofs.Led.{with_moves-append}
 use Rattle.mdb_follow.proofs.entries.steps.add_steps.Goals as goal
 
 pub returns-then-ne-clause-entries : goal.returns-then-ne-clause-entries
 returns-then-ne-clause-entries g c = (
   moves_of c.args.one.now ++ moves_of c.args.other.now,
   two-moves c.args.one.now c.args.other.now,
-  with-two c.args.entries.now c.add_step.new.entries
-      c.add_step-then-ne.new.entries c.args.cell.now c.args.one.now c.args.other.now
-      c.add_step.ensures.entries c.add_step-then-ne.ensures.entries,
+  rw (with_moves-append, ← c.add_step.ensures.entries) c.add_step-then-ne.ensures.entries,
 )

@@ -1,3 +1,4 @@
+-- A row that was refused is refused with the offence that is noted.
 use Rattle.mdb_follow.specs.Feeding.{HasRefused}
 use Rattle.mdb_follow.proofs.Following.{of-some}
 use Rattle.mdb_follow.proofs.follower.Follower.feed.Goals as goal

@@ -1,13 +1,15 @@
-use Rattle.std.proofs.Common.{◌*◌, ◌^◌}
+-- Sides that follow an act stay within the limit of the rows, and stand for acts.
+use Rattle.std.proofs.Common.{arith, ◌*◌, ◌^◌}
 use Rattle.mdb_follow.specs.inner.SideSteps.{AreStanding, AreWithin}
 use Rattle.mdb_follow.proofs.Sided.{by-stay}
-use Rattle.mdb_follow.proofs.Within.{sides-within-next, sides-within-rows, standing-next}
+use Rattle.mdb_follow.proofs.Within.{sides-within-next, sides-within-weaker, standing-next}
 use Rattle.mdb_follow.proofs.follower.Follower.follow.Goals as goal
 
 pub lead-requires : goal.lead-requires
 lead-requires c =
-    sides-within-rows c.args.self.now.rows c.args.self.now.sides c.args.self.now.few
-    c.args.self.now.within
+    let few = c.args.self.now.few in
+    sides-within-weaker (c.args.self.now.rows * 2 ^ 32) (2 ^ 62) c.args.self.now.sides
+    (omega (arith, few)) c.args.self.now.within
 
 pub invariant_of-self-clause-within : goal.invariant_of-self-clause-within
 invariant_of-self-clause-within c =

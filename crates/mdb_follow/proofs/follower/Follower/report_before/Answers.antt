@@ -1,11 +1,12 @@
-use Rattle.std.proofs.Common.{ap, arith, subst, sym, ◌∙◌, ◌≡◌, ◌*◌, ◌^◌, ℕ}
+-- The report on the rows that were accepted is exact, and within their limit.
+use Rattle.std.proofs.Common.{ap, arith, ◌∙◌, ◌≡◌, ◌*◌, ◌^◌, ℕ}
 use Rattle.mdb_msgs.specs.declared.command.Device.{Device}
 use Rattle.mdb_bus.specs.ActLists.{acts_of}
 use Rattle.mdb_follow.specs.declared.report.DeviceReport.{DeviceReport}
 use Rattle.mdb_follow.specs.Cells.{cell_in}
 use Rattle.mdb_follow.specs.Follower.{scope_of}
 use Rattle.mdb_follow.specs.Report.{device_report, device_facts_in}
-use Rattle.mdb_follow.specs.SilencesKept.{AreAtMost, silence_in}
+use Rattle.mdb_follow.specs.SilencesKept.{silence_in}
 use Rattle.mdb_follow.proofs.Following.{accepted, accounts-within, few-times, reported}
 use Rattle.mdb_follow.proofs.Kept.{at-most-weaker}
 use Rattle.mdb_follow.proofs.Told.{listed}
@@ -14,12 +15,11 @@ use Rattle.mdb_follow.proofs.follower.Follower.report_before.Goals as goal
 pub returns-clause-before : goal.returns-clause-before
 returns-clause-before c events has =
     let scope = scope_of c.args.self.now in
-    let begins = scope.begins in
-    let acts = acts_of has.pieces in
     reported c.transcripts_have_one_act_list.ensures c.ways_join.ensures c.args.self.now events
     c.of.result (cell_in c.cells-cells.result) has
-    (c.cells-cells.ensures.exact begins acts has.sides)
-    (c.of.ensures.telling scope has.pieces (c.facts-facts.ensures.facts begins acts has.sides)
+    (c.cells-cells.ensures.exact scope.begins (acts_of has.pieces) has.sides)
+    (c.of.ensures.telling scope has.pieces
+    (c.facts-facts.ensures.facts scope.begins (acts_of has.pieces) has.sides)
     has.silences has.untimely)
 
 pub returns-clause-going : goal.returns-clause-going
@@ -40,7 +40,7 @@ returns-clause-within c =
       accounts = accounts-within limit (cell_in c.cells-cells.result) c.of.result.accounts
           (ap (λ report. report.accounts) c.of.ensures.has)
           (λ device. c.cells-cells.ensures.within limit device (within device));
-      asks = λ device. subst (AreAtMost limit) (sym (ap (λ r. r.asks) (has device)))
+      asks = λ device. rw (ap (λ r. r.asks) (has device))
           (at-most-weaker (silence_in c.args.self.now.silences device).counts
           c.args.self.now.rows limit (omega arith) (c.args.self.now.few_silences device));
       untimely = few-times (ap (λ report. report.untimely) c.of.ensures.has)

@@ -1,3 +1,4 @@
+-- A row is settled, or taken slowly.
 use Rattle.std.proofs.Common.{rules, ap, refl, sym}
 use Rattle.mdb_follow.specs.Counted.{counted_with}
 use Rattle.mdb_follow.proofs.follower.Follower.take.Goals as goal
@@ -11,22 +12,10 @@ returns-in-Some c =
       sender = λ pieces stands. ap (λ s. counted_with s c.args.self.now.untimely)
           (sym (c.in-Some.ensures.timely pieces stands));
     }) in
-    record {
-      taken = settled.taken;
-      act = settled.act;
-      going = search rules;
-      refused = settled.refused;
-      scope = search rules;
-    }
+    search rules
 
 pub returns-in-None : goal.returns-in-None
 returns-in-None c =
     let settled = c.take_slowly.ensures.settled c.args.self.now (refl, refl, refl, refl, refl)
     c.in-None.ensures.unchanged in
-    record {
-      taken = settled.taken;
-      act = settled.act;
-      going = search rules;
-      refused = settled.refused;
-      scope = search rules;
-    }
+    search rules

@@ -1,31 +1,21 @@
-use Rattle.std.proofs.Common.{ap, refl, ◌∙◌, List, map}
+-- A report has what was found of each device and account.
+use Rattle.std.proofs.Common.{refl, ◌∙◌, map}
 use Rattle.mdb_follow.specs.declared.account_name.TheConstants.AccountName.{ALL}
-use Rattle.mdb_follow.specs.declared.report.DeviceReport.{DeviceReport}
-use Rattle.mdb_follow.specs.declared.report.Report.{Report}
 use Rattle.mdb_follow.specs.Cells.{account_by, cell_in}
-use Rattle.mdb_follow.specs.Report.{report_of}
 use Rattle.mdb_follow.proofs.Told.{reports-are}
 use Rattle.mdb_follow.proofs.report.Report.of.Goals as goal
 
 pub returns-clause-has : goal.returns-clause-has
 returns-clause-has c =
-    rw (
-      c.reported.ensures,
-      c.reported-2.ensures,
-      c.reported-3.ensures,
-      c.reported-4.ensures,
-      c.accounts_of.ensures,
-    ) refl
+    rw (c.reported.ensures, c.reported-2.ensures, c.reported-3.ensures, c.reported-4.ensures)
+    (rw c.accounts_of.ensures)
 
 pub returns-clause-telling : goal.returns-clause-telling
 returns-clause-telling c scope pieces are stand times =
-    let with : List DeviceReport → Report = λ devices. record {
+    let devices = reports-are scope.begins pieces c.args.facts.now c.args.silences.now are stand in
+    returns-clause-has c ∙ λ i. record {
       rows = c.args.rows;
-      devices = devices;
-      untimely = c.args.untimely;
+      devices = devices i;
+      untimely = times i;
       accounts = map (account_by (cell_in c.args.cells.now)) ALL;
-    } in
-    returns-clause-has c
-    ∙ (ap with (reports-are scope.begins pieces c.args.facts.now c.args.silences.now are stand)
-    ∙ ap (λ untimely. record (report_of scope c.args.rows pieces
-    (account_by (cell_in c.args.cells.now))) { untimely = untimely }) times)
+    }

@@ -1,29 +1,17 @@
-use Rattle.std.proofs.Common.{[], ◌∷◌}
+-- The cell of each device has the ranges of its side.
 use Rattle.mdb_msgs.specs.declared.command.Device.TheVariants as devices
 use Rattle.mdb_msgs.specs.declared.command.ReaderUnit.TheVariants.{First, Second}
-use Rattle.mdb_follow.specs.Arrivals.{Arrives}
-use Rattle.mdb_follow.specs.Cells.{cell_in, IsCell}
-use Rattle.mdb_follow.specs.Limits.{IsCellWithin}
-use Rattle.mdb_follow.specs.Machines.{machine_of}
-use Rattle.mdb_follow.specs.Tables.{ArrivesAnywhere}
-use Rattle.mdb_follow.specs.inner.SideSteps.{IsWithin}
 use Rattle.mdb_follow.proofs.ByDevice.{each}
 use Rattle.mdb_follow.proofs.sides.Sides.cells.Goals as goal
 
 pub returns-clause-exact : goal.returns-clause-exact
 returns-clause-exact c begins acts on =
-    each (λ device. IsCell (ArrivesAnywhere (Arrives (machine_of begins device) acts))
-    (cell_in (c.ranges-2.result ∷ c.ranges-3.result ∷ c.ranges-4.result ∷ c.ranges-5.result ∷ [])
-    device))
-    (c.ranges-2.ensures.exact begins acts (on devices.Changer))
+    each _ (c.ranges-2.ensures.exact begins acts (on devices.Changer))
     (c.ranges-3.ensures.exact begins acts (on devices.Bill))
     (c.ranges-4.ensures.exact begins acts (on (devices.Reader First)))
     (c.ranges-5.ensures.exact begins acts (on (devices.Reader Second)))
 
 pub returns-clause-within : goal.returns-clause-within
 returns-clause-within c limit =
-    each (λ device. IsWithin device limit c.args.self.now → IsCellWithin limit
-    (cell_in (c.ranges-2.result ∷ c.ranges-3.result ∷ c.ranges-4.result ∷ c.ranges-5.result ∷ [])
-    device))
-    (c.ranges-2.ensures.within limit) (c.ranges-3.ensures.within limit)
+    each _ (c.ranges-2.ensures.within limit) (c.ranges-3.ensures.within limit)
     (c.ranges-4.ensures.within limit) (c.ranges-5.ensures.within limit)

@@ -1,9 +1,8 @@
-use Rattle.std.proofs.Common.{refl, ◌∙◌, ◌≡◌, ℕ, List, [], ◌∷◌, Option}
+-- What is found of each device is what its side has.
+use Rattle.std.proofs.Common.{refl, ◌∙◌}
 use Rattle.mdb_msgs.specs.declared.command.Device.{Device}
 use Rattle.mdb_msgs.specs.declared.command.Device.TheVariants as devices
 use Rattle.mdb_msgs.specs.declared.command.ReaderUnit.TheVariants.{First, Second}
-use Rattle.mdb_follow.specs.declared.report.DeviceFacts.{DeviceFacts}
-use Rattle.mdb_follow.specs.Report.{device_facts_in}
 use Rattle.mdb_follow.specs.Sides.{side_in}
 use Rattle.mdb_follow.proofs.ByDevice.{each}
 use Rattle.mdb_follow.proofs.Sided.{decimals-are}
@@ -25,13 +24,4 @@ returns-clause-facts c begins acts on =
     ) refl
 
 pub returns-clause-kept : goal.returns-clause-kept
-returns-clause-kept c =
-    let of : Option ℕ → ℕ → DeviceFacts = λ decimals unvalued.
-    record { decimals = decimals; unvalued = unvalued } in
-    let sides = c.args.self.now in
-    let facts : List DeviceFacts = of c.decimals.result sides.changer.unvalued
-    ∷ of c.decimals-2.result sides.bill.unvalued
-    ∷ of c.decimals-3.result sides.first_reader.unvalued
-    ∷ of c.decimals-4.result sides.second_reader.unvalued ∷ [] in
-    each (λ device. (device_facts_in facts device).unvalued ≡ (side_in sides device).unvalued)
-    refl refl refl refl
+returns-clause-kept c = each _ refl refl refl refl

@@ -1,3 +1,4 @@
+-- Each side goes on over a break, one by one.
 use Rattle.std.proofs.Common.{◌^◌}
 use Rattle.mdb_follow.specs.Sides.{SideOf, side_in}
 use Rattle.mdb_follow.specs.inner.SideSteps.{FollowsOf}
@@ -9,14 +10,14 @@ use Rattle.mdb_follow.proofs.sides.Sides.lead_all.Goals as goal
 pub lead_one-requires : goal.lead_one-requires
 lead_one-requires c =
     front-fits c.loop-device.device-index c.args.self.now c.args.act.now c.loop-device.self _
-    (2 ^ 62) c.loop-device-test.true c.loop-device.invariant c.requires
+    c.loop-device-test.true c.loop-device.invariant (2 ^ 62) c.requires
 
 pub returns-in_err-lead_one-clause-stopped : goal.returns-in_err-lead_one-clause-stopped
 returns-in_err-lead_one-clause-stopped c =
     let broken = c.in_err-lead_one.field-0.0 in
     if-err-is c.from_residual.result broken _ c.from_residual.ensures.1
     (front-stops c.loop-device.device-index c.args.self.now c.args.act.now c.loop-device.self _
-    broken c.loop-device-test.true c.loop-device.invariant c.in_err-lead_one.ensures.stopped)
+    c.loop-device-test.true c.loop-device.invariant broken c.in_err-lead_one.ensures.stopped)
 
 pub loop-device-preserved : goal.loop-device-preserved
 loop-device-preserved c =

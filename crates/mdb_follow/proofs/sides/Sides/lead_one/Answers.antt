@@ -1,114 +1,52 @@
-use Rattle.std.proofs.Common.{ap, arith, refl, ◌∙◌, ◌^◌}
+-- The side of the device goes on in its place, or it has no step and nothing changes.
+use Rattle.std.proofs.Common.{ap, arith, refl, ◌∙◌}
 use Rattle.mdb_msgs.specs.declared.command.Device.TheVariants as devices
 use Rattle.mdb_msgs.specs.declared.command.ReaderUnit.TheVariants.{First, Second}
-use Rattle.mdb_follow.proofs.Sided.{one-follows, one-stays, one-stops, within-at}
+use Rattle.mdb_follow.proofs.Sided.{one-led}
 use Rattle.mdb_follow.proofs.sides.Sides.lead_one.Goals as goal
 
-pub returns-in-Changer-clause-followed : goal.returns-in-Changer-clause-followed
-returns-in-Changer-clause-followed c =
-    one-follows c.lead.result c.args.device devices.Changer c.args.self.now
-    c.lead.new.side c.args.act.now c.in-Changer.is
-    c.lead.ensures.followed
-
-pub returns-in-Changer-clause-stopped : goal.returns-in-Changer-clause-stopped
-returns-in-Changer-clause-stopped c =
-    one-stops c.lead.result c.args.device devices.Changer c.args.self.now
-    c.args.act.now c.in-Changer.is
-    c.lead.ensures.none c.lead.ensures.its
-
-pub returns-in-Changer-clause-same : goal.returns-in-Changer-clause-same
-returns-in-Changer-clause-same c =
-    one-stays c.lead.result devices.Changer c.args.self.now c.lead.new.side
-    c.lead.ensures.same
-
-pub returns-in-Bill-clause-followed : goal.returns-in-Bill-clause-followed
-returns-in-Bill-clause-followed c =
-    one-follows c.lead-in-Bill.result c.args.device devices.Bill c.args.self.now
-    c.lead-in-Bill.new.side c.args.act.now c.in-Bill.is
-    c.lead-in-Bill.ensures.followed
-
-pub returns-in-Bill-clause-stopped : goal.returns-in-Bill-clause-stopped
-returns-in-Bill-clause-stopped c =
-    one-stops c.lead-in-Bill.result c.args.device devices.Bill c.args.self.now
-    c.args.act.now c.in-Bill.is
-    c.lead-in-Bill.ensures.none c.lead-in-Bill.ensures.its
-
-pub returns-in-Bill-clause-same : goal.returns-in-Bill-clause-same
-returns-in-Bill-clause-same c =
-    one-stays c.lead-in-Bill.result devices.Bill c.args.self.now c.lead-in-Bill.new.side
-    c.lead-in-Bill.ensures.same
-
-pub returns-in-First-clause-followed : goal.returns-in-First-clause-followed
-returns-in-First-clause-followed c =
-    one-follows c.lead-in-First.result c.args.device (devices.Reader First) c.args.self.now
-    c.lead-in-First.new.side c.args.act.now (c.in-Reader.is ∙ ap devices.Reader c.in-First.is)
-    c.lead-in-First.ensures.followed
-
-pub returns-in-First-clause-stopped : goal.returns-in-First-clause-stopped
-returns-in-First-clause-stopped c =
-    one-stops c.lead-in-First.result c.args.device (devices.Reader First) c.args.self.now
-    c.args.act.now (c.in-Reader.is ∙ ap devices.Reader c.in-First.is)
-    c.lead-in-First.ensures.none c.lead-in-First.ensures.its
-
-pub returns-in-First-clause-same : goal.returns-in-First-clause-same
-returns-in-First-clause-same c =
-    one-stays c.lead-in-First.result (devices.Reader First) c.args.self.now c.lead-in-First.new.side
-    c.lead-in-First.ensures.same
-
-pub returns-in-Second-clause-followed : goal.returns-in-Second-clause-followed
-returns-in-Second-clause-followed c =
-    one-follows c.lead-in-Second.result c.args.device (devices.Reader Second) c.args.self.now
-    c.lead-in-Second.new.side c.args.act.now (c.in-Reader.is ∙ ap devices.Reader c.in-Second.is)
-    c.lead-in-Second.ensures.followed
-
-pub returns-in-Second-clause-stopped : goal.returns-in-Second-clause-stopped
-returns-in-Second-clause-stopped c =
-    one-stops c.lead-in-Second.result c.args.device (devices.Reader Second) c.args.self.now
-    c.args.act.now (c.in-Reader.is ∙ ap devices.Reader c.in-Second.is)
-    c.lead-in-Second.ensures.none c.lead-in-Second.ensures.its
-
-pub returns-in-Second-clause-same : goal.returns-in-Second-clause-same
-returns-in-Second-clause-same c =
-    one-stays c.lead-in-Second.result (devices.Reader Second) c.args.self.now
-    c.lead-in-Second.new.side
-    c.lead-in-Second.ensures.same
+pub returns-in-Changer : goal.returns-in-Changer
+returns-in-Changer c =
+    let led = c.lead.ensures in
+    let all = one-led c.lead.result c.args.device devices.Changer c.args.self.now
+    c.lead.new.side c.args.act.now c.in-Changer.is led.followed led.none led.its led.same in
+    record { followed = all.0; stopped = all.1; same = all.2 }
 
 pub lead-requires : goal.lead-requires
-lead-requires c = (
-  omega arith,
-  (
-    refl,
-    within-at c.args.device devices.Changer (2 ^ 62) c.args.self.now
-        c.in-Changer.is c.requires,
-  ),
-)
+lead-requires c = (omega arith, (refl, rw c.in-Changer.is at c.requires))
+
+pub returns-in-Bill : goal.returns-in-Bill
+returns-in-Bill c =
+    let led = c.lead-in-Bill.ensures in
+    let all = one-led c.lead-in-Bill.result c.args.device devices.Bill c.args.self.now
+    c.lead-in-Bill.new.side c.args.act.now c.in-Bill.is led.followed led.none led.its led.same in
+    record { followed = all.0; stopped = all.1; same = all.2 }
 
 pub lead-requires-in-Bill : goal.lead-requires-in-Bill
-lead-requires-in-Bill c = (
-  omega arith,
-  (
-    refl,
-    within-at c.args.device devices.Bill (2 ^ 62) c.args.self.now
-        c.in-Bill.is c.requires,
-  ),
-)
+lead-requires-in-Bill c = (omega arith, (refl, rw c.in-Bill.is at c.requires))
+
+pub returns-in-First : goal.returns-in-First
+returns-in-First c =
+    let led = c.lead-in-First.ensures in
+    let is = c.in-Reader.is ∙ ap devices.Reader c.in-First.is in
+    let all = one-led c.lead-in-First.result c.args.device (devices.Reader First) c.args.self.now
+    c.lead-in-First.new.side c.args.act.now is led.followed led.none led.its led.same in
+    record { followed = all.0; stopped = all.1; same = all.2 }
 
 pub lead-requires-in-First : goal.lead-requires-in-First
-lead-requires-in-First c = (
-  omega arith,
-  (
-    refl,
-    within-at c.args.device (devices.Reader First) (2 ^ 62) c.args.self.now
-        (c.in-Reader.is ∙ ap devices.Reader c.in-First.is) c.requires,
-  ),
-)
+lead-requires-in-First c =
+    let is = c.in-Reader.is ∙ ap devices.Reader c.in-First.is in
+    (omega arith, (refl, rw is at c.requires))
+
+pub returns-in-Second : goal.returns-in-Second
+returns-in-Second c =
+    let led = c.lead-in-Second.ensures in
+    let is = c.in-Reader.is ∙ ap devices.Reader c.in-Second.is in
+    let all = one-led c.lead-in-Second.result c.args.device (devices.Reader Second) c.args.self.now
+    c.lead-in-Second.new.side c.args.act.now is led.followed led.none led.its led.same in
+    record { followed = all.0; stopped = all.1; same = all.2 }
 
 pub lead-requires-in-Second : goal.lead-requires-in-Second
-lead-requires-in-Second c = (
-  omega arith,
-  (
-    refl,
-    within-at c.args.device (devices.Reader Second) (2 ^ 62) c.args.self.now
-        (c.in-Reader.is ∙ ap devices.Reader c.in-Second.is) c.requires,
-  ),
-)
+lead-requires-in-Second c =
+    let is = c.in-Reader.is ∙ ap devices.Reader c.in-Second.is in
+    (omega arith, (refl, rw is at c.requires))

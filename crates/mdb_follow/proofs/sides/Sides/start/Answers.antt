@@ -1,33 +1,16 @@
-use Rattle.std.proofs.Common.{[], arith, refl}
+-- The sides of all devices begin within 0 and stand for no act.
+use Rattle.std.proofs.Common.{arith, refl}
 use Rattle.mdb_msgs.specs.declared.command.ReaderUnit.TheVariants.{First, Second}
-use Rattle.mdb_follow.specs.declared.sides.Sides.{Sides}
-use Rattle.mdb_follow.specs.Sides.{IsSideOf, side_in}
-use Rattle.mdb_follow.specs.inner.SideSteps.{IsWithin}
 use Rattle.mdb_follow.proofs.ByDevice.{each}
 use Rattle.mdb_follow.proofs.OwnKnown.{none_unvalued}
 use Rattle.mdb_follow.proofs.sides.Sides.start.Goals as goal
 
 pub returns-clause-stands : goal.returns-clause-stands
-returns-clause-stands c =
-    let sides : Sides = record {
-      changer = c.start.result;
-      bill = c.start-2.result;
-      first_reader = c.start-3.result;
-      second_reader = c.start-4.result;
-    } in
-    each (λ device. IsSideOf c.args.begins.now device (side_in sides device) [])
-    c.start.ensures.stands
-    c.start-2.ensures.stands c.start-3.ensures.stands c.start-4.ensures.stands
+returns-clause-stands c = each _ c.start.ensures.stands c.start-2.ensures.stands
+    c.start-3.ensures.stands c.start-4.ensures.stands
 
 pub returns-clause-within : goal.returns-clause-within
-returns-clause-within c =
-    let sides : Sides = record {
-      changer = c.start.result;
-      bill = c.start-2.result;
-      first_reader = c.start-3.result;
-      second_reader = c.start-4.result;
-    } in
-    each (λ device. IsWithin device 0 sides) c.start.ensures.within c.start-2.ensures.within
+returns-clause-within c = each _ c.start.ensures.within c.start-2.ensures.within
     c.start-3.ensures.within c.start-4.ensures.within
 
 pub start-requires-3 : goal.start-requires-3

@@ -1,6 +1,6 @@
-use Rattle.std.proofs.Common.{arith, subst, sym}
+-- What is kept of the device that answered is put in its place.
+use Rattle.std.proofs.Common.{arith}
 use Rattle.mdb_follow.specs.SilenceSteps.{ended}
-use Rattle.mdb_follow.specs.SilencesKept.{AreAtMost}
 use Rattle.mdb_follow.proofs.Kept.{at-most-more, one-goes-on}
 use Rattle.mdb_follow.proofs.silence.Silences.end.Goals as goal
 
@@ -10,6 +10,5 @@ returns c =
     c.end.new.self c.device_place.ensures.place (omega arith)
     (record {
       stands = c.end.ensures.stands;
-      few = λ most few. at-most-more c.end.new.self.counts most
-          (subst (AreAtMost most) (sym c.end.ensures.same) few);
+      few = λ most few. at-most-more c.end.new.self.counts most (rw c.end.ensures.same few);
     })
