@@ -1,3 +1,4 @@
+-- Each entry rests, up to the last.
 use Rattle.std.proofs.Common.{subst}
 use Rattle.std.proofs.lemmas.List.{take_all}
 use Rattle.mdb_bus.specs.declared.scope.Beginning.TheVariants.{PowerOn}
@@ -14,7 +15,5 @@ loop-code-preserved g c profile =
 
 pub returns : goal.returns
 returns g c profile =
-    let p = g.P.Pair in
-    subst (AllRest p.code_of (p.machine (PowerOn profile)) c.args.act.now)
-    (take_all c.loop-code.code-index c.args.entries.now c.loop-code-test.false)
-    (c.loop-code.invariant profile)
+    rw (take_all c.loop-code.code-index c.args.entries.now c.loop-code-test.false)
+    at (c.loop-code.invariant profile)

@@ -1,3 +1,4 @@
+-- An act that matters to no entry leaves each.
 use Rattle.std.proofs.Common.{subst, ℕ, List}
 use Rattle.mdb_bus.specs.declared.scope.Beginning.TheVariants.{PowerOn}
 use Rattle.mdb_explained_runs.specs.declared.explain.best.Best.{Best}
@@ -10,7 +11,4 @@ returns-then-not-concerns-clause-still g c profile k d within acts choice before
 
 pub returns-then-all_rest-clause-still : goal.returns-then-all_rest-clause-still
 returns-then-all_rest-clause-still g c profile =
-    let p = g.P.Pair in
-    subst (λ (es : List (ℕ × Best)).
-    AllRest p.code_of (p.machine (PowerOn profile)) c.args.act.now es)
-    c.deref.ensures.value (c.if-all_rest.ensures profile)
+    rw c.deref.ensures.value at (c.if-all_rest.ensures profile)

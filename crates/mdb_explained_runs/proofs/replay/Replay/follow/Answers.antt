@@ -1,9 +1,11 @@
-use Rattle.mdb_explained_runs.proofs.Tracked.{tracks-within-next, tracks-within-rows}
+-- Tracks and silences stay within the limits of one row more.
+use Rattle.std.proofs.Common.{arith}
+use Rattle.mdb_explained_runs.proofs.Tracked.{tracks-within-next, tracks-within-weaker}
 use Rattle.mdb_explained_runs.proofs.replay.Replay.follow.Goals as goal
 
 pub lead-requires : goal.lead-requires
 lead-requires c =
-    tracks-within-rows c.args.self.now.rows c.args.self.now.tracks c.args.self.now.few
+    tracks-within-weaker c.args.self.now.tracks (omega (arith, c.args.self.now.few))
     (c.args.self.now.within c.requires.going)
 
 pub invariant_of-self-clause-within : goal.invariant_of-self-clause-within
