@@ -1,13 +1,10 @@
 -- The paths of a device among those of all, whose chains share their links.
 use Rattle.std.proofs.Common.{arith, ap, sym, subst, Contains, ◌∙◌, ◌≡◌, ◌+◌, ◌^◌, ℕ, Bool, true, false, List, ◌∷◌, ◌++◌, length}
-use Rattle.std.proofs.Common.{Result, Ok, Err, inl, inr, refl, get_or, ◌<◌, ◌≤◌}
+use Rattle.std.proofs.Common.{Result, Ok, inl, inr, refl, get_or, ◌<◌, ◌≤◌}
 use Rattle.std.specs.Bool.{OnFalse, OnTrue}
 use Rattle.std.specs.Prelude.{IfOk}
-use Rattle.std.proofs.lemmas.Bool.{false≢true}
 use Rattle.mdb_words.specs.declared.event.Event.{Event}
 use Rattle.mdb_msgs.specs.declared.command.Device.{Device}
-use Rattle.mdb_msgs.specs.declared.command.Device.TheVariants as devices
-use Rattle.mdb_msgs.specs.declared.command.ReaderUnit.TheVariants.{First, Second}
 use Rattle.mdb_bus.specs.declared.act.Act.{Act}
 use Rattle.mdb_bus.specs.declared.scope.Beginning.TheVariants.{PowerOn}
 use Rattle.mdb_bus.specs.declared.scope.Profile.{Profile}
@@ -16,7 +13,6 @@ use Rattle.mdb_machine.specs.Pair.{IsActOf}
 use Rattle.mdb_explained_runs.specs.declared.explain.all_paths.AllPaths.{AllPaths}
 use Rattle.mdb_explained_runs.specs.declared.explain.best.Best.{Best}
 use Rattle.mdb_explained_runs.specs.declared.explain.best.Weight.{Weight}
-use Rattle.mdb_explained_runs.specs.declared.explain.chains.Chains.{Chains}
 use Rattle.mdb_explained_runs.specs.declared.explain.chains.Link.{Link}
 use Rattle.mdb_explained_runs.specs.declared.explain.paths.Paths.{Paths}
 use Rattle.mdb_follow.specs.declared.goal.Goal.{Goal}
@@ -31,15 +27,13 @@ use Rattle.mdb_explained_runs.specs.inner.AllPaths.{AreBestMarks, AreFactsOf, Ar
 use Rattle.mdb_explained_runs.specs.inner.AllPaths.{HasNoWay, HasWay, LeadsPathsOf, OneLeadsPaths, paths_in}
 use Rattle.mdb_explained_runs.specs.inner.AllPaths.{weight_for}
 use Rattle.mdb_explained_runs.specs.inner.Chains.{Denotes, IsChain, KeepChains}
-use Rattle.mdb_explained_runs.specs.inner.Paths.{AreEntriesWithin, ArePaths, IsAsGood, IsBestOf}
-use Rattle.mdb_explained_runs.specs.inner.Weights.{weigh}
+use Rattle.mdb_explained_runs.specs.inner.Paths.{ArePaths, IsBestOf}
 use Rattle.mdb_explained_runs.proofs.Bests.{as_good-then}
 use Rattle.mdb_explained_runs.proofs.Chains.{denotes-one, keep-same, keep-then}
 use Rattle.std.proofs.lemmas.Int.{ints}
 use Rattle.mdb_explained_runs.proofs.EntryLimits.{entries-within-kept}
 use Rattle.mdb_explained_runs.proofs.Paths.{paths-kept, paths-still}
 use Rattle.mdb_follow.proofs.ByDevice.{below, earlier, placed, same_or_not}
-use Rattle.mdb_follow.proofs.Following.{if-ok}
 use Rattle.mdb_follow.proofs.Machines.{is_machine_of}
 use Rattle.mdb_follow.proofs.Sided.{unmoved}
 
@@ -89,7 +83,8 @@ pub one-leads : {E : Type 0} (r : Result Bool E) (goal : Goal) (device which : D
     → PathsAt profile which weight old.chains.links.items pieces (paths_in old which)
     → PathsAt profile which weight new.chains.links.items (Whole act events ∷ pieces)
     (paths_in new which)))
-    → IfOk r (λ _. (limit : ℕ) → AreWithinOf limit old which → AreWithinOf (limit + 2 ^ 32) new which)
+    → IfOk r (λ _. (limit : ℕ) → AreWithinOf limit old which
+    → AreWithinOf (limit + 2 ^ 32) new which)
     → ((other : Device) → (other ≡ which → ⊥) → paths_in new other ≡ paths_in old other)
     → IfOk r (λ goes. OnTrue goes (OneLeadsPaths device goal act row old new))
 one-leads (Ok true) goal device which weight act row old new is weighs led within others =
@@ -200,7 +195,8 @@ module _ {goal : Goal} {act : Act} {row count : ℕ} {old mid : AllPaths} (d : D
               }
         ];
         waiting = λ device above.
-            one.others device (λ same. let is = ap device_place same in omega (arith, above, at, is))
+            one.others device (λ same.
+            let is = ap device_place same in omega (arith, above, at, is))
             ∙ front.waiting device (omega (arith, above));
         kept = keep-then front.kept keep;
       }

@@ -1,7 +1,7 @@
 -- The best marks of each device, for a goal: with them no run goes further towards the end of the
 -- range, and none that comes there has fewer marks of a device.
-use Rattle.std.proofs.Common.{arith, inl, inr, refl, sym, subst, ap, ◌∙◌, ◌≡◌, ◌≤◌, ℕ, ℤ, ◌≤ℤ◌}
-use Rattle.std.proofs.Common.{Bool, true, false, List, length, if◌then◌else◌}
+use Rattle.std.proofs.Common.{arith, inl, inr, sym, ap, ◌∙◌, ◌≡◌, ◌≤◌, ℕ, ℤ, ◌≤ℤ◌}
+use Rattle.std.proofs.Common.{List, length}
 use Rattle.std.proofs.lemmas.Int.{ints}
 use Rattle.std.proofs.lemmas.Bool.{false_from_ne_true}
 use Rattle.mdb_msgs.specs.declared.command.Device.{Device}
@@ -10,22 +10,17 @@ use Rattle.mdb_msgs.specs.shared.SameDevices.{is_one, itself}
 use Rattle.mdb_bus.specs.declared.scope.Beginning.TheVariants.{PowerOn}
 use Rattle.mdb_bus.specs.declared.scope.Profile.{Profile}
 use Rattle.mdb_bus.specs.ActLists.{Piece, acts_of}
-use Rattle.mdb_follow.specs.declared.account_name.AccountName.{AccountName}
-use Rattle.mdb_explained_runs.specs.declared.explain.best.Weight.{Weight}
-use Rattle.mdb_explained_runs.specs.declared.explain.best.Weight.TheVariants as weights
-use Rattle.mdb_follow.specs.declared.goal.AccountSide.{AccountSide}
 use Rattle.mdb_follow.specs.declared.goal.Bound.{Bound}
 use Rattle.mdb_follow.specs.declared.goal.Bound.TheVariants.{Least, Greatest}
 use Rattle.mdb_follow.specs.declared.goal.Goal.{Goal}
 use Rattle.mdb_explained_runs.specs.declared.mark.Mark.{Mark}
-use Rattle.mdb_follow.specs.AccountNames.{account_device, account_slot, sums_of}
+use Rattle.mdb_follow.specs.AccountNames.{account_device}
 use Rattle.mdb_follow.specs.Choosing.{Choices, Follows}
-use Rattle.mdb_follow.specs.Ends.{side_value}
 use Rattle.mdb_follow.specs.GoalEnds.{IsAsFar, goal_value}
 use Rattle.mdb_follow.specs.Machines.{StateOf, machine_of}
 use Rattle.mdb_explained_runs.specs.Marks.{own_marks}
 use Rattle.mdb_follow.specs.Runs.{AllSums}
-use Rattle.mdb_explained_runs.specs.inner.AllPaths.{AreBestMarks, weight_at, weight_for}
+use Rattle.mdb_explained_runs.specs.inner.AllPaths.{AreBestMarks, weight_for}
 use Rattle.mdb_explained_runs.specs.inner.Weights.{towards, weigh}
 use Rattle.mdb_follow.proofs.ByDevice.{same_or_not}
 

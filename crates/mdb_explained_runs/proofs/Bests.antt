@@ -208,8 +208,9 @@ module _ {rest : List (ℕ × Best)} {first : Best} {i : ℕ} {best : Best} wher
 pub best-goes : {rest : List (ℕ × Best)} {first : Best} {i : ℕ} {best : Best} (d : ℕ × Best)
     → i < length rest → IsAsGoodAs (get_or rest i d).1 best → IsBestSoFar rest first i best
     → IsBestSoFar rest first (i + 1) (get_or rest i d).1
-best-goes {rest} {i = i} d within good so_far = best-stays d within (as_good-same (get_or rest i d).1) (record {
-  is = inr (_, Contains-get_or rest i d within);
-  good = as_good-then good so_far.good;
-  least = λ entry has. as_good-then good (so_far.least entry has);
-})
+best-goes {rest} {i = i} d within good so_far = best-stays d within (as_good-same
+    (get_or rest i d).1) (record {
+      is = inr (_, Contains-get_or rest i d within);
+      good = as_good-then good so_far.good;
+      least = λ entry has. as_good-then good (so_far.least entry has);
+    })

@@ -8,7 +8,7 @@ use Rattle.mdb_explained_runs.specs.declared.explain.best.Best.{Best}
 use Rattle.mdb_explained_runs.specs.declared.explain.best.Weight.{Weight}
 use Rattle.mdb_explained_runs.specs.declared.explain.chains.Link.{Link}
 use Rattle.mdb_explained_runs.specs.inner.Chains.{KeepChains}
-use Rattle.mdb_explained_runs.specs.inner.Paths.{AreEntriesWithin, AreLed, IsEntryWithin, IsLed}
+use Rattle.mdb_explained_runs.specs.inner.Paths.{AreEntriesWithin, AreLed, IsEntryWithin}
 use Rattle.mdb_explained_runs.proofs.Bests.{marks-few}
 use Rattle.mdb_explained_runs.proofs.Weights.{weight-near}
 

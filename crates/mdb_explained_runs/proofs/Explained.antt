@@ -1,14 +1,12 @@
 -- The best marks of each device towards a goal, as one list: they explain it.
-use Rattle.std.proofs.Common.{arith, refl, sym, ap, subst, ◌∙◌, ◌≡◌, ℕ, ◌+◌, ◌≤◌, inl, inr, []}
-use Rattle.std.proofs.Common.{List, length, Contains}
+use Rattle.std.proofs.Common.{arith, refl, sym, ap, ◌∙◌, ◌≡◌, ℕ, ◌+◌, ◌≤◌, inl, inr, []}
+use Rattle.std.proofs.Common.{List, length}
 use Rattle.mdb_words.specs.declared.event.Event.{Event}
 use Rattle.mdb_msgs.specs.declared.command.Device.{Device}
 use Rattle.mdb_msgs.specs.declared.device_set.DeviceSet.{DeviceSet}
-use Rattle.mdb_bus.specs.ActLists.{ArePieces, IsActList, Piece, acts_of}
+use Rattle.mdb_bus.specs.ActLists.{IsActList, Piece, acts_of}
 use Rattle.mdb_bus.specs.Bus as link
-use Rattle.mdb_bus.specs.Loss.{Loss, LossFits}
 use Rattle.mdb_bus.specs.Scopes.{profile_of}
-use Rattle.mdb_bus.specs.declared.scope.Beginning.{Beginning}
 use Rattle.mdb_bus.specs.declared.scope.Beginning.TheVariants.{PowerOn}
 use Rattle.mdb_bus.specs.declared.scope.Profile.{Profile}
 use Rattle.mdb_bus.specs.declared.scope.Scope.{Scope}
@@ -16,13 +14,13 @@ use Rattle.mdb_explained_runs.specs.declared.explain.seeker.Seeker.{Seeker}
 use Rattle.mdb_follow.specs.declared.goal.Goal.{Goal}
 use Rattle.mdb_explained_runs.specs.declared.mark.Mark.{Mark}
 use Rattle.mdb_follow.specs.AccountNames.{account_device}
-use Rattle.mdb_follow.specs.Choosing.{AllFollow, Choices, choices_of}
+use Rattle.mdb_follow.specs.Choosing.{Choices}
 use Rattle.mdb_follow.specs.ReportedDevices.{device_place}
 use Rattle.mdb_explained_runs.specs.Goals.{Explains}
 use Rattle.mdb_follow.specs.Machines.{machine_of}
-use Rattle.mdb_explained_runs.specs.Marks.{MarkedRun, choices_in, marks_of, own_marks}
+use Rattle.mdb_explained_runs.specs.Marks.{choices_in, marks_of, own_marks}
 use Rattle.mdb_bus.specs.Scopes.{from_power_on}
-use Rattle.mdb_follow.specs.Runs.{AllSums, IsReached, IsWay, States}
+use Rattle.mdb_follow.specs.Runs.{AllSums, IsReached, States}
 use Rattle.mdb_explained_runs.specs.inner.AllPaths.{AreAllPaths, AreBestBelow, AreBestMarks, HasWay}
 use Rattle.mdb_explained_runs.specs.inner.Merges.{IsMergeOf, IsOfBoth}
 use Rattle.mdb_explained_runs.specs.inner.Seekers.{IsSeeker}
@@ -36,7 +34,7 @@ use Rattle.mdb_explained_runs.proofs.MarkedRuns.{JoinWithChoices, marked-run, ma
 use Rattle.mdb_explained_runs.proofs.Merging.{all_merged, anothers, its_own, merged_more}
 use Rattle.mdb_explained_runs.proofs.Merging.{merged_enough, merged_none, with_own}
 use Rattle.mdb_explained_runs.proofs.OwnMarks.{PartsAreTold, all_together, in_own, own_apart, own_in}
-use Rattle.mdb_explained_runs.proofs.OwnMarks.{own_of_merged, own_rise, together}
+use Rattle.mdb_explained_runs.proofs.OwnMarks.{own_of_merged, own_rise}
 use Rattle.mdb_explained_runs.proofs.OwnMarks.{together_most}
 
 -- what the laws say: ways with the same choices join, rows have one act list, and it is told

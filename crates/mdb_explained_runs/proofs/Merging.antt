@@ -1,5 +1,5 @@
 -- Lists of marks as one: it has their elements, and it rises where they do.
-use Rattle.std.proofs.Common.{ap, arith, refl, subst, sym, ◌≡◌, ◌⊎◌, inl, inr, ℕ, ◌+◌, ◌<◌, ◌≤◌}
+use Rattle.std.proofs.Common.{ap, arith, refl, sym, ◌≡◌, ◌⊎◌, inl, inr, ℕ, ◌+◌, ◌<◌, ◌≤◌}
 use Rattle.std.proofs.Common.{List, [], ◌∷◌, length, get_or, All, Contains}
 use Rattle.std.specs.Prelude.{if◌then◌else◌}
 use Rattle.std.proofs.lemmas.Bool.{false_from_ne_true}
@@ -111,7 +111,12 @@ rises (of_other mark ones others rest front is) rise also apart = (
 -- so two lists become one that is of both
 pub of_both : {one other both : List (ℕ × Mark)} → Merges one other both → IsOfBoth one other both
 of_both is =
-    record { ones = from_one is; others = from_one (turned is); some = from_some is; rise = rises is }
+    record {
+      ones = from_one is;
+      others = from_one (turned is);
+      some = from_some is;
+      rise = rises is;
+    }
 
 -- the marks of a device in place of those that it has
 abbrev pub with_own : Device → List (ℕ × Mark) → (Device → List (ℕ × Mark)) → Device
@@ -141,7 +146,8 @@ module _ (next : Device) (own : List (ℕ × Mark)) (all : Device → List (ℕ 
     not_next device less same = let place = ap device_place same in omega (arith, at, less, place)
 
     -- so it has what it had
-    was : (device : Device) → device_place device < count → with_own next own all device ≡ all device
+    was : (device : Device) → device_place device < count
+        → with_own next own all device ≡ all device
     was device less = anothers device (not_next device less)
 
     -- with the marks of the next device, all are those of one device more

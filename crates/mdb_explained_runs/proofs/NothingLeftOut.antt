@@ -1,5 +1,5 @@
 -- A replay blames no device that is left out, and tells nothing of one.
-use Rattle.std.proofs.Common.{ap, refl, subst, sym, ◌∙◌, ◌≡◌, inl, inr, ℤ, ℕ, pos}
+use Rattle.std.proofs.Common.{ap, subst, sym, ◌∙◌, ◌≡◌, inl, inr, ℤ, ℕ, pos}
 use Rattle.std.specs.Prelude.{◌-ℤ◌}
 use Rattle.std.proofs.Common.{List, [], ◌∷◌, ◌++◌, ◌&&◌, Option, Some, All}
 use Rattle.std.proofs.lemmas.List.Elements.{All-from_recursion}

@@ -1,6 +1,6 @@
 -- A row has one fault with given marks.
 use Rattle.std.proofs.Common.{refl, sym, ap, subst, ◌∙◌, ◌≡◌, ◌⊎◌, inl, inr, ℕ, List, [], ◌∷◌, ◌++◌}
-use Rattle.std.proofs.Common.{Option, Some}
+use Rattle.std.proofs.Common.{Option}
 use Rattle.mdb_words.specs.declared.event.Event.{Event}
 use Rattle.mdb_msgs.specs.declared.command.Device.{Device}
 use Rattle.mdb_bus.specs.declared.act.Act.{Act}
@@ -10,7 +10,6 @@ use Rattle.mdb_bus.specs.declared.scope.Profile.{Profile}
 use Rattle.mdb_bus.specs.declared.scope.Scope.{Scope}
 use Rattle.mdb_bus.specs.Scopes.{profile_of}
 use Rattle.mdb_bus.specs.ActLists.{IsActList, Piece, Whole, acts_of}
-use Rattle.mdb_bus.specs.LinkFaults.{IsLinkFault}
 use Rattle.mdb_machine.specs.declared.choice.Choice.{Choice}
 use Rattle.mdb_machine.specs.Gains.{no_gains}
 use Rattle.mdb_machine.specs.Machine.{Machine}
@@ -20,12 +19,11 @@ use Rattle.mdb_follow.specs.declared.offence.Offence.{Offence}
 use Rattle.mdb_explained_runs.specs.declared.replay.ReplayFault.{ReplayFault}
 use Rattle.mdb_explained_runs.specs.declared.replay.ReplayFault.TheVariants as faults
 use Rattle.mdb_follow.specs.Machines.{machine_of}
-use Rattle.mdb_explained_runs.specs.Marks.{choice_by}
 use Rattle.mdb_follow.specs.Offences.{BreaksLink, act_fault, rule_of}
 use Rattle.mdb_bus.specs.declared.fault.LinkFault.{LinkFault}
 use Rattle.mdb_explained_runs.specs.ReplayFaults.{BreaksMarkedMachine, HasMarkedRun, HasNoMarkedStep}
 use Rattle.mdb_explained_runs.specs.ReplayFaults.{IsMarkFault, IsReplayFault, IsReplayOffence}
-use Rattle.mdb_explained_runs.specs.ReplayFaults.{MayStandAt, MayStandOnNewest}
+use Rattle.mdb_explained_runs.specs.ReplayFaults.{MayStandOnNewest}
 use Rattle.mdb_explained_runs.specs.Tracks.{HasNoStepFrom}
 use Rattle.mdb_follow.proofs.Machines.{is_machine_of, of_or_not, whose, whose_is}
 use Rattle.mdb_follow.proofs.OneAnswer.{BusLaws}

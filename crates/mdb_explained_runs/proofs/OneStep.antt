@@ -1,6 +1,6 @@
 -- From power-on a machine has one step at most by an act under a choice, from a state: so it has
 -- one way through acts with given choices.
-use Rattle.std.proofs.Common.{sym, ap, refl, subst, ◌∙◌, ◌≡◌, ◌↔◌, inl, inr, Bool, true, false}
+use Rattle.std.proofs.Common.{sym, ap, refl, ◌∙◌, ◌≡◌, ◌↔◌, inl, inr, Bool, true, false}
 use Rattle.std.proofs.Common.{List, [], ◌∷◌, ◌++◌, Option, Some, None}
 use Rattle.std.specs.Prelude.{IsSomeAnd}
 use Rattle.std.proofs.lemmas.List.{append_cancel_left}
@@ -33,15 +33,12 @@ use Rattle.mdb_cash.specs.BillFacts as bill_facts
 use Rattle.mdb_cash.specs.Changer as changer
 use Rattle.mdb_cash.specs.ChangerValues as changer_values
 use Rattle.mdb_cash.specs.ChangerFacts as changer_facts
-use Rattle.mdb_machine.specs.Gains.{Stays, device_gains, in_slots}
+use Rattle.mdb_machine.specs.Gains.{Stays}
 use Rattle.mdb_machine.specs.Keeper.{Facts, Tables}
-use Rattle.mdb_machine.specs.KeeperSteps.{AckStep, Conduct, KeeperStep, ReplyStep, worth}
+use Rattle.mdb_machine.specs.KeeperSteps.{AckStep, Conduct, KeeperStep, ReplyStep}
 use Rattle.mdb_machine.specs.Kept.{IsNew}
 use Rattle.mdb_machine.specs.Machine.{Machine}
-use Rattle.mdb_machine.specs.Past.{or_else}
 use Rattle.mdb_cash.specs.shared.BillCodes.{same_type}
-use Rattle.mdb_cashless.specs.declared.reader.device.DeviceState.{DeviceState}
-use Rattle.mdb_cashless.specs.declared.reader.messages.ReaderActivity.{ReaderActivity}
 use Rattle.mdb_cashless.specs.declared.reader.state.ReaderState.{ReaderState}
 use Rattle.mdb_cashless.specs.declared.by_profile.state.StateByProfile.{StateByProfile}
 use Rattle.mdb_cashless.specs.declared.by_profile.state.StateByProfile.TheVariants.{Base, Extended}
@@ -50,11 +47,8 @@ use Rattle.mdb_cashless.specs.ByProfile.{StepOf, base_state, extended_state, mac
 use Rattle.mdb_cashless.specs.ExtendedReader as extended
 use Rattle.mdb_cashless.specs.shared.ByProfileWays.{IsPart, base_part, extended_part}
 use Rattle.mdb_cashless.specs.Reader as reader
-use Rattle.mdb_cashless.specs.ReaderDevice.{all_told}
 use Rattle.mdb_cashless.specs.ReaderFacts as reader_facts
 use Rattle.mdb_cashless.specs.ReaderValues as reader_values
-use Rattle.mdb_cashless.specs.ReaderMessages.{config_in, last_said, messages_of}
-use Rattle.mdb_cashless.specs.Transactions.{amounts}
 use Rattle.mdb_cashless.specs.Units.{own}
 use Rattle.mdb_follow.specs.Choosing.{Choices, Follows}
 use Rattle.mdb_follow.specs.Machines.{machine_of}

@@ -1,5 +1,5 @@
 -- The marks of a run by devices: each is of one device.
-use Rattle.std.proofs.Common.{arith, refl, sym, ap, subst, ◌∙◌, ◌≡◌, ◌↔◌, ◌⊎◌, inl, inr}
+use Rattle.std.proofs.Common.{arith, refl, sym, ap, ◌∙◌, ◌≡◌, ◌↔◌, ◌⊎◌, inl, inr}
 use Rattle.std.proofs.Common.{ℕ, ◌+◌, ◌<◌, ◌≤◌, Bool, true, false, if◌then◌else◌}
 use Rattle.std.proofs.Common.{List, [], ◌∷◌, ◌++◌, get_or, length, length-append, All, Contains}
 use Rattle.std.proofs.lemmas.List.{append-nil}
@@ -261,7 +261,8 @@ module _ (told : PartsAreTold) where
         ]
         | inr last ↦ elim (own_cases scope act events pieces chosen are other next also) [
           | inl before ↦ absurd (omega (arith, same, before, last))
-          | inr too ↦ part_of_one act chosen.choice _ chosen.stands mark last.1 one other last.0 too.0
+          | inr too ↦ part_of_one act chosen.choice _ chosen.stands mark last.1 one other last.0
+              too.0
         ]
       ]
   own_apart scope (tail ∷ pieces) chosen are one other mark next has also same =

@@ -1,6 +1,6 @@
 -- The entries of the best ways through no act: one for each state in which a machine may start.
-use Rattle.std.proofs.Common.{arith, inl, inr, refl, sym, subst, ap, ◌∙◌, ◌≡◌, ◌+◌, ◌<◌, ℕ}
-use Rattle.std.proofs.Common.{List, [], ◌∷◌, ◌++◌, Contains}
+use Rattle.std.proofs.Common.{arith, inl, inr, refl, sym, ◌∙◌, ◌≡◌, ◌+◌, ◌<◌, ℕ}
+use Rattle.std.proofs.Common.{List, [], ◌∷◌, ◌++◌}
 use Rattle.std.proofs.lemmas.Bool.{cases_eq}
 use Rattle.std.proofs.lemmas.List.Elements.{Contains-append_left, Contains-push}
 use Rattle.std.proofs.lemmas.List.Elements.{Contains-push_cases}

@@ -1,10 +1,9 @@
 -- The best ways of one device: through no act, and through one act more.
-use Rattle.std.proofs.Common.{arith, refl, sym, subst, ap, ◌∙◌, ◌≡◌, ◌↔◌, ◌==◌, ◌+◌, ◌<◌, ◌≤◌, ℕ}
-use Rattle.std.proofs.Common.{pos, ◌+ℤ◌, List, [], ◌∷◌, ◌++◌, length, get_or, Contains, Bool, true, false}
+use Rattle.std.proofs.Common.{arith, refl, sym, subst, ap, ◌∙◌, ◌≡◌, ◌↔◌, ◌+◌, ◌<◌, ℕ}
+use Rattle.std.proofs.Common.{List, [], ◌∷◌, ◌++◌, length, get_or, Contains, Bool, true, false}
 use Rattle.std.proofs.Common.{if◌then◌else◌, length-append, take}
 use Rattle.std.proofs.lemmas.Int.{ints}
 use Rattle.std.proofs.lemmas.List.{append-nil, take_more}
-use Rattle.std.specs.Prelude.{All}
 use Rattle.std.proofs.lemmas.List.Elements.{All-append, All-cons, All-contains, All-nil}
 use Rattle.std.proofs.lemmas.List.Elements.{Contains-get_or}
 use Rattle.mdb_words.specs.declared.event.Event.{Event}
@@ -32,7 +31,7 @@ use Rattle.mdb_explained_runs.specs.inner.Paths.{HasAsGood, IsLed, IsPath, IsPat
 use Rattle.mdb_explained_runs.specs.inner.Paths.{no_path}
 use Rattle.mdb_explained_runs.specs.inner.Weights.{weigh, weight_of}
 use Rattle.mdb_explained_runs.proofs.Bests.{as_good-more, has-weaker}
-use Rattle.mdb_follow.proofs.Listed.{contains-none, nil-told}
+use Rattle.mdb_follow.proofs.Listed.{contains-none}
 use Rattle.mdb_explained_runs.proofs.Weights.{weigh-adds, weigh-none, weight-none}
 
 -- through no act
@@ -173,7 +172,8 @@ module _ {State : Type 0} {number row : ℕ} {code_of : State → ℕ} {device :
   }
 
   -- where there is no entry, no way leads over the act
-  pub no-way : entries ≡ [] → (chosen : Choices (act ∷ acts_of pieces)) (state : State) (sums : Sums)
+  pub no-way : entries ≡ []
+      → (chosen : Choices (act ∷ acts_of pieces)) (state : State) (sums : Sums)
       → Follows machine (act ∷ acts_of pieces) chosen state sums → ⊥
   no-way none chosen state sums way =
       let has = has-led state sums chosen way in
@@ -186,7 +186,14 @@ module _ {State : Type 0} {number row : ℕ} {code_of : State → ℕ} {device :
 weigh-same : (weight : Weight) (sums : Sums) (gains : Gains) → gains ≡ no_gains
     → weigh weight (added sums gains) ≡ weigh weight sums
 weigh-same weight sums gains same =
-    omega (arith, ints, weigh-adds weight sums gains, ap (weight_of weight) same, weight-none weight)
+    omega (
+      arith,
+      ints,
+      weigh-adds weight sums gains,
+      ap (weight_of weight) same,
+      weight-none
+          weight,
+    )
 
 no-more : (b : Bool) (own : List (ℕ × Mark)) → own ++ (if b then [] else []) ≡ own
 no-more true own = append-nil own

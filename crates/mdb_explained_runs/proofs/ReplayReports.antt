@@ -1,5 +1,5 @@
 -- What a replay reports: it is one, and where the marks explain a goal, it comes to its end.
-use Rattle.std.proofs.Common.{arith, refl, sym, ap, subst, ◌∙◌, ◌≡◌, ℕ, ℤ, ◌≤ℤ◌, ◌-ℤ◌, pos, List, length}
+use Rattle.std.proofs.Common.{arith, refl, sym, ap, subst, ◌∙◌, ◌≡◌, ℕ, ℤ, ◌-ℤ◌, pos, List, length}
 use Rattle.std.proofs.lemmas.Int.{ints}
 use Rattle.mdb_words.specs.declared.event.Event.{Event}
 use Rattle.mdb_msgs.specs.declared.command.Device.{Device}
@@ -137,8 +137,8 @@ comes_to_the_end scope rows goal marks checked replayed explains of_runs of_run 
           ∙ (same its.greatest.0 explains.sums its.greatest.1 explains.marked ∙ end),
     )
 
-module _ (known : AllIsKnown) (scope : Scope) (one : OneActList scope) (rows : List Event) (marks : List (ℕ × Mark))
-    (begins : scope.begins ≡ PowerOn (profile_of scope.begins)) where
+module _ (known : AllIsKnown) (scope : Scope) (one : OneActList scope) (rows : List Event)
+    (marks : List (ℕ × Mark)) (begins : scope.begins ≡ PowerOn (profile_of scope.begins)) where
   -- from power-on, runs with the same marks come to the same sums
   only_sums : (sums other : AllSums) → MarkedRun scope rows marks sums
       → MarkedRun scope rows marks other → (device : Device) → other device ≡ sums device

@@ -1,6 +1,6 @@
 -- What a replay that stands for events and marks goes on to, and what it answers.
 use Rattle.std.proofs.Common.{refl, sym, ap, subst, ◌∙◌, ◌≡◌, inl, inr, ℕ, ◌+◌, List, [], ◌∷◌, ◌++◌}
-use Rattle.std.proofs.Common.{Bool, true, false, IsTrue, ◌↔◌, length, length-append, Option, Some}
+use Rattle.std.proofs.Common.{◌↔◌, length, length-append, Option, Some}
 use Rattle.std.proofs.Common.{None}
 use Rattle.mdb_words.specs.declared.event.Event.{Event}
 use Rattle.mdb_msgs.specs.declared.command.Device.{Device}
@@ -10,20 +10,18 @@ use Rattle.mdb_bus.specs.declared.act.Act.{Act}
 use Rattle.mdb_bus.specs.declared.act.Act.TheVariants as acts
 use Rattle.mdb_bus.specs.declared.bus.Bus.{Bus}
 use Rattle.mdb_bus.specs.declared.fault.LinkFault.{LinkFault}
-use Rattle.mdb_bus.specs.declared.scope.Beginning.{Beginning}
 use Rattle.mdb_bus.specs.declared.scope.Beginning.TheVariants.{PowerOn}
 use Rattle.mdb_bus.specs.declared.scope.Profile.{Profile}
 use Rattle.mdb_bus.specs.declared.scope.Profile.TheVariants.{Extended}
 use Rattle.mdb_bus.specs.declared.scope.Scope.{Scope}
 use Rattle.mdb_bus.specs.Scopes.{profile_of}
-use Rattle.mdb_bus.specs.ActLists.{ArePieces, IsActList, Piece, Whole, acts_of, events_of}
+use Rattle.mdb_bus.specs.ActLists.{IsActList, Piece, Whole, acts_of, events_of}
 use Rattle.mdb_bus.specs.Pieces.{HasActList, IsTail, act_in}
 use Rattle.mdb_bus.specs.Bus as link
-use Rattle.mdb_bus.specs.Bus.{GoesOn, Grown, ended_act}
+use Rattle.mdb_bus.specs.Bus.{GoesOn, Grown}
 use Rattle.mdb_bus.specs.LinkFaults.{IsLinkFault}
 use Rattle.mdb_bus.specs.ExtendedTimes.{AreFew, times_of}
 use Rattle.mdb_bus.specs.declared.untimely.Untimely.{Untimely}
-use Rattle.mdb_bus.specs.Loss.{Loss, LossFits}
 use Rattle.mdb_machine.specs.declared.choice.Choice.{Choice}
 use Rattle.mdb_machine.specs.Choices.{CanStand}
 use Rattle.mdb_follow.specs.declared.cell.Cell.{Cell}
@@ -34,15 +32,15 @@ use Rattle.mdb_explained_runs.specs.declared.replay.Replay.{Replay}
 use Rattle.mdb_explained_runs.specs.declared.replay.ReplayFault.{ReplayFault}
 use Rattle.mdb_follow.specs.declared.report.Report.{Report}
 use Rattle.mdb_explained_runs.specs.declared.tracks.Tracks.{Tracks}
-use Rattle.mdb_follow.specs.Cells.{account_by, IsCell}
-use Rattle.mdb_follow.specs.Choosing.{AllFollow, Choices, choices_of}
+use Rattle.mdb_follow.specs.Cells.{account_by}
+use Rattle.mdb_follow.specs.Choosing.{AllFollow, Choices}
 use Rattle.mdb_explained_runs.specs.Marks.{MarkedRun, choice_by, marks_of, with_mark}
 use Rattle.mdb_follow.specs.Machines.{machine_of}
 use Rattle.mdb_explained_runs.specs.ReplayFaults.{IsMarkFault, IsReplayFault, IsReplayOffence}
 use Rattle.mdb_explained_runs.specs.ReplayFaults.{MayStandAt, MayStandOnNewest}
 use Rattle.mdb_explained_runs.specs.Replays.{IsReplayReport, StandsFor, scope_of}
 use Rattle.mdb_follow.specs.Report.{report_of}
-use Rattle.mdb_follow.specs.Runs.{AllSums, IsWay, States}
+use Rattle.mdb_follow.specs.Runs.{AllSums}
 use Rattle.mdb_follow.specs.Silences.{asks_of}
 use Rattle.mdb_explained_runs.specs.Tracks.{AreTracks, HasNoStepFrom, chosen_more, track_in}
 use Rattle.mdb_explained_runs.specs.inner.ReplaySteps.{HasReplayed, HasStopped}
@@ -144,7 +142,8 @@ pub stands-still : {old new : Replay} {events : List Event} {marks : List (ℕ �
     → scope_of new ≡ scope_of old → new.tracks ≡ old.tracks → new.silences ≡ old.silences
     → new.rows ≡ old.rows + 1 → new.fault ≡ old.fault
     → new.untimely ≡ times_of (scope_of new) goes.longer → StandsFor new (events ++ row ∷ []) marks
-stands-still {old} {events = events} {marks} {row} on goes same_scope same_tracks same_silences more same
+stands-still {old} {events = events} {marks} {row} on goes same_scope same_tracks same_silences more
+    same
     times =
     let known = after-none (Known on.profile old.tracks marks) tail-known goes.grown
     (known-of on) in

@@ -1,10 +1,8 @@
 -- A seeker goes on row by row.
-use Rattle.std.proofs.Common.{arith, inl, inr, refl, sym, subst, ap, ◌∙◌, ◌≡◌, ◌↔◌, ◌+◌, ◌*◌, ◌^◌, ◌≤◌, ◌<◌}
+use Rattle.std.proofs.Common.{arith, sym, subst, ap, ◌∙◌, ◌≡◌, ◌↔◌, ◌+◌, ◌*◌, ◌^◌, ◌≤◌, ◌<◌}
 use Rattle.std.proofs.Common.{ℕ, List, [], ◌∷◌, ◌++◌, length, length-append, Option, Some, None, Bool, true, false}
 use Rattle.std.proofs.Common.{add-one, append_assoc, drop, get_or, take}
 use Rattle.std.proofs.Math.Seq.{split_at}
-use Rattle.std.proofs.lemmas.Bool.{false≢true}
-use Rattle.std.proofs.lemmas.Option.{none-some, same_Some}
 use Rattle.std.specs.Bool.{OnFalse, OnTrue}
 use Rattle.mdb_words.specs.declared.event.Event.{Event}
 use Rattle.mdb_msgs.specs.declared.command.Device.{Device}
@@ -14,8 +12,8 @@ use Rattle.mdb_bus.specs.declared.scope.Beginning.TheVariants.{PowerOn}
 use Rattle.mdb_bus.specs.declared.scope.Profile.{Profile}
 use Rattle.mdb_bus.specs.declared.scope.Scope.{Scope}
 use Rattle.mdb_bus.specs.ActLists.{IsActList, Piece, Whole}
-use Rattle.mdb_bus.specs.Pieces.{IsTail, act_in}
-use Rattle.mdb_bus.specs.ActLists.{acts_of, events_of, piece_events}
+use Rattle.mdb_bus.specs.Pieces.{IsTail}
+use Rattle.mdb_bus.specs.ActLists.{acts_of, events_of}
 use Rattle.mdb_bus.specs.Bus as link
 use Rattle.mdb_bus.specs.Bus.{GoesOn, Grown}
 use Rattle.mdb_explained_runs.specs.declared.explain.all_paths.AllPaths.{AllPaths}
@@ -25,9 +23,7 @@ use Rattle.mdb_explained_runs.specs.inner.Seekers.{IsSeeker}
 use Rattle.mdb_follow.specs.Tables.{EachArrives}
 use Rattle.mdb_follow.specs.Machines.{machine_of}
 use Rattle.mdb_follow.specs.Runs.{IsReached}
-use Rattle.mdb_follow.specs.Sides.{code_of, codes_of, stands_for}
 use Rattle.mdb_explained_runs.specs.inner.AllPaths.{AreAllPaths, AreAllWithin, HasNoWay}
-use Rattle.mdb_explained_runs.specs.inner.AllPaths.{paths_in, weight_for}
 use Rattle.mdb_explained_runs.proofs.Chains.{keep-same}
 use Rattle.mdb_explained_runs.proofs.Replaying.{after-none, before-newest, newest-whole}
 use Rattle.mdb_follow.proofs.Choosing.{chosen}
@@ -57,7 +53,8 @@ module _ (profile : Profile) (goal : Goal) (all : AllPaths) {pieces longer : Lis
   -- the paths are those through the pieces that come before the newest of those that have gone on
   earlier-paths : {act : Option Act} (grown : Grown pieces row act longer)
       → AreAllPaths profile goal pieces all → AreAllPaths profile goal grown.earlier all
-  earlier-paths = before-newest (λ ps. AreAllPaths profile goal ps all) (tail-paths profile goal all)
+  earlier-paths = before-newest (λ ps. AreAllPaths profile goal ps all)
+      (tail-paths profile goal all)
 
   -- where no act ended
   pub still-paths : Grown pieces row None longer → AreAllPaths profile goal pieces all
@@ -142,7 +139,8 @@ reached-next scope fronts events i d within reached =
 pub seeks-on : {goal : Goal} {events : List Event} {old new : Seeker} {row : Event}
     {act : Option Act} (on : IsSeeker goal events old) (goes : GoesOn new.bus on.pieces row act)
     → link.scope_of new.bus ≡ link.scope_of old.bus → new.rows ≡ old.rows + 1
-    → AreAllPaths on.profile goal goes.longer new.all → AreAllWithin ((old.rows + 1) * 2 ^ 32) new.all
+    → AreAllPaths on.profile goal goes.longer new.all
+    → AreAllWithin ((old.rows + 1) * 2 ^ 32) new.all
     → IsSeeker goal (events ++ row ∷ []) new
 seeks-on {events = events} {row = row} on goes same rows paths within = record {
   profile = on.profile;

@@ -1,23 +1,22 @@
 -- A piece of more rows than one without its last row: a tail of the others, which may stand where
 -- the piece stands. (Of a foreign block of two words that isn't shown here.)
-use Rattle.std.proofs.Common.{arith, refl, sym, subst, ◌∙◌, ◌≡◌, ◌≢◌, ◌⊎◌, inl, inr, ◌+◌, ◌≤◌, ◌%◌}
-use Rattle.std.proofs.Common.{ℕ, List, []}
+use Rattle.std.proofs.Common.{arith, refl, sym, subst, ◌∙◌, ◌≡◌, ◌≢◌, ◌⊎◌, inl, inr, ◌+◌, ◌%◌}
+use Rattle.std.proofs.Common.{List, []}
 use Rattle.std.proofs.Common.{◌∷◌, ◌++◌, Option, IsSome, length, sum, append_assoc}
 use Rattle.std.proofs.Common.{length-append}
 use Rattle.std.proofs.lemmas.List.{same_from_push}
 use Rattle.mdb_words.specs.declared.event.Event.{Event}
 use Rattle.mdb_words.specs.declared.event.Event.TheVariants.{Break}
-use Rattle.mdb_words.specs.declared.word.Line.TheVariants.{Controller, Peripheral}
-use Rattle.mdb_blocks.specs.Block.{block_of, controller_words}
+use Rattle.mdb_words.specs.declared.word.Line.TheVariants.{Peripheral}
+use Rattle.mdb_blocks.specs.Block.{block_of}
 use Rattle.mdb_msgs.specs.declared.answer.DataForm.{DataForm}
-use Rattle.mdb_msgs.specs.declared.command.Command.{Command}
 use Rattle.mdb_msgs.specs.declared.reply.Reply.{Reply}
 use Rattle.mdb_msgs.specs.Commands.{IsByte, command_bytes}
 use Rattle.mdb_msgs.specs.Replies.{reply_bytes}
 use Rattle.mdb_bus.specs.declared.act.Act.TheVariants as acts
 use Rattle.mdb_bus.specs.declared.scope.Profile.{Profile}
 use Rattle.mdb_bus.specs.declared.scope.Scope.{Scope}
-use Rattle.mdb_bus.specs.Acts.{Say, command_words, reply_words}
+use Rattle.mdb_bus.specs.Acts.{reply_words}
 use Rattle.mdb_bus.specs.ActLists.{AreSpaced, AskTail, IsAskFront, IsPiece, IsRepeatFront}
 use Rattle.mdb_bus.specs.ActLists.{IsReplyFront, IsSaid, MayCome, MayStand, Piece}
 use Rattle.mdb_bus.specs.Pieces.{IsTail}
@@ -59,8 +58,10 @@ module _ (scope : Scope) (rest : List Piece) (front : List Event) (row : Event)
   as_tail : (piece tail : Piece) → piece_events piece ≡ front ++ row ∷ [] → IsPiece scope piece
       → MayStand scope rest piece → IsTail tail → piece_events tail ≡ front → IsSaid scope tail
       → ((to : Event)
-      → MayCome (profile_of scope.begins) piece (position_of scope rest) (last_of (events_of rest)) to
-      → MayCome (profile_of scope.begins) tail (position_of scope rest) (last_of (events_of rest)) to)
+      → MayCome (profile_of scope.begins) piece (position_of scope rest)
+      (last_of (events_of rest)) to
+      → MayCome (profile_of scope.begins) tail (position_of scope rest)
+      (last_of (events_of rest)) to)
       → PieceFits scope.begins (levels_of (profile_of scope.begins) (levels_before scope) rest) tail
       → TailOf scope rest front
   as_tail piece tail long right stands is short said may levels =

@@ -109,8 +109,8 @@ module _ {State : Type 0} {number row : ℕ} {code_of : State → ℕ}
     };
   }
 
-  -- what the plain step leads to is taken in, and then what that by a second choice does: each other
-  -- choice leads nowhere else than this one
+  -- what the plain step leads to is taken in, and then what that by a second choice does: each
+  -- other choice leads nowhere else than this one
   pub takes-both : {Can : Choice → Type 0} {old_links mid_links links : List Link}
       {before : ℕ × Best} {old mid new : List (ℕ × Best)} (second : Choice) → Can Plain
       → Can second
@@ -209,4 +209,5 @@ module _ {State : Type 0} {number row : ℕ} {code_of : State → ℕ}
         → TakesSteps number Can code_of Step weight row mid_links links (get_or from i d) old new
         → AreLed number Can code_of Step weight row old_links links (take (i + 1) from) new
     led-read from i d within first last led takes =
-        rw (take_more from i d within) (led-push (take i from) (get_or from i d) first last led takes)
+        rw (take_more from i d within)
+        (led-push (take i from) (get_or from i d) first last led takes)

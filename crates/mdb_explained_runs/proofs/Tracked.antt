@@ -1,11 +1,9 @@
 -- Tracks go on by the only step of their machine: that of one device, those of all, and those that
 -- have no part in an act.
-use Rattle.std.proofs.Common.{arith, refl, sym, ap, subst, ◌∙◌, ◌≡◌, ◌≤◌, ◌+◌, ◌*◌, ◌^◌, ℕ, List, ◌∷◌}
+use Rattle.std.proofs.Common.{arith, refl, sym, ap, ◌∙◌, ◌≡◌, ◌≤◌, ◌+◌, ◌*◌, ◌^◌, ℕ, List, ◌∷◌}
 use Rattle.std.proofs.Common.{Some, ◌<◌, get_or, inl, inr, Ok, Err, Result}
 use Rattle.std.specs.Prelude.{IfErr, IfOk, OnErr}
 use Rattle.mdb_msgs.specs.declared.command.Device.{Device}
-use Rattle.mdb_msgs.specs.declared.command.Device.TheVariants as devices
-use Rattle.mdb_msgs.specs.declared.command.ReaderUnit.TheVariants.{First, Second}
 use Rattle.mdb_bus.specs.declared.act.Act.{Act}
 use Rattle.mdb_bus.specs.declared.fault.Rule.{Rule}
 use Rattle.mdb_bus.specs.declared.scope.Beginning.TheVariants.{PowerOn}
@@ -19,14 +17,13 @@ use Rattle.mdb_machine.specs.Machine.{Machine}
 use Rattle.mdb_machine.specs.Pair.{IsActOf, IsOnlyStep}
 use Rattle.mdb_explained_runs.specs.declared.track.Track.{Track}
 use Rattle.mdb_explained_runs.specs.declared.tracks.Tracks.{Tracks}
-use Rattle.mdb_follow.specs.Cells.{IsCell, moved_cell}
+use Rattle.mdb_follow.specs.Cells.{moved_cell}
 use Rattle.mdb_follow.specs.Sums.{added}
 use Rattle.mdb_follow.specs.declared.report.TheConstants.Report.{DEVICES}
 use Rattle.mdb_follow.specs.Choosing.{Choices}
 use Rattle.mdb_follow.specs.Machines.{machine_of}
 use Rattle.mdb_follow.specs.Offences.{rule_of}
 use Rattle.mdb_explained_runs.specs.Tracks.{HasNoStepFrom, IsTrackOf, TrackOf, track_in}
-use Rattle.mdb_follow.specs.Limits.{IsCellWithin}
 use Rattle.mdb_explained_runs.specs.inner.TrackSteps.{AreTracksWithin, IsTrackWithin, Leads}
 use Rattle.mdb_explained_runs.specs.inner.TrackSteps.{LeadsOf, OneLeads, TrackStops, TracksLead}
 use Rattle.mdb_explained_runs.specs.inner.TrackSteps.{TracksStop}

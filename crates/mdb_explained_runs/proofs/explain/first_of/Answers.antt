@@ -22,11 +22,11 @@ returns-in-None-clause-goes c =
 pub returns-then-next-mark-clause-goes : goal.returns-then-next-mark-clause-goes
 returns-then-next-mark-clause-goes c =
     rw (c.in-Some.ensures.cases.0, c.in-Some-split_first.ensures.cases.0)
-    (λ rest. of_other c.in-Some-split_first.next.now (c.in-Some.mark.now ∷ c.in-Some.more.now) _ rest
-    (omega (arith, c.if-next-mark.true)))
+    (λ rest. of_other c.in-Some-split_first.next.now (c.in-Some.mark.now ∷ c.in-Some.more.now)
+    _ rest (omega (arith, c.if-next-mark.true)))
 
 pub returns-else-next-mark-clause-goes : goal.returns-else-next-mark-clause-goes
 returns-else-next-mark-clause-goes c =
+    let other = c.in-Some-split_first.next.now ∷ c.in-Some-split_first.further.now in
     rw (c.in-Some.ensures.cases.0, c.in-Some-split_first.ensures.cases.0)
-    (λ rest. of_one c.in-Some.mark.now _ (c.in-Some-split_first.next.now ∷ c.in-Some-split_first.further.now) rest
-    (omega (arith, c.if-next-mark.false)))
+    (λ rest. of_one c.in-Some.mark.now _ other rest (omega (arith, c.if-next-mark.false)))

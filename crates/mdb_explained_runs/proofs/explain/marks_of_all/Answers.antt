@@ -1,8 +1,7 @@
 -- The marks of each device become one list, one after the other.
-use Rattle.std.proofs.Common.{get_or, subst, sym}
+use Rattle.std.proofs.Common.{get_or}
 use Rattle.mdb_follow.specs.declared.report.TheConstants.Report.{DEVICES}
 use Rattle.mdb_follow.proofs.ByDevice.{placed}
-use Rattle.mdb_explained_runs.specs.inner.AllPaths.{AreBestBelow}
 use Rattle.mdb_explained_runs.proofs.Explained.{best_enough, best_more, best_none}
 use Rattle.mdb_explained_runs.proofs.explain.marks_of_all.Goals as goal
 

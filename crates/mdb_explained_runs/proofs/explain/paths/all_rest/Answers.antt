@@ -1,8 +1,6 @@
 -- Each entry rests, up to the last.
-use Rattle.std.proofs.Common.{subst}
 use Rattle.std.proofs.lemmas.List.{take_all}
 use Rattle.mdb_bus.specs.declared.scope.Beginning.TheVariants.{PowerOn}
-use Rattle.mdb_explained_runs.specs.inner.Paths.{AllRest}
 use Rattle.mdb_explained_runs.proofs.Paths.{rests-more}
 use Rattle.mdb_explained_runs.proofs.explain.paths.all_rest.Goals as goal
 

@@ -1,7 +1,6 @@
 -- The best so far is the best of all at the end.
-use Rattle.std.proofs.Common.{◌∙◌, ◌≡◌, ◌+◌, ◌∷◌, sym, subst}
-use Rattle.mdb_explained_runs.specs.inner.Paths.{IsBestOf, no_path}
-use Rattle.mdb_explained_runs.proofs.Bests.{IsBestSoFar, best-goes, best-last, best-stays}
+use Rattle.mdb_explained_runs.specs.inner.Paths.{no_path}
+use Rattle.mdb_explained_runs.proofs.Bests.{best-goes, best-last, best-stays}
 use Rattle.mdb_explained_runs.proofs.explain.paths.best_of.Goals as goal
 use Rattle.mdb_explained_runs.proofs.explain.paths.best_of.Goals.{then-is_worse_than, else-is_worse_than}
 

@@ -1,10 +1,6 @@
 -- The entries after an act are what the steps from each entry lead to.
-use Rattle.std.proofs.Common.{arith, rules, ℕ, List, subst}
+use Rattle.std.proofs.Common.{arith, rules}
 use Rattle.std.proofs.lemmas.List.{take_all}
-use Rattle.mdb_bus.specs.declared.scope.Beginning.TheVariants.{PowerOn}
-use Rattle.mdb_machine.specs.Choices.{CanStand}
-use Rattle.mdb_explained_runs.specs.declared.explain.best.Best.{Best}
-use Rattle.mdb_explained_runs.specs.inner.Paths.{AreLed}
 use Rattle.mdb_explained_runs.proofs.Chains.{keep-then}
 use Rattle.mdb_explained_runs.proofs.EntryLimits.{entry-within-kept}
 use Rattle.mdb_explained_runs.proofs.Steps.{led-read}

@@ -1,12 +1,8 @@
 -- Paths are led over an act: by steps from their entries, or by resting.
-use Rattle.std.proofs.Common.{arith, rules, ap, ◌∙◌, ◌≡◌, ◌==◌, ◌+◌, ◌^◌, ℕ, List, [], length, Bool, true}
+use Rattle.std.proofs.Common.{arith, rules, ap, ◌∙◌, ◌≡◌, ◌==◌, ℕ, List, [], length, Bool, true}
 use Rattle.mdb_bus.specs.declared.scope.Beginning.TheVariants.{PowerOn}
-use Rattle.mdb_bus.specs.ActLists.{Whole, acts_of}
-use Rattle.mdb_machine.specs.Choices.{CanStand}
+use Rattle.mdb_bus.specs.ActLists.{acts_of}
 use Rattle.mdb_machine.specs.shared.OwnWays.{decides}
-use Rattle.mdb_explained_runs.specs.declared.explain.best.Best.{Best}
-use Rattle.mdb_explained_runs.specs.declared.explain.chains.Link.{Link}
-use Rattle.mdb_explained_runs.specs.inner.Paths.{AreEntriesWithin, IsPaths}
 use Rattle.mdb_explained_runs.proofs.EntryLimits.{all-led-within, entries-within-kept}
 use Rattle.mdb_explained_runs.proofs.Chains.{keep-same}
 use Rattle.mdb_follow.proofs.Listed.{nil-told}

@@ -1,8 +1,5 @@
 -- An act that matters to no entry leaves each.
-use Rattle.std.proofs.Common.{subst, ℕ, List}
 use Rattle.mdb_bus.specs.declared.scope.Beginning.TheVariants.{PowerOn}
-use Rattle.mdb_explained_runs.specs.declared.explain.best.Best.{Best}
-use Rattle.mdb_explained_runs.specs.inner.Paths.{AllRest}
 use Rattle.mdb_explained_runs.proofs.explain.paths.matters.Goals as goal
 
 pub returns-then-not-concerns-clause-still : goal.returns-then-not-concerns-clause-still

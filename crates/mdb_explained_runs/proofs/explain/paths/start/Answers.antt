@@ -1,5 +1,4 @@
 -- The ways through no act are those of the states in which a machine may start.
-use Rattle.mdb_bus.specs.declared.scope.Beginning.TheVariants.{PowerOn}
 use Rattle.mdb_explained_runs.proofs.Paths.{start-paths, start-within}
 use Rattle.mdb_explained_runs.proofs.explain.paths.start.Goals as goal
 

@@ -1,9 +1,6 @@
 -- Each state in which the machine may start has its entry.
-use Rattle.std.proofs.Common.{arith, rules, ap, ◌∙◌, ◌+◌, ℕ, List, sym, subst}
+use Rattle.std.proofs.Common.{arith, rules, ◌∙◌, sym}
 use Rattle.std.proofs.lemmas.Bool.{false≢true}
-use Rattle.mdb_bus.specs.declared.scope.Beginning.TheVariants.{PowerOn}
-use Rattle.mdb_explained_runs.specs.declared.explain.best.Best.{Best}
-use Rattle.mdb_explained_runs.specs.inner.Paths.{AreStarts}
 use Rattle.mdb_explained_runs.proofs.PathStarts.{more-starts, same-starts}
 use Rattle.mdb_explained_runs.proofs.explain.paths.starts.Goals as goal
 use Rattle.mdb_explained_runs.proofs.explain.paths.starts.Goals.{then-may_start+in_ok-push, else-may_start}

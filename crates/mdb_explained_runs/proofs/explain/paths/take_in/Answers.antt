@@ -1,13 +1,9 @@
 -- A way that goes on is taken in, or one that is as good stays.
-use Rattle.std.proofs.Common.{arith, ap, refl, sym, subst, ◌≡◌, ◌+◌}
-use Rattle.std.proofs.Common.{to_z, of_z, w64}
+use Rattle.std.proofs.Common.{arith, ap, refl, sym, ◌+◌}
+use Rattle.std.proofs.Common.{w64}
 use Rattle.std.proofs.lemmas.Int.{to_z-of_z}
-use Rattle.mdb_explained_runs.specs.declared.explain.best.Best.{Best}
-use Rattle.mdb_explained_runs.specs.inner.Paths.{HasAsGood}
-use Rattle.mdb_explained_runs.specs.inner.Paths.{LinksGoOnFrom, TakesIn}
 use Rattle.mdb_explained_runs.proofs.Bests.{has-counted, has-push, has-set, has-still, takes-push}
 use Rattle.mdb_explained_runs.proofs.Bests.{takes-same, takes-set}
-use Rattle.mdb_explained_runs.proofs.Chains.{keep-same}
 use Rattle.mdb_explained_runs.proofs.Bests.{good-read, marks-few}
 use Rattle.mdb_explained_runs.proofs.explain.paths.take_in.Goals as goal
 
@@ -48,9 +44,6 @@ returns-then-not-is_beaten_by-clause-has g c =
     (has-still c.args.room.now.entries.items c.in-Some.place c.args.code c.index.result.now
     c.in-Some.ensures (sym c.index.ensures) c.if-not-is_beaten_by.ensures.not)
 
-pub returns-then-not-is_beaten_by-clause-kept : goal.returns-then-not-is_beaten_by-clause-kept
-returns-then-not-is_beaten_by-clause-kept g c = keep-same
-
 pub returns-in_ok-push-in-None-clause-takes : goal.returns-in_ok-push-in-None-clause-takes
 returns-in_ok-push-in-None-clause-takes g c =
     rw c.in_ok-push-in-None.ensures.items
@@ -60,18 +53,3 @@ returns-in_ok-push-in-None-clause-takes g c =
       marks = ap (λ n. c.args.before.now.marks + n) (c.marks_of.ensures c.args.row);
       chain = c.in_ok-chain-in-None.ensures.grown;
     }))
-
-pub returns-in_err-chain-in-Some-clause-kept : goal.returns-in_err-chain-in-Some-clause-kept
-returns-in_err-chain-in-Some-clause-kept g c = c.extend.ensures.kept
-
-pub returns-in_ok-chain-in-Some-clause-kept : goal.returns-in_ok-chain-in-Some-clause-kept
-returns-in_ok-chain-in-Some-clause-kept g c = c.extend.ensures.kept
-
-pub returns-in_err-chain-in-None-clause-kept : goal.returns-in_err-chain-in-None-clause-kept
-returns-in_err-chain-in-None-clause-kept g c = c.extend-in-None.ensures.kept
-
-pub returns-in_err-push-in-None-clause-kept : goal.returns-in_err-push-in-None-clause-kept
-returns-in_err-push-in-None-clause-kept g c = c.extend-in-None.ensures.kept
-
-pub returns-in_ok-push-in-None-clause-kept : goal.returns-in_ok-push-in-None-clause-kept
-returns-in_ok-push-in-None-clause-kept g c = c.extend-in-None.ensures.kept

@@ -1,9 +1,6 @@
 -- A seeker stands for the rows so far, up to the last.
-use Rattle.std.proofs.Common.{arith, length-take, subst, sym, ◌∙◌, [], ◌∷◌, ◌++◌, List, take}
+use Rattle.std.proofs.Common.{arith, length-take, ◌∙◌, take}
 use Rattle.std.proofs.lemmas.List.{take_all, take_more}
-use Rattle.mdb_words.specs.declared.event.Event.{Event}
-use Rattle.mdb_follow.specs.Runs.{IsReached}
-use Rattle.mdb_explained_runs.specs.inner.Seekers.{IsSeeker}
 use Rattle.mdb_explained_runs.proofs.Seeking.{reached-next}
 use Rattle.mdb_explained_runs.proofs.explain.seeker.seek.Goals as goal
 
@@ -47,6 +44,3 @@ pub returns-clause-stands : goal.returns-clause-stands
 returns-clause-stands c =
     rw (take_all c.loop-event.event-index c.args.events.now c.loop-event-test.false)
     at c.loop-event.invariant.on
-
-pub returns-clause-scope : goal.returns-clause-scope
-returns-clause-scope c = c.loop-event.invariant.scope

@@ -1,7 +1,4 @@
 -- A row that is taken leaves a run with its mark.
-use Rattle.std.proofs.Common.{subst, ◌+◌, ◌∷◌, ◌++◌, []}
-use Rattle.mdb_explained_runs.specs.Marks.{with_mark}
-use Rattle.mdb_explained_runs.specs.ReplayFaults.{HasMarkedRun}
 use Rattle.mdb_explained_runs.proofs.Replaying.{run-of}
 use Rattle.mdb_explained_runs.proofs.replay.Replay.feed.Goals as goal
 

@@ -1,10 +1,4 @@
 -- A replay reports the run that it stands for.
-use Rattle.std.proofs.Common.{subst, sym, ◌≡◌}
-use Rattle.std.specs.Prelude.{map}
-use Rattle.mdb_follow.specs.declared.report.TheConstants.Report.{DEVICES}
-use Rattle.mdb_follow.specs.Report.{device_facts_of}
-use Rattle.mdb_follow.specs.Silences.{asks_of}
-use Rattle.mdb_follow.specs.SilencesKept.{AllStandForAsks}
 use Rattle.mdb_explained_runs.specs.Replays.{scope_of}
 use Rattle.mdb_bus.specs.ActLists.{acts_of}
 use Rattle.mdb_follow.specs.Cells.{cell_in}

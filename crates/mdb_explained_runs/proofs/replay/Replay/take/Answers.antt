@@ -1,5 +1,5 @@
 -- A replay stands for one row more, or tells the fault of that row.
-use Rattle.std.proofs.Common.{List, ◌+◌, ◌*◌, ◌^◌, ◌∷◌, ◌++◌, [], ℕ, Some, None, ap, arith, refl, subst, sym, ◌∙◌}
+use Rattle.std.proofs.Common.{List, ◌+◌, ℕ, Some, None, ap, arith, refl, sym, ◌∙◌}
 use Rattle.mdb_words.specs.declared.event.Event.{Event}
 use Rattle.mdb_bus.specs.Bus.{GoesOn}
 use Rattle.mdb_bus.specs.Scopes.{profile_of}

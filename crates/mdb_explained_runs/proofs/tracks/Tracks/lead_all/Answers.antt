@@ -1,7 +1,5 @@
 -- A break leads the track of each device, one after the other.
 use Rattle.std.proofs.Common.{◌^◌}
-use Rattle.mdb_explained_runs.specs.Tracks.{TrackOf, track_in}
-use Rattle.mdb_explained_runs.specs.inner.TrackSteps.{LeadsOf}
 use Rattle.mdb_follow.proofs.ByDevice.{front-all, front-more}
 use Rattle.mdb_follow.proofs.Following.{if-err-is}
 use Rattle.mdb_explained_runs.proofs.Tracked.{front-fits, front-stops}

@@ -10,7 +10,8 @@ pub lead-requires : goal.lead-requires
 lead-requires c = rw c.in-Changer.is at c.requires
 
 pub returns-in-Changer-clause-led : goal.returns-in-Changer-clause-led
-returns-in-Changer-clause-led c = one-leads _ _ devices.Changer _ _ _ _ c.in-Changer.is c.lead.ensures.led
+returns-in-Changer-clause-led c = one-leads _ _ devices.Changer _ _ _ _ c.in-Changer.is
+    c.lead.ensures.led
     (each _ (λ not. absurd (not refl)) (λ not. refl) (λ not. refl) (λ not. refl))
 
 pub returns-in-Changer-clause-stopped : goal.returns-in-Changer-clause-stopped
@@ -22,7 +23,8 @@ pub lead-requires-in-Bill : goal.lead-requires-in-Bill
 lead-requires-in-Bill c = rw c.in-Bill.is at c.requires
 
 pub returns-in-Bill-clause-led : goal.returns-in-Bill-clause-led
-returns-in-Bill-clause-led c = one-leads _ _ devices.Bill _ _ _ _ c.in-Bill.is c.lead-in-Bill.ensures.led
+returns-in-Bill-clause-led c = one-leads _ _ devices.Bill _ _ _ _ c.in-Bill.is
+    c.lead-in-Bill.ensures.led
     (each _ (λ not. refl) (λ not. absurd (not refl)) (λ not. refl) (λ not. refl))
 
 pub returns-in-Bill-clause-stopped : goal.returns-in-Bill-clause-stopped
@@ -34,22 +36,26 @@ pub lead-requires-in-First : goal.lead-requires-in-First
 lead-requires-in-First c = rw (c.in-Reader.is, c.in-First.is) at c.requires
 
 pub returns-in-First-clause-led : goal.returns-in-First-clause-led
-returns-in-First-clause-led c = one-leads _ _ (devices.Reader First) _ _ _ _ (c.in-Reader.is ∙ ap devices.Reader c.in-First.is) c.lead-in-First.ensures.led
+returns-in-First-clause-led c = one-leads _ _ (devices.Reader First) _ _ _ _
+    (c.in-Reader.is ∙ ap devices.Reader c.in-First.is) c.lead-in-First.ensures.led
     (each _ (λ not. refl) (λ not. refl) (λ not. absurd (not refl)) (λ not. refl))
 
 pub returns-in-First-clause-stopped : goal.returns-in-First-clause-stopped
 returns-in-First-clause-stopped c =
-    one-stops _ _ (devices.Reader First) _ _ _ (c.in-Reader.is ∙ ap devices.Reader c.in-First.is) c.lead-in-First.ensures.none
+    one-stops _ _ (devices.Reader First) _ _ _ (c.in-Reader.is ∙ ap devices.Reader c.in-First.is)
+    c.lead-in-First.ensures.none
     c.lead-in-First.ensures.its
 
 pub lead-requires-in-Second : goal.lead-requires-in-Second
 lead-requires-in-Second c = rw (c.in-Reader.is, c.in-Second.is) at c.requires
 
 pub returns-in-Second-clause-led : goal.returns-in-Second-clause-led
-returns-in-Second-clause-led c = one-leads _ _ (devices.Reader Second) _ _ _ _ (c.in-Reader.is ∙ ap devices.Reader c.in-Second.is) c.lead-in-Second.ensures.led
+returns-in-Second-clause-led c = one-leads _ _ (devices.Reader Second) _ _ _ _
+    (c.in-Reader.is ∙ ap devices.Reader c.in-Second.is) c.lead-in-Second.ensures.led
     (each _ (λ not. refl) (λ not. refl) (λ not. refl) (λ not. absurd (not refl)))
 
 pub returns-in-Second-clause-stopped : goal.returns-in-Second-clause-stopped
 returns-in-Second-clause-stopped c =
-    one-stops _ _ (devices.Reader Second) _ _ _ (c.in-Reader.is ∙ ap devices.Reader c.in-Second.is) c.lead-in-Second.ensures.none
+    one-stops _ _ (devices.Reader Second) _ _ _ (c.in-Reader.is ∙ ap devices.Reader c.in-Second.is)
+    c.lead-in-Second.ensures.none
     c.lead-in-Second.ensures.its

@@ -1,6 +1,4 @@
 -- The best way of the device of an arm is that of the device.
-use Rattle.std.proofs.Common.{ap, subst, sym, ◌∙◌}
-use Rattle.mdb_msgs.specs.declared.command.Device.TheVariants as devices
 use Rattle.mdb_explained_runs.proofs.explain.all_paths.AllPaths.best.Goals as goal
 
 pub returns-in-Changer : goal.returns-in-Changer

@@ -50,6 +50,3 @@ returns-clause-led c profile pieces events at are device =
 pub returns-clause-within : goal.returns-clause-within
 returns-clause-within c limit are device =
     (front-all c.loop-device-test.false c.loop-device.invariant device).within limit (are device)
-
-pub returns-clause-kept : goal.returns-clause-kept
-returns-clause-kept c = c.loop-device.invariant.kept

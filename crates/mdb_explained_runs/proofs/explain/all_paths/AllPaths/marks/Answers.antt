@@ -1,5 +1,4 @@
 -- The chain of a best way has the marks of that way.
-use Rattle.mdb_explained_runs.specs.inner.AllPaths.{paths_in}
 use Rattle.mdb_explained_runs.specs.inner.Chains.{Denotes}
 use Rattle.mdb_explained_runs.proofs.AllPaths.{best-chain, best-listed, best-marks}
 use Rattle.mdb_follow.proofs.Following.{if-ok}

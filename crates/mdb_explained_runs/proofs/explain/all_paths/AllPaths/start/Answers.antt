@@ -1,9 +1,4 @@
 -- The paths of each device begin with the ways through no act.
-use Rattle.std.proofs.Common.{[]}
-use Rattle.mdb_explained_runs.specs.declared.explain.all_paths.AllPaths.{AllPaths}
-use Rattle.mdb_msgs.specs.declared.command.Device.TheVariants as devices
-use Rattle.mdb_msgs.specs.declared.command.ReaderUnit.TheVariants.{First, Second}
-use Rattle.mdb_explained_runs.specs.inner.AllPaths.{ArePathsOf, AreWithinOf, weight_for}
 use Rattle.mdb_follow.proofs.ByDevice.{each}
 use Rattle.mdb_explained_runs.proofs.explain.all_paths.AllPaths.start.Goals as goal
 

@@ -1,7 +1,6 @@
 -- A further link is a chain with one mark more.
-use Rattle.std.proofs.Common.{arith, sym, subst, ◌≡◌, ◌+◌, ◌∷◌, [], ◌++◌, length}
+use Rattle.std.proofs.Common.{arith, ◌≡◌, length}
 use Rattle.mdb_explained_runs.specs.declared.explain.chains.Link.{Link}
-use Rattle.mdb_explained_runs.specs.inner.Chains.{DenotesAt, KeepChains}
 use Rattle.mdb_explained_runs.proofs.Chains.{grown, kept}
 use Rattle.mdb_explained_runs.proofs.explain.chains.Chains.push.Goals as goal
 
