@@ -1,5 +1,4 @@
 -- Each entry rests, up to the last.
-use Rattle.std.proofs.lemmas.List.{take_all}
 use Rattle.mdb_bus.specs.declared.scope.Beginning.TheVariants.{PowerOn}
 use Rattle.mdb_explained_runs.proofs.Paths.{rests-more}
 use Rattle.mdb_explained_runs.proofs.explain.paths.all_rest.Goals as goal
@@ -10,8 +9,3 @@ loop-code-preserved g c profile =
     rests-more p.code_of (p.machine (PowerOn profile)) c.args.act.now c.args.entries.now
     c.loop-code.code-index _ c.state.result c.loop-code-test.true g.met.P.Pair.apart
     c.state.ensures (c.if-not-rests.ensures (PowerOn profile)) (c.loop-code.invariant profile)
-
-pub returns : goal.returns
-returns g c profile =
-    rw (take_all c.loop-code.code-index c.args.entries.now c.loop-code-test.false)
-    at (c.loop-code.invariant profile)
