@@ -15,9 +15,6 @@ empty-told : {X : Type 0} (xs : List X) (count : ℕ) (told : Bool) → count �
     → told ≡ (count == 0) → told ≡ true → xs ≡ []
 empty-told xs count told same is = nil-told xs told (is ∙ ap (λ n. n == 0) same)
 
-pub matters-requires : goal.matters-requires
-matters-requires g c = (search rules, λ k d within. (c.requires.within k d within).code)
-
 pub fill-requires : goal.fill-requires
 fill-requires g c = (
   search rules,

@@ -1,6 +1,6 @@
 -- A seeker stands for the rows so far, up to the last.
-use Rattle.std.proofs.Common.{arith, length-take, ◌∙◌, take}
-use Rattle.std.proofs.lemmas.List.{take_all, take_more}
+use Rattle.std.proofs.Common.{◌∙◌, take}
+use Rattle.std.proofs.lemmas.List.{take_more}
 use Rattle.mdb_explained_runs.proofs.Seeking.{reached-next}
 use Rattle.mdb_explained_runs.proofs.explain.seeker.seek.Goals as goal
 
@@ -23,24 +23,3 @@ loop-event-preserved c = record {
       c.loop-event.invariant.on);
   scope = c.take.ensures.scope ∙ c.loop-event.invariant.scope;
 }
-
-pub loop-event-init : goal.loop-event-init
-loop-event-init c = record {
-  on = c.in_ok-seeker.ensures.stands c.args.goal.now;
-  scope = c.in_ok-seeker.ensures.scope;
-}
-
-pub take-requires-clause-room : goal.take-requires-clause-room
-take-requires-clause-room c =
-    omega (
-      arith,
-      c.loop-event.invariant.on.rows,
-      length-take c.loop-event.event-index c.args.events.now,
-      c.loop-event-test.true,
-      c.requires.few,
-    )
-
-pub returns-clause-stands : goal.returns-clause-stands
-returns-clause-stands c =
-    rw (take_all c.loop-event.event-index c.args.events.now c.loop-event-test.false)
-    at c.loop-event.invariant.on

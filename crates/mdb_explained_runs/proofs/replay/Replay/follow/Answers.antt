@@ -12,7 +12,3 @@ pub invariant_of-self-clause-within : goal.invariant_of-self-clause-within
 invariant_of-self-clause-within c going =
     tracks-within-next c.args.self.now.rows c.args.self.now.tracks c.args.self.now.act
     c.args.choice c.lead.new.self (c.args.self.now.within going) c.in-Ok.ensures.led
-
-pub invariant_of-self-clause-few_silences : goal.invariant_of-self-clause-few_silences
-invariant_of-self-clause-few_silences c device =
-    (c.follow.ensures device).few c.args.self.now.rows (c.args.self.now.few_silences device)

@@ -3,12 +3,6 @@ use Rattle.mdb_follow.proofs.Following.{if-ok, on-true}
 use Rattle.mdb_explained_runs.proofs.AllPaths.{all-led, all-within, none-led, none-within, on-false}
 use Rattle.mdb_explained_runs.proofs.explain.all_paths.AllPaths.lead.Goals as goal
 
-pub lead_one-requires : goal.lead_one-requires
-lead_one-requires c = record {
-  stands = (c.requires.stands.0, c.requires.stands.1, c.requires.stands.2 c.in-One.device);
-  within = c.requires.within c.in-One.device;
-}
-
 pub returns-in-One-clause-led : goal.returns-in-One-clause-led
 returns-in-One-clause-led c =
     if-ok c.lead_one.result _ _ (λ goes. on-true goes _ _
