@@ -1,72 +1,47 @@
 -- The best marks of each device, for a goal: with them no run goes further towards the end of the
 -- range, and none that comes there has fewer marks of a device.
-use Rattle.std.proofs.Common.{arith, inl, inr, refl, sym, subst, ap, ◌∙◌, ◌≡◌, ◌≤◌, ℕ, ℤ, ◌≤ℤ◌}
-use Rattle.std.proofs.Common.{Bool, true, false, List, length, if◌then◌else◌}
+use Rattle.std.proofs.Common.{arith, inl, inr, sym, ap, ◌∙◌, ◌≡◌, ◌≤◌, ℕ, ℤ, ◌≤ℤ◌}
+use Rattle.std.proofs.Common.{List, length}
 use Rattle.std.proofs.lemmas.Int.{ints}
+use Rattle.std.proofs.lemmas.Bool.{false_from_ne_true}
 use Rattle.mdb_msgs.specs.declared.command.Device.{Device}
 use Rattle.mdb_msgs.specs.Devices.{same_device}
 use Rattle.mdb_msgs.specs.shared.SameDevices.{is_one, itself}
 use Rattle.mdb_bus.specs.declared.scope.Beginning.TheVariants.{PowerOn}
 use Rattle.mdb_bus.specs.declared.scope.Profile.{Profile}
 use Rattle.mdb_bus.specs.ActLists.{Piece, acts_of}
-use Rattle.mdb_follow.specs.declared.account_name.AccountName.{AccountName}
-use Rattle.mdb_explained_runs.specs.declared.explain.best.Weight.{Weight}
-use Rattle.mdb_explained_runs.specs.declared.explain.best.Weight.TheVariants as weights
-use Rattle.mdb_follow.specs.declared.goal.AccountSide.{AccountSide}
 use Rattle.mdb_follow.specs.declared.goal.Bound.{Bound}
 use Rattle.mdb_follow.specs.declared.goal.Bound.TheVariants.{Least, Greatest}
 use Rattle.mdb_follow.specs.declared.goal.Goal.{Goal}
 use Rattle.mdb_explained_runs.specs.declared.mark.Mark.{Mark}
-use Rattle.mdb_follow.specs.AccountNames.{account_device, account_slot, sums_of}
+use Rattle.mdb_follow.specs.AccountNames.{account_device}
 use Rattle.mdb_follow.specs.Choosing.{Choices, Follows}
-use Rattle.mdb_follow.specs.Ends.{side_value}
 use Rattle.mdb_follow.specs.GoalEnds.{IsAsFar, goal_value}
 use Rattle.mdb_follow.specs.Machines.{StateOf, machine_of}
 use Rattle.mdb_explained_runs.specs.Marks.{own_marks}
 use Rattle.mdb_follow.specs.Runs.{AllSums}
-use Rattle.mdb_explained_runs.specs.inner.AllPaths.{AreBestMarks, weight_at, weight_for}
+use Rattle.mdb_explained_runs.specs.inner.AllPaths.{AreBestMarks, weight_for}
 use Rattle.mdb_explained_runs.specs.inner.Weights.{towards, weigh}
 use Rattle.mdb_follow.proofs.ByDevice.{same_or_not}
 
 -- what the sums of the goal's device count is the goal's value, towards its end
-account-weighed : (side : AccountSide) (bound : Bound) (account : AccountName) (sums : AllSums)
-    → weigh (weight_at side bound account (account_device account)) (sums (account_device account))
-    ≡ towards bound (side_value side (sums_of account sums))
-account-weighed side bound account sums =
-    ap (λ same. weigh (if same then weights.Account (account_slot account) side bound
-    else weights.Nothing) (sums (account_device account))) (itself (account_device account))
-
-pub goal-weighed : (goal : Goal) (sums : AllSums)
+goal-weighed : (goal : Goal) (sums : AllSums)
     → weigh (weight_for goal (account_device goal.account)) (sums (account_device goal.account))
     ≡ towards goal.bound (goal_value goal sums)
-goal-weighed goal sums = account-weighed goal.side goal.bound goal.account sums
+goal-weighed goal sums = rw (itself (account_device goal.account))
 
--- those of another device count nothing
-account-apart : (side : AccountSide) (bound : Bound) (account : AccountName) (device : Device)
-    → (account_device account ≡ device → ⊥) → weight_at side bound account device ≡ weights.Nothing
-account-apart side bound account device apart =
-    by (same_device (account_device account) device) refl
-  where
-    by : (same : Bool) → same_device (account_device account) device ≡ same
-        → weight_at side bound account device ≡ weights.Nothing
-    by true is =
-        absurd (apart (is_one (account_device account) device is))
-    by false is =
-        ap (λ same. if same then weights.Account (account_slot account) side bound
-        else weights.Nothing) is
-
--- where two runs come to the same value of the goal, the sums of each device count the same in both
-pub same-weighed : (goal : Goal) (device : Device) (one other : AllSums)
+-- where two runs come to the same value of the goal, the sums of each device count the same in
+-- both: those of another device than the goal's count nothing
+same-weighed : (goal : Goal) (device : Device) (one other : AllSums)
     → goal_value goal one ≡ goal_value goal other
     → weigh (weight_for goal device) (one device) ≡ weigh (weight_for goal device) (other device)
 same-weighed goal device one other same =
-    elim (same_or_not (account_device goal.account) device) [
-      | inl its ↦
-          subst (λ d. weigh (weight_for goal d) (one d) ≡ weigh (weight_for goal d) (other d)) its
+    let its = account_device goal.account in
+    elim (same_or_not its device) [
+      | inl is ↦ rw (← is)
           (goal-weighed goal one ∙ ap (towards goal.bound) same ∙ sym (goal-weighed goal other))
       | inr apart ↦
-          subst (λ (w : Weight). weigh w (one device) ≡ weigh w (other device))
-          (sym (account-apart goal.side goal.bound goal.account device apart)) refl
+          rw (false_from_ne_true (same_device its device) (λ is. apart (is_one its device is)))
     ]
 
 -- what counts less is at least as far
@@ -76,31 +51,32 @@ as-far Least one other less = less
 as-far Greatest one other less = omega (arith, ints)
 
 -- no way of the goal's device goes further than one with the best marks
-pub farthest-of : (profile : Profile) (goal : Goal) (pieces : List Piece) (marks : List (ℕ × Mark))
+pub farthest-of : {profile : Profile} {goal : Goal} {pieces : List Piece} {marks : List (ℕ × Mark)}
     (best : AreBestMarks profile goal pieces (account_device goal.account) marks)
     (sums other : AllSums) → sums (account_device goal.account) ≡ best.sums
     → (state : StateOf (account_device goal.account)) (choices : Choices (acts_of pieces))
     → Follows (machine_of (PowerOn profile) (account_device goal.account)) (acts_of pieces) choices
     state (other (account_device goal.account))
     → IsAsFar goal.bound (goal_value goal sums) (goal_value goal other)
-farthest-of profile goal pieces marks best sums other its state choices way =
+farthest-of {goal = goal} best sums other its state choices way =
     let device = account_device goal.account in
-    let weight = weight_for goal device in
     let good = best.least state (other device) choices way in
-    as-far goal.bound (goal_value goal sums) (goal_value goal other)
-    (subst (λ v. v ≤ℤ towards goal.bound (goal_value goal other))
-    (ap (weigh weight) (sym its) ∙ goal-weighed goal sums)
-    (subst (λ v. weigh weight best.sums ≤ℤ v) (goal-weighed goal other) good.no_greater))
+    as-far goal.bound (goal_value goal sums) (goal_value goal other) (omega (
+      arith,
+      ints,
+      good.no_greater,
+      ap (weigh (weight_for goal device)) its,
+      goal-weighed goal sums,
+      goal-weighed goal other,
+    ))
 
 -- and no way of a device, in a run that comes as far, has fewer marks than the best
-pub fewest-of : (profile : Profile) (goal : Goal) (pieces : List Piece) (device : Device)
-    (marks : List (ℕ × Mark))
-    (best : AreBestMarks profile goal pieces device marks) (sums other : AllSums)
-    → sums device ≡ best.sums → goal_value goal other ≡ goal_value goal sums
+pub fewest-of : {profile : Profile} {goal : Goal} {pieces : List Piece} {device : Device}
+    {marks : List (ℕ × Mark)} (best : AreBestMarks profile goal pieces device marks)
+    (sums other : AllSums) → sums device ≡ best.sums → goal_value goal other ≡ goal_value goal sums
     → (state : StateOf device) (choices : Choices (acts_of pieces))
     → Follows (machine_of (PowerOn profile) device) (acts_of pieces) choices state (other device)
     → length marks ≤ length (own_marks device pieces choices)
-fewest-of profile goal pieces device marks best sums other its same state choices way =
-    let weight = weight_for goal device in
+fewest-of {goal = goal} {device = device} best sums other its same state choices way =
     (best.least state (other device) choices way).no_more
-    (ap (weigh weight) (sym its) ∙ same-weighed goal device sums other (sym same))
+    (ap (weigh (weight_for goal device)) (sym its) ∙ same-weighed goal device sums other (sym same))

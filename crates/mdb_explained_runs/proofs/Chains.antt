@@ -11,14 +11,14 @@ use Rattle.mdb_explained_runs.specs.declared.mark.Mark.{Mark}
 use Rattle.mdb_explained_runs.specs.inner.Chains.{Denotes, DenotesAt, IsChain, KeepChains}
 use Rattle.mdb_explained_runs.specs.inner.Chains.{linked, nothing}
 
--- a link stays where it is when more come
-still : (links more : List Link) (n : ℕ) (link : Link) → slice_get links n ≡ Some link
-    → slice_get (links ++ more) n ≡ Some link
-still links more n link is =
-    let within : n < length links = slice_get_within links n link is in
-    slice_get_read (links ++ more) (length (links ++ more)) n link refl
-    (omega (arith, within, length-append links more))
-    (sym (get_or_append_left links more link n within ∙ get_or_from_slice_get links n link link is))
+-- with the same links
+pub keep-same : {links : List Link} → KeepChains links links
+keep-same chain marks is = is
+
+-- with more links, and with more again
+pub keep-then : {old mid new : List Link} → KeepChains old mid → KeepChains mid new
+    → KeepChains old new
+keep-then first last chain marks is = last chain marks (first chain marks is)
 
 -- the last link
 ends : (links : List Link) (link : Link)
@@ -28,35 +28,32 @@ ends links link =
     (sym (length-append links (link ∷ []))) (omega arith)
     (sym (get_or-append_seam links link [] link))
 
--- with more links, a chain denotes what it did
-kept-at : (links more : List Link) (at : ℕ) (marks : List (ℕ × Mark)) → DenotesAt links at marks
-    → DenotesAt (links ++ more) at marks
-kept-at links more at marks nothing = nothing
-kept-at links more at marks (linked n link rest is old) =
-    linked n link rest (still links more n link is) (kept-at links more link.parent.at rest old)
+module _ (links more : List Link) where
+  -- a link stays where it is when more come
+  still : (n : ℕ) (link : Link) → slice_get links n ≡ Some link
+      → slice_get (links ++ more) n ≡ Some link
+  still n link is =
+      let within : n < length links = slice_get_within links n link is in
+      slice_get_read (links ++ more) (length (links ++ more)) n link refl
+      (omega (arith, within, length-append links more))
+      (sym (get_or_append_left links more link n within
+      ∙ get_or_from_slice_get links n link link is))
 
-pub kept : (links more : List Link) → KeepChains links (links ++ more)
-kept links more chain marks old = kept-at links more chain.at marks old
+  -- with more links, a chain denotes what it did
+  kept-at : {at : ℕ} {marks : List (ℕ × Mark)} → DenotesAt links at marks
+      → DenotesAt (links ++ more) at marks
+  kept-at nothing = nothing
+  kept-at (linked n link rest is old) = linked n link rest (still n link is) (kept-at old)
+
+  pub kept : KeepChains links (links ++ more)
+  kept chain marks old = kept-at old
 
 -- a link behind the others denotes one mark more
 pub grown : (links : List Link) (link : Link) (marks : List (ℕ × Mark))
     → Denotes links link.parent marks
     → DenotesAt (links ++ link ∷ []) (length links + 1) (marks ++ (link.row, link.mark) ∷ [])
 grown links link marks old =
-    linked (length links) link marks (ends links link)
-    (kept-at links (link ∷ []) link.parent.at marks old)
-
--- what a chain denotes is among the links
-within-at : (links : List Link) (at : ℕ) (marks : List (ℕ × Mark)) → DenotesAt links at marks
-    → at ≤ length links
-within-at links at marks nothing = omega arith
-within-at links at marks (linked n link rest is old) =
-    let within : n < length links = slice_get_within links n link is in omega (arith, within)
-
--- a chain is one of more links too
-pub chain-kept : (old new : List Link) (chain : Chain) → KeepChains old new → IsChain old chain
-    → IsChain new chain
-chain-kept old new chain keep is = (is.0, keep chain is.0 is.1)
+    linked (length links) link marks (ends links link) (kept-at links (link ∷ []) old)
 
 -- So many marks of a chain are read, the newest first: before them come those of what is left.
 pub record IsRead (links : List Link) (chain : ℕ) (marks : List (ℕ × Mark)) (at : ℕ)
@@ -67,79 +64,76 @@ pub record IsRead (links : List Link) (chain : ℕ) (marks : List (ℕ × Mark))
   pub left : DenotesAt links at rest
   pub are : whole ≡ rest ++ reverse marks
 
-pub begins : (links : List Link) (chain : Chain) → IsChain links chain
-    → IsRead links chain.at [] chain.at
-begins links chain is = record {
-  whole = is.0;
-  denotes = is.1;
-  rest = is.0;
-  left = is.1;
-  are = sym (append-nil is.0);
-}
-
 -- a chain that ends with a link: what it denotes ends with the mark of this link
 record EndsBy (links : List Link) (link : Link) (whole : List (ℕ × Mark)) : Type 0 where
   marks : List (ℕ × Mark)
   older : Denotes links link.parent marks
   is : whole ≡ marks ++ (link.row, link.mark) ∷ []
 
-ends-by : (links : List Link) (n : ℕ) (link : Link) → slice_get links n ≡ Some link → (at : ℕ)
-    (whole : List (ℕ × Mark)) → at ≡ n + 1 → DenotesAt links at whole → EndsBy links link whole
-ends-by links n link there at whole same nothing = absurd (omega arith)
-ends-by links n link there at whole same (linked m other marks is old) =
-    let here : m ≡ n = omega arith in
-    let one : other ≡ link =
-    same_Some other link (sym (subst (λ k. slice_get links k ≡ Some other) here is) ∙ there) in
-    record {
-      marks = marks;
-      older = subst (λ l. Denotes links l.parent marks) one old;
-      is = ap (λ l. marks ++ (l.row, l.mark) ∷ []) one;
-    }
+module _ {links : List Link} where
+  pub begins : (chain : Chain) → IsChain links chain → IsRead links chain.at [] chain.at
+  begins chain is = record {
+    whole = is.0;
+    denotes = is.1;
+    rest = is.0;
+    left = is.1;
+    are = sym (append-nil is.0);
+  }
 
--- no mark before the first
-none-left : (links : List Link) (at : ℕ) (whole : List (ℕ × Mark)) → at ≡ 0
-    → DenotesAt links at whole → whole ≡ []
-none-left links at whole none nothing = refl
-none-left links at whole none (linked m other marks is old) = absurd (omega arith)
+  ends-by : (n : ℕ) (link : Link) → slice_get links n ≡ Some link → {at : ℕ}
+      {whole : List (ℕ × Mark)} → at ≡ n + 1 → DenotesAt links at whole → EndsBy links link whole
+  ends-by n link there same nothing = absurd (omega arith)
+  ends-by n link there same (linked m other marks is old) =
+      let here : m ≡ n = omega arith in
+      let one : other ≡ link = same_Some other link (sym (rw here at is) ∙ there) in
+      record {
+        marks = marks;
+        older = rw one at old;
+        is = ap (λ l. marks ++ (l.row, l.mark) ∷ []) one;
+      }
 
-pub reads_on : (links : List Link) (chain : ℕ) (marks : List (ℕ × Mark)) (n at : ℕ) (link : Link)
-    → at ≡ n + 1 → slice_get links n ≡ Some link → IsRead links chain marks at
-    → IsRead links chain (marks ++ (link.row, link.mark) ∷ []) link.parent.at
-reads_on links chain marks n at link same there read =
-    let by = ends-by links n link there at read.rest same read.left in
-    let one : List (ℕ × Mark) = (link.row, link.mark) ∷ [] in
-    record {
-      whole = read.whole;
-      denotes = read.denotes;
-      rest = by.marks;
-      left = by.older;
-      are = read.are ∙ ap (λ r. r ++ reverse marks) by.is
-          ∙ append_assoc by.marks one (reverse marks)
-          ∙ ap (λ r. by.marks ++ r) (sym (reverse-append marks one));
-    }
+  -- no mark before the first
+  none-left : {at : ℕ} {whole : List (ℕ × Mark)} → at ≡ 0 → DenotesAt links at whole → whole ≡ []
+  none-left none nothing = refl
+  none-left none (linked m other marks is old) = absurd (omega arith)
 
-pub is_read : (links : List Link) (chain : Chain) (marks : List (ℕ × Mark)) (at : ℕ) → at ≡ 0
-    → IsRead links chain.at marks at → Denotes links chain (reverse marks)
-is_read links chain marks at none read =
-    subst (DenotesAt links chain.at)
-    (read.are ∙ ap (λ r. r ++ reverse marks) (none-left links at read.rest none read.left))
-    read.denotes
+  pub reads_on : {chain : ℕ} {marks : List (ℕ × Mark)} (n at : ℕ) (link : Link) → at ≡ n + 1
+      → slice_get links n ≡ Some link → IsRead links chain marks at
+      → IsRead links chain (marks ++ (link.row, link.mark) ∷ []) link.parent.at
+  reads_on {marks = marks} n at link same there read =
+      let by = ends-by n link there same read.left in
+      let one : List (ℕ × Mark) = (link.row, link.mark) ∷ [] in
+      record {
+        whole = read.whole;
+        denotes = read.denotes;
+        rest = by.marks;
+        left = by.older;
+        are = read.are ∙ ap (λ r. r ++ reverse marks) by.is
+            ∙ append_assoc by.marks one (reverse marks)
+            ∙ ap (λ r. by.marks ++ r) (sym (reverse-append marks one));
+      }
 
--- what is left to read is among the links
-pub read-within : (links : List Link) (chain : ℕ) (marks : List (ℕ × Mark)) (at : ℕ)
-    → IsRead links chain marks at → at ≤ length links
-read-within links chain marks at read = within-at links at read.rest read.left
+  pub is_read : {chain : ℕ} {marks : List (ℕ × Mark)} (at : ℕ) → at ≡ 0
+      → IsRead links chain marks at → DenotesAt links chain (reverse marks)
+  is_read {chain} {marks} at none read =
+      subst (DenotesAt links chain)
+      (read.are ∙ ap (λ r. r ++ reverse marks) (none-left none read.left)) read.denotes
 
--- a chain denotes one list of marks
-one-at : (links : List Link) (at : ℕ) (one other : List (ℕ × Mark)) → DenotesAt links at one
-    → DenotesAt links at other → one ≡ other
-one-at links at one other nothing is = sym (none-left links 0 other refl is)
-one-at links at one other (linked n link marks there old) is =
-    let by = ends-by links n link there (n + 1) other refl is in
-    ap (λ ms. ms ++ (link.row, link.mark) ∷ [])
-    (one-at links link.parent.at marks by.marks old by.older)
-    ∙ sym by.is
+  -- what a chain denotes is among the links
+  within-at : {at : ℕ} {marks : List (ℕ × Mark)} → DenotesAt links at marks → at ≤ length links
+  within-at nothing = omega arith
+  within-at (linked n link rest is old) =
+      let within : n < length links = slice_get_within links n link is in omega (arith, within)
 
-pub denotes-one : (links : List Link) (chain : Chain) (one other : List (ℕ × Mark))
-    → Denotes links chain one → Denotes links chain other → one ≡ other
-denotes-one links chain one other = one-at links chain.at one other
+  -- what is left to read is among the links
+  pub read-within : {chain at : ℕ} {marks : List (ℕ × Mark)} → IsRead links chain marks at
+      → at ≤ length links
+  read-within read = within-at read.left
+
+  -- a chain denotes one list of marks
+  pub denotes-one : {at : ℕ} {one other : List (ℕ × Mark)} → DenotesAt links at one
+      → DenotesAt links at other → one ≡ other
+  denotes-one nothing is = sym (none-left refl is)
+  denotes-one (linked n link marks there old) is =
+      let by = ends-by n link there refl is in
+      ap (λ ms. ms ++ (link.row, link.mark) ∷ []) (denotes-one old by.older) ∙ sym by.is

@@ -1,25 +1,32 @@
 -- Marks: they tell what is chosen, and their rows rise.
-use Rattle.std.proofs.Common.{arith, refl, sym, ap, subst, ◌∙◌, ◌≡◌, ◌⊎◌, ◌↔◌, inl, inr}
-use Rattle.std.proofs.Common.{ℕ, zero, suc, ◌+◌, ◌<◌, List, [], ◌∷◌, ◌++◌, length}
-use Rattle.std.proofs.Common.{get_or, length-append, All, Contains}
+use Rattle.std.proofs.Common.{arith, refl, sym, ap, subst, ◌∙◌, ◌≡◌, ◌↔◌, inl, inr}
+use Rattle.std.proofs.Common.{ℕ, ◌<◌, List, [], ◌∷◌, ◌++◌, length}
+use Rattle.std.proofs.Common.{length-append, All, Contains}
 use Rattle.std.proofs.Common.{Option, Some, None, true}
 use Rattle.std.proofs.Math.Bool.{Bool-set}
 use Rattle.std.proofs.lemmas.List.{append-nil, same_from_push}
-use Rattle.std.proofs.lemmas.List.Elements.{All-append, All-contains, All-nil, All-tail, All-weaker}
-use Rattle.std.proofs.lemmas.List.Elements.{All-push, Contains-append_right, Contains-push}
+use Rattle.std.proofs.lemmas.List.Elements.{All-append, All-contains, All-nil, All-tail}
+use Rattle.std.proofs.lemmas.List.Elements.{All-push, Contains-push}
 use Rattle.mdb_words.specs.declared.event.Event.{Event}
 use Rattle.mdb_bus.specs.declared.act.Act.{Act}
 use Rattle.mdb_bus.specs.declared.act.Act.TheVariants as kinds
 use Rattle.mdb_bus.specs.declared.scope.Scope.{Scope}
-use Rattle.mdb_bus.specs.ActLists.{ArePieces, Piece, Whole, acts_of}
-use Rattle.mdb_bus.specs.ActLists.{events_of}
+use Rattle.mdb_bus.specs.ActLists.{ArePieces, IsActList, Piece, Whole, acts_of}
+use Rattle.mdb_bus.specs.ActLists.{events_of, piece_events}
+use Rattle.mdb_follow.proofs.Listed.{contains-cases, contains-here, contains-none, contains-there}
 use Rattle.mdb_machine.specs.declared.choice.Choice.{Choice}
 use Rattle.mdb_machine.specs.declared.choice.Choice.TheVariants.{Plain, Lost, Restart, Again}
 use Rattle.mdb_machine.specs.Choices.{CanStand, approves}
 use Rattle.mdb_explained_runs.specs.declared.mark.Mark.{Mark}
 use Rattle.mdb_explained_runs.specs.declared.mark.Mark.TheVariants as marks
-use Rattle.mdb_follow.specs.Choosing.{Choices, ChoicesBy}
+use Rattle.mdb_follow.specs.Choosing.{AllFollow, Choices, ChoicesBy, choices_of}
+use Rattle.mdb_follow.specs.Runs.{AllSums, IsWay, States}
+use Rattle.mdb_follow.proofs.Following.{OneActList}
+use Rattle.mdb_follow.proofs.Joining.{split_with_choices}
+use Rattle.mdb_bus.specs.Loss.{Loss, LossFits}
+use Rattle.mdb_bus.specs.declared.scope.Beginning.{Beginning}
 use Rattle.mdb_explained_runs.specs.Marks.{Rise, StandsWithin, choice_by, marks_at, marks_of, with_mark}
+use Rattle.mdb_explained_runs.specs.Marks.{MarkedRun, choices_in}
 
 -- a mark stands before a row
 abbrev pub IsBefore : ℕ → ℕ × Mark → Type 0
@@ -34,46 +41,34 @@ pub at_row : (row : ℕ) (choice : Choice) → All (IsAt row) (marks_at row choi
 at_row row Plain = All-nil (IsAt row)
 at_row row choice = All-push (IsAt row) [] _ (All-nil (IsAt row)) refl
 
--- marks within some rows are within these and more
-longer : (rows more : List Event) (so_far : List (ℕ × Mark))
-    → All (StandsWithin (length rows)) so_far → All (StandsWithin (length (rows ++ more))) so_far
-longer rows more so_far within =
-    let all : length (rows ++ more) ≡ length rows + length more = length-append rows more in
-    All-weaker (StandsWithin (length rows)) (StandsWithin (length (rows ++ more)))
-    (λ mark is. omega (arith, is, all)) so_far within
+module _ (scope : Scope) where
+  -- marks of pieces stand at rows of these
+  pub all_within : (pieces : List Piece) (chosen : Choices (acts_of pieces))
+      → ArePieces scope pieces
+      → All (StandsWithin (length (events_of pieces))) (marks_of pieces chosen)
+  all_within [] chosen are = All-nil _
+  all_within (Whole act events ∷ pieces) chosen are =
+      let row : ℕ = length (events_of pieces ++ events) in
+      let rows = length-append (events_of pieces) events in
+      let some = ap length are.1.begins in
+      let within = all_within pieces chosen.before are.2 in
+      All-append (StandsWithin row) (marks_of pieces chosen.before) (marks_at row chosen.choice)
+      (λ k d inside. let is = within k d inside in omega (arith, is, rows))
+      (λ k d inside.
+      let is = at_row row chosen.choice k d inside in omega (arith, is, rows, some))
+  all_within (tail ∷ pieces) chosen are =
+      let rows = length-append (events_of pieces) (piece_events tail) in
+      λ k d inside.
+      let is = all_within pieces chosen are.2 k d inside in omega (arith, is, rows)
 
--- marks of pieces stand at rows of these
-pub all_within : (scope : Scope) (pieces : List Piece) (chosen : Choices (acts_of pieces))
-    → ArePieces scope pieces
-    → All (StandsWithin (length (events_of pieces))) (marks_of pieces chosen)
-all_within scope [] chosen are = All-nil _
-all_within scope (Whole act events ∷ pieces) chosen are =
-    let row : ℕ = length (events_of pieces ++ events) in
-    let rows : length (events_of pieces ++ events) ≡ length (events_of pieces) + length events =
-    length-append (events_of pieces) events in
-    let some : length events ≡ suc (length are.1.others) = ap length are.1.begins in
-    All-append (StandsWithin row) (marks_of pieces chosen.before) (marks_at row chosen.choice)
-    (All-weaker (StandsWithin (length (events_of pieces))) (StandsWithin row)
-    (λ mark is. omega (arith, is, rows)) (marks_of pieces chosen.before)
-    (all_within scope pieces chosen.before are.2))
-    (All-weaker (IsAt row) (StandsWithin row)
-    (λ mark is. omega (arith, is, rows, some)) (marks_at row chosen.choice)
-    (at_row row chosen.choice))
-all_within scope (tail ∷ pieces) chosen are =
-    longer (events_of pieces) _ (marks_of pieces chosen) (all_within scope pieces chosen are.2)
-
--- and before the row of one that comes after them
-pub all_before : (scope : Scope) (act : Act) (events : List Event) (pieces : List Piece)
-    (chosen : Choices (acts_of pieces)) → ArePieces scope (Whole act events ∷ pieces)
-    → All (IsBefore (length (events_of pieces ++ events))) (marks_of pieces chosen)
-all_before scope act events pieces chosen are =
-    let rows : length (events_of pieces ++ events) ≡ length (events_of pieces) + length events =
-    length-append (events_of pieces) events in
-    let some : length events ≡ suc (length are.1.others) = ap length are.1.begins in
-    All-weaker (StandsWithin (length (events_of pieces)))
-    (IsBefore (length (events_of pieces ++ events)))
-    (λ mark is. omega (arith, is, rows, some)) (marks_of pieces chosen)
-    (all_within scope pieces chosen are.2)
+  -- and before the row of one that comes after them
+  pub all_before : (act : Act) (events : List Event) (pieces : List Piece)
+      (chosen : Choices (acts_of pieces)) → ArePieces scope (Whole act events ∷ pieces)
+      → All (IsBefore (length (events_of pieces ++ events))) (marks_of pieces chosen)
+  all_before act events pieces chosen are k d inside =
+      let some = ap length are.1.begins in
+      let is = all_within pieces chosen are.2 k d inside in
+      omega (arith, is, some, length-append (events_of pieces) events)
 
 -- marks that rise do so with those of a row after them
 pub rise-more : (row : ℕ) (choice : Choice) (so_far : List (ℕ × Mark)) → Rise so_far
@@ -83,8 +78,7 @@ rise-more row choice [] rise before = (All-nil _, tt)
 rise-more row choice (mark ∷ so_far) rise before =
     let less : mark.0 < row = before 0 mark (omega arith) in (
       All-append (λ later. mark.0 < later.0) so_far (marks_at row choice) rise.0
-          (All-weaker (IsAt row) (λ later. mark.0 < later.0)
-          (λ later is. omega (arith, is, less)) (marks_at row choice) (at_row row choice)),
+          (λ k d inside. let is = at_row row choice k d inside in omega (arith, is, less)),
       rise-more row choice so_far rise.1 (All-tail (IsBefore row) mark so_far before),
     )
 
@@ -93,7 +87,7 @@ pub marks_rise : (scope : Scope) (pieces : List Piece) (chosen : Choices (acts_o
     → ArePieces scope pieces → Rise (marks_of pieces chosen)
 marks_rise scope [] chosen are = tt
 marks_rise scope (Whole act events ∷ pieces) chosen are =
-    rise-more (length (events_of pieces ++ events)) chosen.choice (marks_of pieces chosen.before)
+    rise-more _ chosen.choice (marks_of pieces chosen.before)
     (marks_rise scope pieces chosen.before are.2)
     (all_before scope act events pieces chosen.before are)
 marks_rise scope (tail ∷ pieces) chosen are = marks_rise scope pieces chosen are.2
@@ -119,14 +113,7 @@ same_choices act acts one other same before =
       before = before i;
     }) other.stands
 
--- each choice is that of a mark, or of none
-mark_of : (choice : Choice) → (mark : Option Mark) × (choice ≡ choice_by mark)
-mark_of Plain = (None, refl)
-mark_of Lost = (Some marks.Lost, refl)
-mark_of Restart = (Some marks.Restart, refl)
-mark_of Again = (Some marks.Again, refl)
-
--- which has that mark
+-- the choice of a mark, or of none, has that mark
 pub at-mark : (row : ℕ) (mark : Option Mark) (so_far : List (ℕ × Mark))
     → so_far ++ marks_at row (choice_by mark) ≡ with_mark row mark so_far
 at-mark row None so_far = append-nil so_far
@@ -135,39 +122,27 @@ at-mark row (Some marks.Restart) so_far = refl
 at-mark row (Some marks.Again) so_far = refl
 
 -- a mark at a row is none of those before it
-none_at : (row : ℕ) (mark : Mark) (so_far others : List (ℕ × Mark)) → All (IsBefore row) so_far
+pub none_at : (row : ℕ) (mark : Mark) (so_far others : List (ℕ × Mark)) → All (IsBefore row) so_far
     → so_far ≡ others ++ (row, mark) ∷ [] → ⊥
 none_at row mark so_far others before same =
-    let less : row < row =
-    All-contains (IsBefore row) (others ++ (row, mark) ∷ []) (row, mark)
-    (subst (All (IsBefore row)) same before) (Contains-push others (row, mark)) in
+    let less : row < row = All-contains (IsBefore row) so_far (row, mark) before
+    (rw same (Contains-push others (row, mark))) in
     omega (arith, less)
 
--- marks with one more at a later row, or none, tell of it, and of those before
-same_marked : (row : ℕ) (one other : List (ℕ × Mark)) (mark next : Option Mark)
-    → All (IsBefore row) one → All (IsBefore row) other
-    → with_mark row mark one ≡ with_mark row next other → (one ≡ other) × (mark ≡ next)
-same_marked row one other None None before also same = (same, refl)
-same_marked row one other None (Some mark) before also same =
-    absurd (none_at row mark one other before same)
-same_marked row one other (Some mark) None before also same =
-    absurd (none_at row mark other one also (sym same))
-same_marked row one other (Some mark) (Some next) before also same =
-    let both = same_from_push one other (row, mark) (row, next) same in
-    (both.0, ap (λ m. Some m.1) both.1)
-
--- so do those of a choice
+-- marks with those of a choice at a later row tell of it, and of those before
 same_parts : (row : ℕ) (one other : List (ℕ × Mark)) (choice next : Choice)
     → All (IsBefore row) one → All (IsBefore row) other
     → one ++ marks_at row choice ≡ other ++ marks_at row next
     → (one ≡ other) × (choice ≡ next)
+same_parts row one other Plain Plain before also same =
+    (sym (append-nil one) ∙ same ∙ append-nil other, refl)
+same_parts row one other Plain next before also same =
+    absurd (none_at row _ one other before (sym (append-nil one) ∙ same))
+same_parts row one other choice Plain before also same =
+    absurd (none_at row _ other one also (sym (append-nil other) ∙ sym same))
 same_parts row one other choice next before also same =
-    let first = mark_of choice in
-    let second = mark_of next in
-    let both = same_marked row one other first.0 second.0 before also
-    (sym (at-mark row first.0 one) ∙ ap (λ c. one ++ marks_at row c) (sym first.1) ∙ same
-    ∙ ap (λ c. other ++ marks_at row c) second.1 ∙ at-mark row second.0 other) in
-    (both.0, first.1 ∙ ap choice_by both.1 ∙ sym second.1)
+    let both = same_from_push one other _ _ same in
+    (both.0, ap (λ (m : ℕ × Mark). choice_by (Some m.1)) both.1)
 
 -- choices with the same marks are the same
 pub marks_tell : (scope : Scope) (pieces : List Piece) (one other : Choices (acts_of pieces))
@@ -182,15 +157,62 @@ marks_tell scope (Whole act events ∷ pieces) one other are same =
     (marks_tell scope pieces one.before other.before are.2 parts.0)
 marks_tell scope (tail ∷ pieces) one other are same = marks_tell scope pieces one other are.2 same
 
--- an element of a list is its first, or one of the others
-pub in_cons : (first mark : ℕ × Mark) (others : List (ℕ × Mark)) → Contains (first ∷ others) mark
-    → (first ≡ mark) ⊎ Contains others mark
-in_cons first mark others has = at has.0 has.1 has.2
-  where
-    at : (k : ℕ) → k < length (first ∷ others) → get_or (first ∷ others) k mark ≡ mark
-        → (first ≡ mark) ⊎ Contains others mark
-    at zero less is = inl is
-    at (suc k) less is = inr (k, omega arith, is)
+-- ways with the same choices join
+abbrev pub JoinWithChoices : Type 0
+JoinWithChoices = (scope : Scope) (pieces : List Piece) (chosen : Choices (acts_of pieces))
+    (states : States) (sums : AllSums) → ArePieces scope pieces
+    → AllFollow scope.begins (acts_of pieces) chosen states sums
+    → (loss : Loss) × LossFits loss pieces
+    × (way : IsWay scope.begins loss pieces states sums)
+    × (choices_of scope.begins loss pieces states sums way ≡ chosen)
+
+-- ways of each device with the same choices, and their marks
+pub record WaysWith (begins : Beginning) (pieces : List Piece) (marks : List (ℕ × Mark))
+    (states : States) (sums : AllSums) : Type 0 where
+  pub chosen : Choices (acts_of pieces)
+  pub ways : AllFollow begins (acts_of pieces) chosen states sums
+  pub are : marks_of pieces chosen ≡ marks
+
+module _ {scope : Scope} {rows : List Event} where
+  -- ways with the same choices are a run with the marks of these
+  pub marked-run : JoinWithChoices → {pieces : List Piece} → IsActList scope pieces rows
+      → (chosen : Choices (acts_of pieces)) (states : States) (sums : AllSums)
+      → AllFollow scope.begins (acts_of pieces) chosen states sums
+      → MarkedRun scope rows (marks_of pieces chosen) sums
+  marked-run joins {pieces} list chosen states sums ways =
+      let found = joins scope pieces chosen states sums list.in_order ways in
+      record {
+        run = record {
+          pieces = pieces;
+          act_list = list;
+          loss = found.0;
+          fits = found.1;
+          states = states;
+          way = found.2;
+        };
+        are = ap (marks_of pieces) found.3;
+      }
+
+  -- and a run has such ways through the acts of the act list of its rows
+  pub ways-of : OneActList scope → (pieces : List Piece) → IsActList scope pieces rows
+      → {marks : List (ℕ × Mark)} {sums : AllSums} (marked : MarkedRun scope rows marks sums)
+      → WaysWith scope.begins pieces marks marked.run.states sums
+  ways-of one pieces list {sums = sums} marked =
+      let run = marked.run in
+      rw (← one rows run.pieces pieces run.act_list list) (record {
+        chosen = choices_in run;
+        ways = split_with_choices scope.begins run.loss run.pieces run.states sums run.way;
+        are = marked.are;
+      })
+
+  -- with the choices that have its marks
+  pub followed : OneActList scope → (pieces : List Piece) (chosen : Choices (acts_of pieces))
+      → IsActList scope pieces rows → {marks : List (ℕ × Mark)} {sums : AllSums}
+      → marks_of pieces chosen ≡ marks → (marked : MarkedRun scope rows marks sums)
+      → AllFollow scope.begins (acts_of pieces) chosen marked.run.states sums
+  followed one pieces chosen list have marked =
+      let it = ways-of one pieces list marked in
+      rw (marks_tell scope pieces it.chosen chosen list.in_order (it.are ∙ sym have)) at it.ways
 
 -- an element of the others isn't the first, where marks rise
 pub later_in : (first mark : ℕ × Mark) (others : List (ℕ × Mark)) → Rise (first ∷ others)
@@ -200,20 +222,19 @@ later_in first mark others rise has =
 
 -- the first mark of two lists with the same elements is one
 same_first : (one other : ℕ × Mark) (ones others : List (ℕ × Mark)) → Rise (one ∷ ones)
-    → Rise (other ∷ others)
-    → ((mark : ℕ × Mark) → Contains (one ∷ ones) mark ↔ Contains (other ∷ others) mark)
+    → Rise (other ∷ others) → Contains (other ∷ others) one → Contains (one ∷ ones) other
     → one ≡ other
-same_first one other ones others rise also same =
-    elim (in_cons other one others ((same one).0 (0, omega arith, refl))) [
-      | inl is ↦ sym is
-      | inr has ↦ elim (in_cons one other ones ((same other).1 (0, omega arith, refl))) [
-        | inl is ↦ is
-        | inr back ↦
-            let less : other.0 < one.0 = later_in other one others also has in
-            let more : one.0 < other.0 = later_in one other ones rise back in
-            absurd (omega (arith, less, more))
-      ]
-    ]
+same_first one other ones others rise also has back = elim (contains-cases other others one has) [
+  | inl is ↦ sym is
+  | inr later ↦ elim (contains-cases one ones other back) [
+    | inl is ↦ is
+    | inr more ↦ absurd (omega (
+      arith,
+      later_in other one others also later,
+      later_in one other ones rise more,
+    ))
+  ]
+]
 
 -- the other elements are the same too
 in_others : (one other : ℕ × Mark) (ones others : List (ℕ × Mark)) → Rise (one ∷ ones)
@@ -221,12 +242,12 @@ in_others : (one other : ℕ × Mark) (ones others : List (ℕ × Mark)) → Ris
     → ((mark : ℕ × Mark) → Contains (one ∷ ones) mark → Contains (other ∷ others) mark)
     → (mark : ℕ × Mark) → Contains ones mark → Contains others mark
 in_others one other ones others rise first same mark has =
-    elim (in_cons other mark others
-    (same mark (Contains-append_right (one ∷ []) ones mark has))) [
-      | inl is ↦
-          let less : one.0 < mark.0 = later_in one mark ones rise has in
-          let row : one.0 ≡ mark.0 = ap (λ m. m.0) (first ∙ is) in
-          absurd (omega (arith, less, row))
+    elim (contains-cases other others mark (same mark (contains-there one ones mark has))) [
+      | inl is ↦ absurd (omega (
+        arith,
+        later_in one mark ones rise has,
+        ap (λ (m : ℕ × Mark). m.0) (first ∙ is),
+      ))
       | inr later ↦ later
     ]
 
@@ -235,13 +256,14 @@ pub rising_one : (one other : List (ℕ × Mark)) → Rise one → Rise other
     → ((mark : ℕ × Mark) → Contains one mark ↔ Contains other mark) → one ≡ other
 rising_one [] [] rise also same = refl
 rising_one [] (other ∷ others) rise also same =
-    absurd (omega (arith, ((same other).1 (0, omega arith, refl)).1))
+    absurd (contains-none other ((same other).1 (contains-here other others other refl)))
 rising_one (one ∷ ones) [] rise also same =
-    absurd (omega (arith, ((same one).0 (0, omega arith, refl)).1))
+    absurd (contains-none one ((same one).0 (contains-here one ones one refl)))
 rising_one (one ∷ ones) (other ∷ others) rise also same =
-    let first : one ≡ other = same_first one other ones others rise also same in
-    let rest : ones ≡ others =
-    rising_one ones others rise.1 also.1 (λ mark. (
+    let first = same_first one other ones others rise also
+    ((same one).0 (contains-here one ones one refl))
+    ((same other).1 (contains-here other others other refl)) in
+    let rest = rising_one ones others rise.1 also.1 (λ mark. (
       in_others one other ones others rise first (λ m. (same m).0) mark,
       in_others other one others ones also (sym first) (λ m. (same m).1) mark,
     )) in

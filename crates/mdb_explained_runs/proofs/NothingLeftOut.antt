@@ -1,5 +1,5 @@
 -- A replay blames no device that is left out, and tells nothing of one.
-use Rattle.std.proofs.Common.{ap, refl, subst, sym, ◌∙◌, ◌≡◌, inl, inr, ℤ, ℕ, pos}
+use Rattle.std.proofs.Common.{ap, subst, sym, ◌∙◌, ◌≡◌, inl, inr, ℤ, ℕ, pos}
 use Rattle.std.specs.Prelude.{◌-ℤ◌}
 use Rattle.std.proofs.Common.{List, [], ◌∷◌, ◌++◌, ◌&&◌, Option, Some, All}
 use Rattle.std.proofs.lemmas.List.Elements.{All-from_recursion}
@@ -26,7 +26,7 @@ use Rattle.mdb_follow.specs.Ranges.{IsRange, no_account, no_range}
 use Rattle.mdb_follow.specs.AccountRanges.{IsAccount}
 use Rattle.mdb_follow.specs.Report.{device_report, device_report_of}
 use Rattle.mdb_follow.specs.Runs.{AllSums, Run}
-use Rattle.mdb_follow.specs.Sums.{AccountSums, no_sums}
+use Rattle.mdb_follow.specs.Sums.{Sums, no_sums}
 use Rattle.mdb_follow.proofs.OwnWays.{are_breaks}
 use Rattle.mdb_follow.proofs.ReportsWithout.{BreaksTellNothing, blamed_in, not_early}
 use Rattle.mdb_follow.proofs.SilencesWithout.{NamesFollowed, nothing_counted}
@@ -62,38 +62,28 @@ offends_followed names faults scope rows marks row mark offence device is blamed
 
 -- What is told of a device that is left out.
 
--- what an account has come to where the sums of its device are nothing
-nothing_of : (account : AccountName) (sums : AllSums) → sums (account_device account) ≡ no_sums
-    → sums_of account sums ≡ record { device = 0; controller = 0 }
-nothing_of account sums nothing = ap (λ s. s (account_slot account)) nothing
-
 -- a range of values that are all nothing
 range_of_none : (Kind : AllSums → Type 0) (value : AllSums → ℤ) (range : Range)
     → ((sums : AllSums) → Kind sums → value sums ≡ pos 0) → IsRange Kind value range
     → range ≡ no_range
 range_of_none Kind value range nothing is =
-    let made : ℤ → ℤ → Range = λ l g. record { least = l; greatest = g } in
-    ap (λ l. made l range.greatest)
-    (sym is.least.2 ∙ nothing is.least.0 is.least.1)
-    ∙ ap (λ g. made (pos 0) g) (sym is.greatest.2 ∙ nothing is.greatest.0 is.greatest.1)
+    let least = sym is.least.2 ∙ nothing is.least.0 is.least.1 in
+    let greatest = sym is.greatest.2 ∙ nothing is.greatest.0 is.greatest.1 in
+    λ i. record { least = least i; greatest = greatest i }
 
 account_of_none : (Kind : AllSums → Type 0) (account : AccountName) (ranges : Account)
     → ((sums : AllSums) → Kind sums → sums (account_device account) ≡ no_sums)
     → IsAccount Kind (sums_of account) ranges → ranges ≡ no_account
 account_of_none Kind account ranges nothing is =
-    let at : (value : AccountSums → ℤ) → value (record { device = 0; controller = 0 }) ≡ pos 0
-    → (sums : AllSums) → Kind sums → value (sums_of account sums) ≡ pos 0 =
-    λ value zero sums its. ap value (nothing_of account sums (nothing sums its)) ∙ zero in
-    let made : Range → Range → Range → Account =
-    λ x y z. record { device = x; controller = y; difference = z } in
-    let device = range_of_none Kind _ ranges.device (at (λ a. pos a.device) refl) is.device in
-    let controller =
-    range_of_none Kind _ ranges.controller (at (λ a. pos a.controller) refl) is.controller in
+    let none = λ (sums : AllSums) (its : Kind sums).
+    ap (λ (s : Sums). s (account_slot account)) (nothing sums its) in
+    let device = range_of_none Kind _ ranges.device
+    (λ sums its. ap (λ a. pos a.device) (none sums its)) is.device in
+    let controller = range_of_none Kind _ ranges.controller
+    (λ sums its. ap (λ a. pos a.controller) (none sums its)) is.controller in
     let difference = range_of_none Kind _ ranges.difference
-    (at (λ a. pos a.device -ℤ pos a.controller) refl) is.difference in
-    ap (λ x. made x ranges.controller ranges.difference) device
-    ∙ (ap (λ y. made no_range y ranges.difference) controller
-    ∙ ap (λ z. made no_range no_range z) difference)
+    (λ sums its. ap (λ a. pos a.device -ℤ pos a.controller) (none sums its)) is.difference in
+    λ i. record { device = device i; controller = controller i; difference = difference i }
 
 -- what the laws say that this needs
 pub record LeftOutLaws : Type 0 where

@@ -20,3 +20,8 @@ pub own_one : {Own State : Type 0} (own : Option Own) (Step : Own → State → 
     → IsOneStep (ForOwn own Step before)
 own_one None Step before each = stays_one before
 own_one (Some command) Step before each = each command
+
+-- what is there is one
+pub some_one : {X : Type 0} (told : Option X) (one other : X) → told ≡ Some one → told ≡ Some other
+    → one ≡ other
+some_one told one other p q = cc (p, q)

@@ -1,6 +1,6 @@
 -- From power-on a machine has one step at most by an act under a choice, from a state: so it has
 -- one way through acts with given choices.
-use Rattle.std.proofs.Common.{sym, ap, refl, subst, ◌∙◌, ◌≡◌, ◌↔◌, inl, inr, Bool, true, false}
+use Rattle.std.proofs.Common.{sym, ap, refl, ◌∙◌, ◌≡◌, ◌↔◌, inl, inr, Bool, true, false}
 use Rattle.std.proofs.Common.{List, [], ◌∷◌, ◌++◌, Option, Some, None}
 use Rattle.std.specs.Prelude.{IsSomeAnd}
 use Rattle.std.proofs.lemmas.List.{append_cancel_left}
@@ -33,15 +33,12 @@ use Rattle.mdb_cash.specs.BillFacts as bill_facts
 use Rattle.mdb_cash.specs.Changer as changer
 use Rattle.mdb_cash.specs.ChangerValues as changer_values
 use Rattle.mdb_cash.specs.ChangerFacts as changer_facts
-use Rattle.mdb_machine.specs.Gains.{Stays, device_gains, in_slots}
+use Rattle.mdb_machine.specs.Gains.{Stays}
 use Rattle.mdb_machine.specs.Keeper.{Facts, Tables}
-use Rattle.mdb_machine.specs.KeeperSteps.{AckStep, Conduct, KeeperStep, ReplyStep, worth}
+use Rattle.mdb_machine.specs.KeeperSteps.{AckStep, Conduct, KeeperStep, ReplyStep}
 use Rattle.mdb_machine.specs.Kept.{IsNew}
 use Rattle.mdb_machine.specs.Machine.{Machine}
-use Rattle.mdb_machine.specs.Past.{or_else}
 use Rattle.mdb_cash.specs.shared.BillCodes.{same_type}
-use Rattle.mdb_cashless.specs.declared.reader.device.DeviceState.{DeviceState}
-use Rattle.mdb_cashless.specs.declared.reader.messages.ReaderActivity.{ReaderActivity}
 use Rattle.mdb_cashless.specs.declared.reader.state.ReaderState.{ReaderState}
 use Rattle.mdb_cashless.specs.declared.by_profile.state.StateByProfile.{StateByProfile}
 use Rattle.mdb_cashless.specs.declared.by_profile.state.StateByProfile.TheVariants.{Base, Extended}
@@ -50,17 +47,14 @@ use Rattle.mdb_cashless.specs.ByProfile.{StepOf, base_state, extended_state, mac
 use Rattle.mdb_cashless.specs.ExtendedReader as extended
 use Rattle.mdb_cashless.specs.shared.ByProfileWays.{IsPart, base_part, extended_part}
 use Rattle.mdb_cashless.specs.Reader as reader
-use Rattle.mdb_cashless.specs.ReaderDevice.{all_told}
 use Rattle.mdb_cashless.specs.ReaderFacts as reader_facts
 use Rattle.mdb_cashless.specs.ReaderValues as reader_values
-use Rattle.mdb_cashless.specs.ReaderMessages.{config_in, last_said, messages_of}
-use Rattle.mdb_cashless.specs.Transactions.{amounts}
 use Rattle.mdb_cashless.specs.Units.{own}
 use Rattle.mdb_follow.specs.Choosing.{Choices, Follows}
 use Rattle.mdb_follow.specs.Machines.{machine_of}
 use Rattle.mdb_follow.specs.Sums.{Sums, added}
 use Rattle.mdb_explained_runs.proofs.OneApproval.{approval_one}
-use Rattle.mdb_explained_runs.proofs.OneKind.{IsOneStep, own_one, stays_one}
+use Rattle.mdb_explained_runs.proofs.OneKind.{IsOneStep, own_one, some_one, stays_one}
 
 -- Messages that are new.
 
@@ -125,63 +119,51 @@ record IsOneConduct {Own Setup Asked M State : Type 0} (conduct : Conduct Own Se
       (before one other : State) → conduct.TellsNews facts choice news before one
       → conduct.TellsNews facts choice news before other → one ≡ other
 
-acks_one : {Own Setup Asked M State : Type 0} (conduct : Conduct Own Setup Asked M State)
-    → IsOneConduct conduct → (facts : Facts Setup Asked M) (poll : Bool) (command : Own)
-    (choice : Choice) (before : State)
-    → IsOneStep (AckStep conduct facts poll command choice before)
-acks_one conduct is facts true command choice before one other gains more p q =
-    stays_one before one other gains more p.1 q.1
-acks_one conduct is facts false command choice before one other gains more p q =
-    is.acks facts command choice before one other gains more p q
+module _ {Own Setup Asked M State : Type 0} (tables : Tables Own Setup Asked M)
+    (conduct : Conduct Own Setup Asked M State) (is : IsOneConduct conduct)
+    (facts : Facts Setup Asked M) where
+  acks_one : (poll : Bool) (command : Own) (choice : Choice) (before : State)
+      → IsOneStep (AckStep conduct facts poll command choice before)
+  acks_one true command choice before one other gains more p q =
+      stays_one before one other gains more p.1 q.1
+  acks_one false command choice before one other gains more p q =
+      is.acks facts command choice before one other gains more p q
 
-replies_one : {Own Setup Asked M State : Type 0} (conduct : Conduct Own Setup Asked M State)
-    → IsOneConduct conduct → (facts : Facts Setup Asked M) (poll : Bool) (parts : List (Part M))
-    (choice : Choice) (before : State)
-    → IsOneStep (ReplyStep conduct facts poll parts choice before)
-replies_one conduct is facts poll parts choice before one other gains more p q =
-    let news : p.news ≡ q.news =
-    one_new poll _ _ p.news q.news p.has_news.new q.has_news.new in (
-      is.tells facts choice q.news _ one other
-          (subst (λ ms. conduct.TellsNews facts choice ms _ one) news p.tells_news) q.tells_news,
-      p.gained ∙ (ap (λ ms. device_gains (worth conduct facts ms)) news ∙ sym q.gained),
-    )
+  replies_one : (poll : Bool) (parts : List (Part M)) (choice : Choice) (before : State)
+      → IsOneStep (ReplyStep conduct facts poll parts choice before)
+  replies_one poll parts choice before one other gains more p q =
+      let news : p.news ≡ q.news =
+      one_new poll _ _ p.news q.news p.has_news.new q.has_news.new in (
+        is.tells facts choice q.news _ one other (rw news at p.tells_news) q.tells_news,
+        (rw news at p.gained) ∙ sym q.gained,
+      )
 
-keeper_one : {Own Setup Asked M State : Type 0} (tables : Tables Own Setup Asked M)
-    (conduct : Conduct Own Setup Asked M State) → IsOneConduct conduct
-    → (facts : Facts Setup Asked M) (act : Act) (choice : Choice) (before : State)
-    → IsOneStep (KeeperStep tables conduct facts act choice before)
-keeper_one tables conduct is facts (acts.Ask command) choice before =
-    own_one (tables.own command) _ before (λ c. is.asks facts c before)
-keeper_one tables conduct is facts (acts.Ack command) choice before =
-    own_one (tables.own command) _ before
-    (λ c. acks_one conduct is facts (tables.is_poll c) c choice before)
-keeper_one tables conduct is facts (acts.Reply command reply) choice before =
-    own_one (tables.own command) _ before
-    (λ c. replies_one conduct is facts (tables.is_poll c) (tables.parts_of reply) choice before)
-keeper_one tables conduct is facts (acts.VmcAck command reply) choice before =
-    own_one (tables.own command) _ before
-    (λ c one other gains more p q. (p.to ∙ sym q.to, p.gained ∙ sym q.gained))
-keeper_one tables conduct is facts (acts.Break length) choice before =
-    λ one other gains more p q. (p.0 ∙ sym q.0, p.1 ∙ sym q.1)
-keeper_one tables conduct is facts act choice before = stays_one before
+  keeper_one : (act : Act) (choice : Choice) (before : State)
+      → IsOneStep (KeeperStep tables conduct facts act choice before)
+  keeper_one (acts.Ask command) choice before =
+      own_one (tables.own command) _ before (λ c. is.asks facts c before)
+  keeper_one (acts.Ack command) choice before =
+      own_one (tables.own command) _ before (λ c. acks_one (tables.is_poll c) c choice before)
+  keeper_one (acts.Reply command reply) choice before = own_one (tables.own command) _ before
+      (λ c. replies_one (tables.is_poll c) (tables.parts_of reply) choice before)
+  keeper_one (acts.VmcAck command reply) choice before = own_one (tables.own command) _ before
+      (λ c one other gains more p q. (p.to ∙ sym q.to, p.gained ∙ sym q.gained))
+  keeper_one act choice before = λ one other gains more p q. (p.0 ∙ sym q.0, p.1 ∙ sym q.1)
 
 -- The changer.
 
 changer_asks : (facts : changer_facts.Facts) (command : ChangerCommand) (before : ChangerState)
     → IsOneStep (changer.AskStep facts command before)
-changer_asks facts (changer_commands.Dispense coins) before one other gains more p q =
-    (p.0 ∙ sym q.0, p.1 ∙ sym q.1)
 changer_asks facts changer_commands.Reset before one other gains more p q =
     (p.0 ∙ sym q.0, p.1 ∙ sym q.1)
-changer_asks facts _ before one other gains more p q = (p.0 ∙ sym q.0, p.1 ∙ sym q.1)
+changer_asks facts command before one other gains more p q = (p.0 ∙ sym q.0, p.1 ∙ sym q.1)
 
 changer_acks : (facts : changer_facts.Facts) (command : ChangerCommand) (choice : Choice)
     (before : ChangerState) → IsOneStep (changer.TakeStep facts command choice before)
 changer_acks facts changer_commands.Reset choice before one other gains more p q =
     (p.0 ∙ sym q.0, p.1 ∙ sym q.1)
-changer_acks facts (changer_commands.Dispense coins) choice before one other gains more p q =
+changer_acks facts command choice before one other gains more p q =
     (p.0 ∙ sym q.0, p.1 ∙ sym q.1)
-changer_acks facts _ choice before one other gains more p q = (p.0 ∙ sym q.0, p.1 ∙ sym q.1)
 
 changer_is_one : IsOneConduct changer.conduct
 changer_is_one = record {
@@ -195,9 +177,7 @@ changer_is_one = record {
 bill_acks : (command : BillCommand) (before : BillState)
     → IsOneStep (bill.TakeStep command before)
 bill_acks bill_commands.Reset before one other gains more p q = (p.0 ∙ sym q.0, p.1 ∙ sym q.1)
-bill_acks (bill_commands.Escrow order) before one other gains more p q =
-    (p.0 ∙ sym q.0, p.1 ∙ sym q.1)
-bill_acks _ before one other gains more p q = (p.0 ∙ sym q.0, p.1 ∙ sym q.1)
+bill_acks command before one other gains more p q = (p.0 ∙ sym q.0, p.1 ∙ sym q.1)
 
 -- what a message leaves in escrow is one
 moves_bill : (facts : bill_facts.Facts) (message : BillActivity) (before one other : Escrow)
@@ -215,8 +195,7 @@ moves_bills : (facts : bill_facts.Facts) (messages : List BillActivity) (before 
 moves_bills facts [] before one other p q = p ∙ sym q
 moves_bills facts (message ∷ messages) before one other p q =
     let between : p.0 ≡ q.0 = moves_bill facts message before p.0 q.0 p.1 q.1 in
-    moves_bills facts messages q.0 one other
-    (subst (λ escrow. bill.MovesBills facts messages escrow one) between p.2) q.2
+    moves_bills facts messages q.0 one other (rw between at p.2) q.2
 
 bill_alike : (one other : BillState) → one.escrow ≡ other.escrow → one.holds ≡ other.holds
     → one ≡ other
@@ -238,11 +217,6 @@ reader_alike : (one other : ReaderState) → one.device ≡ other.device → one
 reader_alike one other device view holds i =
     record { device = device i; view = view i; holds = holds i }
 
--- what is there is one
-some_one : {X : Type 0} (told : Option X) (one other : X) → told ≡ Some one → told ≡ Some other
-    → one ≡ other
-some_one told one other p q = cc (p, q)
-
 reader_asks : (facts : reader_facts.Facts) (command : ReaderCommand) (before : ReaderState)
     → IsOneStep (reader.AskStep facts command before)
 reader_asks facts command before one other gains more p q = (
@@ -252,33 +226,15 @@ reader_asks facts command before one other gains more p q = (
   p.gained ∙ sym q.gained,
 )
 
--- what messages make of the reader, and what they add
-abbrev reader_told : reader_facts.Facts → ReaderCommand → Reply → Choice → ReaderState
-    → List ReaderActivity → Option DeviceState
-reader_told facts command reply choice before news =
-    all_told (reader.last_transaction facts (reader.taken command reply)) news
-    (reader.before_messages facts command reply choice before).device
-
-abbrev reader_gains : reader_facts.Facts → ReaderCommand → Reply → Choice → ReaderState
-    → List ReaderActivity → Gains
-reader_gains facts command reply choice before news =
-    device_gains (in_slots
-    (amounts
-    (reader.all_approved (or_else (last_said config_in (messages_of reply)) facts.config) news)
-    (reader.sold_any facts (reader.taken command reply) (reader.read choice before))))
-
 reader_replies : (facts : reader_facts.Facts) (command : ReaderCommand) (reply : Reply)
     (choice : Choice) (before : ReaderState)
     → IsOneStep (reader.ReplyStep facts command reply choice before)
 reader_replies facts command reply choice before one other gains more p q =
-    let news : p.news ≡ q.news =
-    one_new _ _ _ p.news q.news p.has_news.new q.has_news.new in (
+    let news : p.news ≡ q.news = one_new _ _ _ p.news q.news p.has_news.new q.has_news.new in (
       reader_alike one other
-          (some_one _ one.device other.device
-          (sym (ap (λ ms. reader_told facts command reply choice before ms) news) ∙ p.told) q.told)
+          (some_one _ one.device other.device (rw news at p.told) q.told)
           (p.view ∙ sym q.view) (p.holds ∙ sym q.holds),
-      p.gained ∙ (ap (λ ms. reader_gains facts command reply choice before ms) news
-          ∙ sym q.gained),
+      (rw news at p.gained) ∙ sym q.gained,
     )
 
 reader_one : (unit : ReaderUnit) (facts : reader_facts.Facts) (act : Act) (choice : Choice)
@@ -293,9 +249,8 @@ reader_one unit facts (acts.Reply command reply) choice before =
 reader_one unit facts (acts.VmcAck command reply) choice before =
     own_one (own unit command) _ before
     (λ c one other gains more p q. (p.to ∙ sym q.to, p.gained ∙ sym q.gained))
-reader_one unit facts (acts.Break length) choice before =
+reader_one unit facts act choice before =
     λ one other gains more p q. (p.0 ∙ sym q.0, p.1 ∙ sym q.1)
-reader_one unit facts act choice before = stays_one before
 
 -- Each machine.
 
@@ -371,18 +326,17 @@ machine_is_one known profile devices.Bill = record {
 machine_is_one known profile (devices.Reader unit) = reader_is_one known profile unit
 
 -- so it has one way with given choices
-pub one_way : {State : Type 0} (machine : Machine State) → IsOneMachine machine
-    → (so_far : List Act) (chosen : Choices so_far) (one other : State) (sums more : Sums)
-    → Follows machine so_far chosen one sums → Follows machine so_far chosen other more
-    → (one ≡ other) × (sums ≡ more)
-one_way machine is [] chosen one other sums more p q = (is.starts one other p.0 q.0, p.1 ∙ sym q.1)
-one_way machine is (act ∷ so_far) chosen one other sums more p q =
-    let was = one_way machine is so_far chosen.before p.before q.before p.sums_before q.sums_before
-    p.way q.way in
-    let step = is.steps so_far act chosen.choice q.before one other p.gains q.gains
-    (subst (λ state. machine.Step so_far act chosen.choice state one p.gains) was.0 p.step) q.step
-    in (
-      step.0,
-      p.adds ∙ (ap (λ before. added before p.gains) was.1
-          ∙ (ap (added q.sums_before) step.1 ∙ sym q.adds)),
-    )
+module _ {State : Type 0} (machine : Machine State) (is : IsOneMachine machine) where
+  pub one_way : (so_far : List Act) (chosen : Choices so_far) (one other : State) (sums more : Sums)
+      → Follows machine so_far chosen one sums → Follows machine so_far chosen other more
+      → (one ≡ other) × (sums ≡ more)
+  one_way [] chosen one other sums more p q = (is.starts one other p.0 q.0, p.1 ∙ sym q.1)
+  one_way (act ∷ so_far) chosen one other sums more p q =
+      let was = one_way so_far chosen.before p.before q.before p.sums_before q.sums_before p.way
+      q.way in
+      let step = is.steps so_far act chosen.choice q.before one other p.gains q.gains
+      (rw was.0 at p.step) q.step in (
+        step.0,
+        p.adds ∙ (ap (λ before. added before p.gains) was.1
+            ∙ (ap (added q.sums_before) step.1 ∙ sym q.adds)),
+      )

@@ -1,9 +1,9 @@
 -- The marks of a run by devices: each is of one device.
-use Rattle.std.proofs.Common.{arith, refl, sym, ap, subst, ◌∙◌, ◌≡◌, ◌↔◌, inl, inr}
+use Rattle.std.proofs.Common.{arith, refl, sym, ap, ◌∙◌, ◌≡◌, ◌↔◌, ◌⊎◌, inl, inr}
 use Rattle.std.proofs.Common.{ℕ, ◌+◌, ◌<◌, ◌≤◌, Bool, true, false, if◌then◌else◌}
-use Rattle.std.proofs.Common.{List, [], ◌∷◌, ◌++◌, length, length-append, All, Contains}
+use Rattle.std.proofs.Common.{List, [], ◌∷◌, ◌++◌, get_or, length, length-append, All, Contains}
 use Rattle.std.proofs.lemmas.List.{append-nil}
-use Rattle.std.proofs.lemmas.List.Elements.{All-contains, All-contains_itself, All-weaker}
+use Rattle.std.proofs.lemmas.List.Elements.{All-contains, Contains-get_or}
 use Rattle.std.proofs.lemmas.List.Elements.{Contains-append_cases, Contains-append_left}
 use Rattle.std.proofs.lemmas.List.Elements.{Contains-append_right}
 use Rattle.std.proofs.lemmas.Option.{same_Some}
@@ -27,6 +27,7 @@ use Rattle.mdb_explained_runs.specs.declared.mark.Mark.{Mark}
 use Rattle.mdb_follow.specs.Choosing.{Choices}
 use Rattle.mdb_explained_runs.specs.Marks.{Rise, marks_at, marks_of, own_marks}
 use Rattle.mdb_follow.proofs.Choosing.{AgreeFor, merged, merged_agrees}
+use Rattle.mdb_follow.proofs.Listed.{contains-none}
 use Rattle.mdb_explained_runs.proofs.MarkedRuns.{IsAt, IsBefore, all_before, at_row, rise-more}
 
 -- what mdb_cash says of the acts that a device has a part in
@@ -43,26 +44,25 @@ kept_alike : (has : Bool) (row : ℕ) (one other : Choice) → (has ≡ true →
 kept_alike true row one other same = ap (marks_at row) (same refl)
 kept_alike false row one other same = refl
 
--- choices that are the same for a device have the same marks of it
-own_alike : PartsAreTold → (device : Device) (pieces : List Piece)
-    (one other : Choices (acts_of pieces)) → AgreeFor device (acts_of pieces) one other
-    → own_marks device pieces one ≡ own_marks device pieces other
-own_alike told device [] one other same = refl
-own_alike told device (Whole act events ∷ pieces) one other same =
-    let before = own_alike told device pieces one.before other.before same.1 in
-    let here = kept_alike (has_part device act) (length (events_of pieces ++ events)) one.choice
-    other.choice (λ has. same.0 ((told device act).0 has)) in
-    λ i. before i ++ here i
-own_alike told device (tail ∷ pieces) one other same = own_alike told device pieces one other same
+-- what is kept was there, and is of a device that has a part
+kept_in : (has : Bool) (here : List (ℕ × Mark)) (mark : ℕ × Mark) → Contains (kept_if has here) mark
+    → (has ≡ true) × Contains here mark
+kept_in true here mark is = (refl, is)
+kept_in false here mark is = absurd (contains-none mark is)
 
--- choices of each device, as one list, have of each device the marks of its own
-pub own_of_merged : PartsAreTold → (device : Device) (pieces : List Piece)
-    (all : Device → Choices (acts_of pieces))
-    → own_marks device pieces (merged (acts_of pieces) all)
-    ≡ own_marks device pieces (all device)
-own_of_merged told device pieces all =
-    sym (own_alike told device pieces (all device) (merged (acts_of pieces) all)
-    (merged_agrees (acts_of pieces) all device))
+-- an act that has a mark is of one device
+act_of_one : (act : Act) (choice : Choice) → CanStand act choice
+    → (choice ≡ Plain) ⊎ ((device : Device) × IsActOf device act
+    × ((other : Device) → IsActOf other act → other ≡ device))
+act_of_one act Plain stands = inl refl
+act_of_one (kinds.Ack command) Lost stands =
+    inr (device_of command, refl, λ other of. sym (same_Some _ other of))
+act_of_one (kinds.VmcAck command reply) Lost stands =
+    inr (device_of command, refl, λ other of. sym (same_Some _ other of))
+act_of_one (kinds.Reply command reply) choice stands =
+    inr (device_of command, refl, λ other of. sym (same_Some _ other of))
+act_of_one act Again stands = absurd cc
+act_of_one _ _ stands = absurd stands
 
 -- how many marks the devices have together of these, each where it has them
 abbrev pub together : (Device → List (ℕ × Mark)) → ℕ
@@ -70,28 +70,11 @@ together own =
     length (own devices.Changer) + length (own devices.Bill) + length (own (devices.Reader First))
     + length (own (devices.Reader Second))
 
--- as many, where each device has as many, and no more, where none has more
-pub together_same : (one other : Device → List (ℕ × Mark))
-    → ((device : Device) → length (one device) ≡ length (other device))
-    → together one ≡ together other
-together_same one other same = omega (
-  arith,
-  same devices.Changer,
-  same devices.Bill,
-  same (devices.Reader First),
-  same (devices.Reader Second),
-)
-
+-- no more, where none has more
 pub together_most : (one other : Device → List (ℕ × Mark))
     → ((device : Device) → length (one device) ≤ length (other device))
     → together one ≤ together other
-together_most one other most = omega (
-  arith,
-  most devices.Changer,
-  most devices.Bill,
-  most (devices.Reader First),
-  most (devices.Reader Second),
-)
+together_most one other most = omega arith
 
 -- what is of one device is counted once
 of_one : (device : Device) (here : List (ℕ × Mark))
@@ -102,25 +85,15 @@ of_one (devices.Reader First) here = omega arith
 of_one (devices.Reader Second) here = omega arith
 
 -- nothing is counted as nothing
-kept_none : (has : Bool) → kept_if has [] ≡ []
+kept_none : (has : Bool) → length (kept_if has []) ≡ 0
 kept_none true = refl
 kept_none false = refl
 
--- so where no mark stands, none is of a device
-none_together : (has : Device → Bool) → 0 ≡ together (λ device. kept_if (has device) [])
-none_together has = omega (
-  arith,
-  ap length (kept_none (has devices.Changer)),
-  ap length (kept_none (has devices.Bill)),
-  ap length (kept_none (has (devices.Reader First))),
-  ap length (kept_none (has (devices.Reader Second))),
-)
-
--- an act that has a mark is of one device
+-- an act that has a mark is counted once
 here_together : (act : Act) (choice : Choice) (row : ℕ) → CanStand act choice
     → length (marks_at row choice)
     ≡ together (λ device. kept_if (has_part device act) (marks_at row choice))
-here_together act Plain row stands = none_together (λ device. has_part device act)
+here_together act Plain row stands = omega (arith, kept_none)
 here_together (kinds.Ack command) Lost row stands =
     of_one (device_of command) (marks_at row Lost)
 here_together (kinds.VmcAck command reply) Lost row stands =
@@ -132,34 +105,16 @@ here_together _ _ row stands = absurd stands
 
 -- the marks of a run are as many as those of the devices together
 pub all_together : (pieces : List Piece) (chosen : Choices (acts_of pieces))
-    → length (marks_of pieces chosen)
-    ≡ together (λ device. own_marks device pieces chosen)
+    → length (marks_of pieces chosen) ≡ together (λ device. own_marks device pieces chosen)
 all_together [] chosen = refl
 all_together (Whole act events ∷ pieces) chosen =
-    let row : ℕ = length (events_of pieces ++ events) in
-    let own : Device → List (ℕ × Mark) = λ device. own_marks device pieces chosen.before in
-    let here : Device → List (ℕ × Mark) =
-    λ device. kept_if (has_part device act) (marks_at row chosen.choice) in
-    let longer : (device : Device) → length (own device ++ here device)
-    ≡ length (own device) + length (here device) =
-    λ device. length-append (own device) (here device) in
     omega (
       arith,
-      length-append (marks_of pieces chosen.before) (marks_at row chosen.choice),
+      length-append {A = ℕ × Mark},
       all_together pieces chosen.before,
-      here_together act chosen.choice row chosen.stands,
-      longer devices.Changer,
-      longer devices.Bill,
-      longer (devices.Reader First),
-      longer (devices.Reader Second),
+      here_together act chosen.choice (length (events_of pieces ++ events)) chosen.stands,
     )
 all_together (tail ∷ pieces) chosen = all_together pieces chosen
-
--- what is kept was there
-kept_in : (has : Bool) (here : List (ℕ × Mark)) (mark : ℕ × Mark) → Contains (kept_if has here) mark
-    → Contains here mark
-kept_in true here mark is = is
-kept_in false here mark is = absurd (omega (arith, is.1))
 
 -- each mark of a device is one of the run
 pub own_in : (device : Device) (pieces : List Piece) (chosen : Choices (acts_of pieces))
@@ -167,88 +122,57 @@ pub own_in : (device : Device) (pieces : List Piece) (chosen : Choices (acts_of 
     → Contains (marks_of pieces chosen) mark
 own_in device [] chosen mark is = is
 own_in device (Whole act events ∷ pieces) chosen mark is =
-    let here : List (ℕ × Mark) =
-    marks_at (length (events_of pieces ++ events)) chosen.choice in
+    let here : List (ℕ × Mark) = marks_at (length (events_of pieces ++ events)) chosen.choice in
     elim (Contains-append_cases (own_marks device pieces chosen.before)
     (kept_if (has_part device act) here) mark is) [
       | inl earlier ↦ Contains-append_left (marks_of pieces chosen.before) here mark
           (own_in device pieces chosen.before mark earlier)
       | inr last ↦ Contains-append_right (marks_of pieces chosen.before) here mark
-          (kept_in (has_part device act) here mark last)
+          (kept_in (has_part device act) here mark last).1
     ]
 own_in device (tail ∷ pieces) chosen mark is = own_in device pieces chosen mark is
-
--- a mark of an act is of the device that has a part in it
-kept_of : PartsAreTold → (act : Act) (choice : Choice) (row : ℕ) → CanStand act choice
-    → (mark : ℕ × Mark) → Contains (marks_at row choice) mark
-    → (device : Device) × Contains (kept_if (has_part device act) (marks_at row choice)) mark
-kept_of told act Plain row stands mark is = absurd (omega (arith, is.1))
-kept_of told (kinds.Ack command) Lost row stands mark is = (
-  device_of command,
-  subst (λ has. Contains (kept_if has (marks_at row Lost)) mark)
-      (sym ((told (device_of command) (kinds.Ack command)).1 refl)) is,
-)
-kept_of told (kinds.VmcAck command reply) Lost row stands mark is = (
-  device_of command,
-  subst (λ has. Contains (kept_if has (marks_at row Lost)) mark)
-      (sym ((told (device_of command) (kinds.VmcAck command reply)).1 refl)) is,
-)
-kept_of told (kinds.Reply command reply) choice row stands mark is = (
-  device_of command,
-  subst (λ has. Contains (kept_if has (marks_at row choice)) mark)
-      (sym ((told (device_of command) (kinds.Reply command reply)).1 refl)) is,
-)
-kept_of told act Again row stands mark is = absurd cc
-kept_of told _ _ row stands mark is = absurd stands
-
--- each mark of a run is of some device
-pub in_own : PartsAreTold → (pieces : List Piece) (chosen : Choices (acts_of pieces))
-    (mark : ℕ × Mark) → Contains (marks_of pieces chosen) mark
-    → (device : Device) × Contains (own_marks device pieces chosen) mark
-in_own told [] chosen mark is = absurd (omega (arith, is.1))
-in_own told (Whole act events ∷ pieces) chosen mark is =
-    let row : ℕ = length (events_of pieces ++ events) in
-    let here : List (ℕ × Mark) = marks_at row chosen.choice in
-    elim (Contains-append_cases (marks_of pieces chosen.before) here mark is) [
-      | inl earlier ↦
-          let found = in_own told pieces chosen.before mark earlier in (
-            found.0,
-            Contains-append_left (own_marks found.0 pieces chosen.before)
-                (kept_if (has_part found.0 act) here) mark found.1,
-          )
-      | inr last ↦
-          let found = kept_of told act chosen.choice row chosen.stands mark last in (
-            found.0,
-            Contains-append_right (own_marks found.0 pieces chosen.before)
-                (kept_if (has_part found.0 act) here) mark found.1,
-          )
-    ]
-in_own told (tail ∷ pieces) chosen mark is = in_own told pieces chosen mark is
-
--- what is kept is of a device that has a part
-kept_part : (has : Bool) (here : List (ℕ × Mark)) (mark : ℕ × Mark)
-    → Contains (kept_if has here) mark → has ≡ true
-kept_part true here mark is = refl
-kept_part false here mark is = absurd (omega (arith, is.1))
 
 -- the marks of a device, too, stand before the row of one that comes after them
 own_before : (device : Device) (scope : Scope) (act : Act) (events : List Event)
     (pieces : List Piece) (chosen : Choices (acts_of pieces))
     → ArePieces scope (Whole act events ∷ pieces)
     → All (IsBefore (length (events_of pieces ++ events))) (own_marks device pieces chosen)
-own_before device scope act events pieces chosen are =
-    let own : List (ℕ × Mark) = own_marks device pieces chosen in
+own_before device scope act events pieces chosen are k d inside =
+    let own = own_marks device pieces chosen in
+    All-contains (IsBefore (length (events_of pieces ++ events))) (marks_of pieces chosen)
+    (get_or own k d) (all_before scope act events pieces chosen are)
+    (own_in device pieces chosen (get_or own k d) (Contains-get_or own k d inside))
+
+-- a mark of a device is of those before, or at the row of the last act, in which it has a part
+own_cases : (scope : Scope) (act : Act) (events : List Event) (pieces : List Piece)
+    (chosen : Choices (act ∷ acts_of pieces)) → ArePieces scope (Whole act events ∷ pieces)
+    → (device : Device) (mark : ℕ × Mark)
+    → Contains (own_marks device (Whole act events ∷ pieces) chosen) mark
+    → (Contains (own_marks device pieces chosen.before) mark
+    × (mark.0 < length (events_of pieces ++ events)))
+    ⊎ ((has_part device act ≡ true)
+    × Contains (marks_at (length (events_of pieces ++ events)) chosen.choice) mark
+    × (mark.0 ≡ length (events_of pieces ++ events)))
+own_cases scope act events pieces chosen are device mark has =
     let row : ℕ = length (events_of pieces ++ events) in
-    All-weaker (Contains own) (IsBefore row) (λ mark has.
-    All-contains (IsBefore row) (marks_of pieces chosen) mark
-    (all_before scope act events pieces chosen are) (own_in device pieces chosen mark has))
-    own (All-contains_itself own)
+    let here : List (ℕ × Mark) = marks_at row chosen.choice in
+    let own = own_marks device pieces chosen.before in
+    elim (Contains-append_cases own (kept_if (has_part device act) here) mark has) [
+      | inl before ↦ inl (
+        before,
+        All-contains (IsBefore row) own mark
+            (own_before device scope act events pieces chosen.before are) before,
+      )
+      | inr last ↦
+          let is = kept_in (has_part device act) here mark last in
+          inr (is.0, is.1, All-contains (IsAt row) here mark (at_row row chosen.choice) is.1)
+    ]
 
 -- marks that rise do so with those of a row after them, where the device has a part in the act
 rise_kept : (has : Bool) (row : ℕ) (choice : Choice) (so_far : List (ℕ × Mark)) → Rise so_far
     → All (IsBefore row) so_far → Rise (so_far ++ kept_if has (marks_at row choice))
 rise_kept true row choice so_far rise before = rise-more row choice so_far rise before
-rise_kept false row choice so_far rise before = subst Rise (sym (append-nil so_far)) rise
+rise_kept false row choice so_far rise before = rw append-nil rise
 
 -- so the marks of a device rise
 pub own_rise : (scope : Scope) (device : Device) (pieces : List Piece)
@@ -256,75 +180,90 @@ pub own_rise : (scope : Scope) (device : Device) (pieces : List Piece)
     → Rise (own_marks device pieces chosen)
 own_rise scope device [] chosen are = tt
 own_rise scope device (Whole act events ∷ pieces) chosen are =
-    rise_kept (has_part device act) (length (events_of pieces ++ events)) chosen.choice
-    (own_marks device pieces chosen.before) (own_rise scope device pieces chosen.before are.2)
+    rise_kept (has_part device act) _ chosen.choice (own_marks device pieces chosen.before)
+    (own_rise scope device pieces chosen.before are.2)
     (own_before device scope act events pieces chosen.before are)
 own_rise scope device (tail ∷ pieces) chosen are = own_rise scope device pieces chosen are.2
 
--- an act that has a mark is of no two devices
-part_of_one : PartsAreTold → (act : Act) (choice : Choice) (row : ℕ) → CanStand act choice
-    → (mark : ℕ × Mark) → Contains (marks_at row choice) mark → (one other : Device)
-    → has_part one act ≡ true → has_part other act ≡ true → one ≡ other
-part_of_one told act Plain row stands mark is one other has also = absurd (omega (arith, is.1))
-part_of_one told (kinds.Ack command) Lost row stands mark is one other has also =
-    same_Some one other
-    (sym ((told one (kinds.Ack command)).0 has) ∙ (told other (kinds.Ack command)).0 also)
-part_of_one told (kinds.VmcAck command reply) Lost row stands mark is one other has also =
-    same_Some one other (sym ((told one (kinds.VmcAck command reply)).0 has)
-    ∙ (told other (kinds.VmcAck command reply)).0 also)
-part_of_one told (kinds.Reply command reply) choice row stands mark is one other has also =
-    same_Some one other (sym ((told one (kinds.Reply command reply)).0 has)
-    ∙ (told other (kinds.Reply command reply)).0 also)
-part_of_one told act Again row stands mark is one other has also = absurd cc
-part_of_one told _ _ row stands mark is one other has also = absurd stands
+module _ (told : PartsAreTold) where
+  -- choices that are the same for a device have the same marks of it
+  own_alike : (device : Device) (pieces : List Piece) (one other : Choices (acts_of pieces))
+      → AgreeFor device (acts_of pieces) one other
+      → own_marks device pieces one ≡ own_marks device pieces other
+  own_alike device [] one other same = refl
+  own_alike device (Whole act events ∷ pieces) one other same =
+      let before = own_alike device pieces one.before other.before same.1 in
+      let here = kept_alike (has_part device act) (length (events_of pieces ++ events)) one.choice
+      other.choice (λ has. same.0 ((told device act).0 has)) in
+      λ i. before i ++ here i
+  own_alike device (tail ∷ pieces) one other same = own_alike device pieces one other same
 
--- a mark of the last act stands at its row
-last_at : (has : Bool) (row : ℕ) (choice : Choice) (mark : ℕ × Mark)
-    → Contains (kept_if has (marks_at row choice)) mark → mark.0 ≡ row
-last_at has row choice mark is =
-    All-contains (IsAt row) (marks_at row choice) mark (at_row row choice)
-    (kept_in has (marks_at row choice) mark is)
+  -- choices of each device, as one list, have of each device the marks of its own
+  pub own_of_merged : (device : Device) (pieces : List Piece)
+      (all : Device → Choices (acts_of pieces))
+      → own_marks device pieces (merged (acts_of pieces) all)
+      ≡ own_marks device pieces (all device)
+  own_of_merged device pieces all =
+      sym (own_alike device pieces (all device) (merged (acts_of pieces) all)
+      (merged_agrees (acts_of pieces) all device))
 
--- no two devices have a mark at one row
-pub own_apart : PartsAreTold → (scope : Scope) (pieces : List Piece)
-    (chosen : Choices (acts_of pieces)) → ArePieces scope pieces → (one other : Device)
-    (mark next : ℕ × Mark) → Contains (own_marks one pieces chosen) mark
-    → Contains (own_marks other pieces chosen) next → mark.0 ≡ next.0 → one ≡ other
-own_apart told scope [] chosen are one other mark next has also same =
-    absurd (omega (arith, has.1))
-own_apart told scope (Whole act events ∷ pieces) chosen are one other mark next has also same =
-    let row : ℕ = length (events_of pieces ++ events) in
-    let here : List (ℕ × Mark) = marks_at row chosen.choice in
-    let earlier : (device : Device) (m : ℕ × Mark)
-    → Contains (own_marks device pieces chosen.before) m → m.0 < row =
-    λ device m. All-contains (IsBefore row) (own_marks device pieces chosen.before) m
-    (own_before device scope act events pieces chosen.before are) in
-    elim (Contains-append_cases (own_marks one pieces chosen.before)
-    (kept_if (has_part one act) here) mark has) [
-      | inl before ↦ elim (Contains-append_cases (own_marks other pieces chosen.before)
-          (kept_if (has_part other act) here) next also) [
-            | inl too ↦
-                own_apart told scope pieces chosen.before are.2 one other mark next before too same
-            | inr last ↦ absurd (omega (
-              arith,
-              same,
-              earlier one mark before,
-              last_at (has_part other act) row chosen.choice next last,
-            ))
-          ]
-      | inr last ↦ elim (Contains-append_cases (own_marks other pieces chosen.before)
-          (kept_if (has_part other act) here) next also) [
-            | inl before ↦ absurd (omega (
-              arith,
-              same,
-              earlier other next before,
-              last_at (has_part one act) row chosen.choice mark last,
-            ))
-            | inr too ↦ part_of_one told act chosen.choice row chosen.stands mark
-                (kept_in (has_part one act) here mark last) one other
-                (kept_part (has_part one act) here mark last)
-                (kept_part (has_part other act) here next too)
-          ]
-    ]
-own_apart told scope (tail ∷ pieces) chosen are one other mark next has also same =
-    own_apart told scope pieces chosen are.2 one other mark next has also same
+  -- a mark of an act is of the device that has a part in it
+  kept_of : (act : Act) (choice : Choice) (row : ℕ) → CanStand act choice → (mark : ℕ × Mark)
+      → Contains (marks_at row choice) mark
+      → (device : Device) × Contains (kept_if (has_part device act) (marks_at row choice)) mark
+  kept_of act choice row stands mark is = elim (act_of_one act choice stands) [
+    | inl plain ↦ absurd (contains-none mark (rw plain at is))
+    | inr (device, of, only) ↦ (device, rw ((told device act).1 of) is)
+  ]
+
+  -- each mark of a run is of some device
+  pub in_own : (pieces : List Piece) (chosen : Choices (acts_of pieces)) (mark : ℕ × Mark)
+      → Contains (marks_of pieces chosen) mark
+      → (device : Device) × Contains (own_marks device pieces chosen) mark
+  in_own [] chosen mark is = absurd (contains-none mark is)
+  in_own (Whole act events ∷ pieces) chosen mark is =
+      let row : ℕ = length (events_of pieces ++ events) in
+      elim (Contains-append_cases (marks_of pieces chosen.before) (marks_at row chosen.choice) mark
+      is) [
+        | inl earlier ↦
+            let found = in_own pieces chosen.before mark earlier in
+            (found.0, Contains-append_left (own_marks found.0 pieces chosen.before) _ mark found.1)
+        | inr last ↦
+            let found = kept_of act chosen.choice row chosen.stands mark last in
+            (found.0, Contains-append_right (own_marks found.0 pieces chosen.before) _ mark found.1)
+      ]
+  in_own (tail ∷ pieces) chosen mark is = in_own pieces chosen mark is
+
+  -- an act that has a mark is of no two devices
+  part_of_one : (act : Act) (choice : Choice) (row : ℕ) → CanStand act choice → (mark : ℕ × Mark)
+      → Contains (marks_at row choice) mark → (one other : Device) → has_part one act ≡ true
+      → has_part other act ≡ true → one ≡ other
+  part_of_one act choice row stands mark is one other has also =
+      elim (act_of_one act choice stands) [
+        | inl plain ↦ absurd (contains-none mark (rw plain at is))
+        | inr (device, of, only) ↦
+            only one ((told one act).0 has) ∙ sym (only other ((told other act).0 also))
+      ]
+
+  -- no two devices have a mark at one row
+  pub own_apart : (scope : Scope) (pieces : List Piece) (chosen : Choices (acts_of pieces))
+      → ArePieces scope pieces → (one other : Device) (mark next : ℕ × Mark)
+      → Contains (own_marks one pieces chosen) mark
+      → Contains (own_marks other pieces chosen) next → mark.0 ≡ next.0 → one ≡ other
+  own_apart scope [] chosen are one other mark next has also same =
+      absurd (contains-none mark has)
+  own_apart scope (Whole act events ∷ pieces) chosen are one other mark next has also same =
+      elim (own_cases scope act events pieces chosen are one mark has) [
+        | inl before ↦ elim (own_cases scope act events pieces chosen are other next also) [
+          | inl too ↦
+              own_apart scope pieces chosen.before are.2 one other mark next before.0 too.0 same
+          | inr last ↦ absurd (omega (arith, same, before, last))
+        ]
+        | inr last ↦ elim (own_cases scope act events pieces chosen are other next also) [
+          | inl before ↦ absurd (omega (arith, same, before, last))
+          | inr too ↦ part_of_one act chosen.choice _ chosen.stands mark last.1 one other last.0
+              too.0
+        ]
+      ]
+  own_apart scope (tail ∷ pieces) chosen are one other mark next has also same =
+      own_apart scope pieces chosen are.2 one other mark next has also same

@@ -1,6 +1,6 @@
 -- What a replay that stands for events and marks goes on to, and what it answers.
 use Rattle.std.proofs.Common.{refl, sym, ap, subst, ◌∙◌, ◌≡◌, inl, inr, ℕ, ◌+◌, List, [], ◌∷◌, ◌++◌}
-use Rattle.std.proofs.Common.{Bool, true, false, IsTrue, ◌↔◌, length, length-append, Option, Some}
+use Rattle.std.proofs.Common.{◌↔◌, length, length-append, Option, Some}
 use Rattle.std.proofs.Common.{None}
 use Rattle.mdb_words.specs.declared.event.Event.{Event}
 use Rattle.mdb_msgs.specs.declared.command.Device.{Device}
@@ -10,20 +10,18 @@ use Rattle.mdb_bus.specs.declared.act.Act.{Act}
 use Rattle.mdb_bus.specs.declared.act.Act.TheVariants as acts
 use Rattle.mdb_bus.specs.declared.bus.Bus.{Bus}
 use Rattle.mdb_bus.specs.declared.fault.LinkFault.{LinkFault}
-use Rattle.mdb_bus.specs.declared.scope.Beginning.{Beginning}
 use Rattle.mdb_bus.specs.declared.scope.Beginning.TheVariants.{PowerOn}
 use Rattle.mdb_bus.specs.declared.scope.Profile.{Profile}
 use Rattle.mdb_bus.specs.declared.scope.Profile.TheVariants.{Extended}
 use Rattle.mdb_bus.specs.declared.scope.Scope.{Scope}
 use Rattle.mdb_bus.specs.Scopes.{profile_of}
-use Rattle.mdb_bus.specs.ActLists.{ArePieces, IsActList, Piece, Whole, acts_of, events_of}
+use Rattle.mdb_bus.specs.ActLists.{IsActList, Piece, Whole, acts_of, events_of}
 use Rattle.mdb_bus.specs.Pieces.{HasActList, IsTail, act_in}
 use Rattle.mdb_bus.specs.Bus as link
-use Rattle.mdb_bus.specs.Bus.{GoesOn, Grown, ended_act}
+use Rattle.mdb_bus.specs.Bus.{GoesOn, Grown}
 use Rattle.mdb_bus.specs.LinkFaults.{IsLinkFault}
 use Rattle.mdb_bus.specs.ExtendedTimes.{AreFew, times_of}
 use Rattle.mdb_bus.specs.declared.untimely.Untimely.{Untimely}
-use Rattle.mdb_bus.specs.Loss.{Loss, LossFits}
 use Rattle.mdb_machine.specs.declared.choice.Choice.{Choice}
 use Rattle.mdb_machine.specs.Choices.{CanStand}
 use Rattle.mdb_follow.specs.declared.cell.Cell.{Cell}
@@ -34,42 +32,24 @@ use Rattle.mdb_explained_runs.specs.declared.replay.Replay.{Replay}
 use Rattle.mdb_explained_runs.specs.declared.replay.ReplayFault.{ReplayFault}
 use Rattle.mdb_follow.specs.declared.report.Report.{Report}
 use Rattle.mdb_explained_runs.specs.declared.tracks.Tracks.{Tracks}
-use Rattle.mdb_follow.specs.Cells.{account_by, IsCell}
-use Rattle.mdb_follow.specs.Choosing.{AllFollow, Choices, choices_of}
+use Rattle.mdb_follow.specs.Cells.{account_by}
+use Rattle.mdb_follow.specs.Choosing.{AllFollow, Choices}
 use Rattle.mdb_explained_runs.specs.Marks.{MarkedRun, choice_by, marks_of, with_mark}
 use Rattle.mdb_follow.specs.Machines.{machine_of}
 use Rattle.mdb_explained_runs.specs.ReplayFaults.{IsMarkFault, IsReplayFault, IsReplayOffence}
 use Rattle.mdb_explained_runs.specs.ReplayFaults.{MayStandAt, MayStandOnNewest}
 use Rattle.mdb_explained_runs.specs.Replays.{IsReplayReport, StandsFor, scope_of}
 use Rattle.mdb_follow.specs.Report.{report_of}
-use Rattle.mdb_follow.specs.Runs.{AllSums, IsWay, States}
+use Rattle.mdb_follow.specs.Runs.{AllSums}
 use Rattle.mdb_follow.specs.Silences.{asks_of}
 use Rattle.mdb_explained_runs.specs.Tracks.{AreTracks, HasNoStepFrom, chosen_more, track_in}
 use Rattle.mdb_explained_runs.specs.inner.ReplaySteps.{HasReplayed, HasStopped}
 use Rattle.mdb_explained_runs.specs.inner.TrackSteps.{TracksLead}
-use Rattle.mdb_follow.proofs.Asks.{asks-go-on, asks-stay}
+use Rattle.mdb_follow.proofs.Asks.{asks-go-on, asks-stay, no-act}
 use Rattle.mdb_explained_runs.proofs.LastMark.{last-stands}
-use Rattle.mdb_explained_runs.proofs.MarkedRuns.{at-mark}
+use Rattle.mdb_explained_runs.proofs.MarkedRuns.{JoinWithChoices, at-mark, followed, marked-run, ways-of}
 use Rattle.mdb_follow.proofs.Following.{OneActList, accounts-of-cells, cell-of-runs, list-on}
 use Rattle.mdb_follow.proofs.Following.{whole-piece}
-
--- what is needed of the laws of runs and marks
-abbrev pub JoinWithChoices : Type 0
-JoinWithChoices = (scope : Scope) (pieces : List Piece) (chosen : Choices (acts_of pieces))
-    (states : States) (sums : AllSums) → ArePieces scope pieces
-    → AllFollow scope.begins (acts_of pieces) chosen states sums
-    → (loss : Loss) × LossFits loss pieces
-    × (way : IsWay scope.begins loss pieces states sums)
-    × (choices_of scope.begins loss pieces states sums way ≡ chosen)
-
-abbrev pub SplitWithChoices : Type 0
-SplitWithChoices = (begins : Beginning) (loss : Loss) (pieces : List Piece) (states : States)
-    (sums : AllSums) (way : IsWay begins loss pieces states sums)
-    → AllFollow begins (acts_of pieces) (choices_of begins loss pieces states sums way) states sums
-
-abbrev pub MarksTell : Type 0
-MarksTell = (scope : Scope) (pieces : List Piece) (one other : Choices (acts_of pieces))
-    → ArePieces scope pieces → marks_of pieces one ≡ marks_of pieces other → one ≡ other
 
 -- What is known of pieces: which choices have the marks, and that tracks stand for their acts with
 -- them.
@@ -79,37 +59,32 @@ record Known (profile : Profile) (tracks : Tracks) (marks : List (ℕ × Mark))
   marked : marks_of pieces chosen ≡ marks
   stand : AreTracks profile tracks (acts_of pieces) chosen
 
-module _ {profile : Profile} {tracks : Tracks} {marks : List (ℕ × Mark)} where
-  -- a tail adds nothing
-  without-tail : (tail : Piece) {pieces : List Piece} → IsTail tail
-      → Known profile tracks marks (tail ∷ pieces) → Known profile tracks marks pieces
-  without-tail (Whole act events) is known = absurd is
-  without-tail tail is known =
-      record { chosen = known.chosen; marked = known.marked; stand = known.stand }
-
-  with-tail : (tail : Piece) {pieces : List Piece} → act_in tail ≡ None
-      → Known profile tracks marks pieces → Known profile tracks marks (tail ∷ pieces)
-  with-tail (Whole act events) none known = absurd (cc none)
-  with-tail tail none known =
-      record { chosen = known.chosen; marked = known.marked; stand = known.stand }
-
-  -- what is known of the pieces before the newest of those that went on
-  earlier-known : {pieces longer : List Piece} {row : Event} {act : Option Act}
-      (grown : Grown pieces row act longer) → Known profile tracks marks pieces
-      → Known profile tracks marks grown.earlier
-  earlier-known grown known = elim grown.from [
-    | inl alone ↦ rw alone.1 at known
-    | inr on ↦ without-tail on.0 on.1 (rw on.3 at known)
+-- what no tail changes
+module _ (P : List Piece → Type 0)
+    (tails : (tail : Piece) (rest : List Piece) → IsTail tail → P rest ↔ P (tail ∷ rest))
+    {pieces longer : List Piece} {row : Event} where
+  -- is so of the pieces before the newest of those that went on
+  pub before-newest : {act : Option Act} (grown : Grown pieces row act longer) → P pieces
+      → P grown.earlier
+  before-newest grown had = elim grown.from [
+    | inl alone ↦ rw alone.1 at had
+    | inr more ↦ (tails more.0 grown.earlier more.1).1 (rw more.3 at had)
   ]
 
-  -- a row that ends no act leaves it
-  still-known : {pieces longer : List Piece} {row : Event} → Grown pieces row None longer
-      → Known profile tracks marks pieces → Known profile tracks marks longer
-  still-known grown known =
-      rw grown.are (with-tail grown.newest grown.ends (earlier-known grown known))
+  -- and of all of them, where no act ended
+  pub after-none : Grown pieces row None longer → P pieces → P longer
+  after-none grown had = rw grown.are ((tails grown.newest grown.earlier
+      (no-act grown.newest grown.ends)).0 (before-newest grown had))
+
+-- a tail adds nothing to what is known
+tail-known : {profile : Profile} {tracks : Tracks} {marks : List (ℕ × Mark)} (tail : Piece)
+    (rest : List Piece) → IsTail tail
+    → Known profile tracks marks rest ↔ Known profile tracks marks (tail ∷ rest)
+tail-known (Whole act events) rest is = absurd is
+tail-known tail rest is = (λ known. search known, λ known. search known)
 
 -- the newest of pieces that went on by an act
-newest-whole : {pieces longer : List Piece} {row : Event} {act : Act}
+pub newest-whole : {pieces longer : List Piece} {row : Event} {act : Act}
     (grown : Grown pieces row (Some act) longer)
     → longer ≡ Whole act (grown.begun ++ row ∷ []) ∷ grown.earlier
 newest-whole {row = row} {act = act} grown =
@@ -131,11 +106,10 @@ more-known : {profile : Profile} {old new : Tracks} {marks : List (ℕ × Mark)}
     → Grown pieces row (Some act) longer → length (events_of longer) ≡ number
     → CanStand act (choice_by mark) → TracksLead old act (choice_by mark) new
     → Known profile old marks pieces → Known profile new (with_mark number mark marks) longer
-more-known {profile} {new = new} {marks = marks} {row = row} {act = act} {number = number} mark
-    grown rows can led known =
-    let earlier = earlier-known grown known in
+more-known {profile} {old} {marks = marks} {row = row} {act = act} mark grown rows can led known =
+    let earlier = before-newest (Known profile old marks) tail-known grown known in
     let are = newest-whole grown in
-    subst (Known profile new (with_mark number mark marks)) (sym are) (record {
+    rw are (record {
       chosen = chosen_more act (acts_of grown.earlier) (choice_by mark) can earlier.chosen;
       marked = more-marked grown.earlier (grown.begun ++ row ∷ []) act mark earlier.chosen can
           (rw are at rows) earlier.marked;
@@ -163,14 +137,16 @@ module _ {replay : Replay} {events : List Event} {marks : List (ℕ × Mark)}
   list-of = record { in_order = on.on_bus.in_order; whole = on.whole }
 
 -- no act ended
-pub stands-still : (old new : Replay) (events : List Event) (marks : List (ℕ × Mark))
-    (row : Event) (on : StandsFor old events marks) (goes : GoesOn new.bus on.pieces row None)
+pub stands-still : {old new : Replay} {events : List Event} {marks : List (ℕ × Mark)}
+    {row : Event} (on : StandsFor old events marks) (goes : GoesOn new.bus on.pieces row None)
     → scope_of new ≡ scope_of old → new.tracks ≡ old.tracks → new.silences ≡ old.silences
     → new.rows ≡ old.rows + 1 → new.fault ≡ old.fault
     → new.untimely ≡ times_of (scope_of new) goes.longer → StandsFor new (events ++ row ∷ []) marks
-stands-still old new events marks row on goes same_scope same_tracks same_silences more same
+stands-still {old} {events = events} {marks} {row} on goes same_scope same_tracks same_silences more
+    same
     times =
-    let known = still-known goes.grown (known-of on) in
+    let known = after-none (Known on.profile old.tracks marks) tail-known goes.grown
+    (known-of on) in
     record {
       begins = ap (λ (s : Scope). s.begins) same_scope ∙ on.begins;
       profile = on.profile;
@@ -185,25 +161,24 @@ stands-still old new events marks row on goes same_scope same_tracks same_silenc
       silences = λ device. rw (
         same_silences,
         asks-stay (PowerOn on.profile) device on.pieces row goes.longer goes.grown,
-      )
-          (on.silences device);
+      ) (on.silences device);
       untimely = times;
     }
 
 -- an act was followed
-pub stands-on : (old mid new : Replay) (events : List Event) (marks : List (ℕ × Mark))
-    (row : Event) (act : Act) (mark : Option Mark) (on : StandsFor old events marks)
+pub stands-on : {old mid new : Replay} {events : List Event} {marks : List (ℕ × Mark)}
+    {row : Event} {act : Act} (mark : Option Mark) (on : StandsFor old events marks)
     (goes : GoesOn mid.bus on.pieces row (Some act)) → scope_of mid ≡ scope_of old
     → mid.tracks ≡ old.tracks → mid.silences ≡ old.silences → mid.rows ≡ old.rows
     → mid.fault ≡ old.fault → (profile : Profile) → MayStandAt profile mark (Some act)
-    → (choice : Choice) → choice ≡ choice_by mark → HasReplayed mid act choice row new
+    → {choice : Choice} → choice ≡ choice_by mark → HasReplayed mid act choice row new
     → (counts : Option Untimely)
     → (few : (times : Untimely) → counts ≡ Some times → AreFew new.rows times)
     → counts ≡ times_of (scope_of new) goes.longer
     → StandsFor (record new { untimely = counts; few_untimely = few }) (events ++ row ∷ [])
     (with_mark (old.rows + 1) mark marks)
-stands-on old mid new events marks row act mark on goes old_scope same_tracks same_silences
-    same_rows same profile may choice same_choice had counts few times =
+stands-on {old} {new = new} {events} {row = row} {act} mark on goes old_scope same_tracks
+    same_silences same_rows same profile may same_choice had counts few times =
     let can = can-stand profile mark act may in
     let has = rw same_choice at had in
     let led = rw same_tracks at has.tracks in
@@ -233,153 +208,45 @@ stands-on old mid new events marks row act mark on goes old_scope same_tracks sa
     }
 
 -- where no act ended, a mark that may stand is none
-no-mark : (row : ℕ) (profile : Profile) (mark : Option Mark) (marks : List (ℕ × Mark))
+pub no-mark : (row : ℕ) (profile : Profile) (mark : Option Mark) (marks : List (ℕ × Mark))
     → MayStandAt profile mark None → with_mark row mark marks ≡ marks
 no-mark row profile None marks may = refl
 no-mark row profile (Some mark) marks may = absurd may
 
-module _ (joins : JoinWithChoices) where
+module _ (joins : JoinWithChoices) {replay : Replay} {events : List Event}
+    {marks : List (ℕ × Mark)} (on : StandsFor replay events marks) where
   -- there is a run with the marks of a replay, and its sums are those of the tracks
-  pub run-of : (replay : Replay) (events : List Event) (marks : List (ℕ × Mark))
-      (on : StandsFor replay events marks)
-      → MarkedRun (scope_of replay) events marks (λ device. (on.tracks device).sums)
-  run-of replay events marks on =
-      let states : States = λ device. (track_in replay.tracks device).state in
-      let ways = λ (device : Device). (on.tracks device).way in
-      let found = joins (scope_of replay) on.pieces on.chosen states _ on.on_bus.in_order
-      (rw on.begins ways) in
-      record {
-        run = record {
-          pieces = on.pieces;
-          act_list = list-of on;
-          loss = found.0;
-          fits = found.1;
-          states = states;
-          way = found.2;
-        };
-        are = ap (marks_of on.pieces) found.3 ∙ on.marked;
-      }
+  pub run-of : MarkedRun (scope_of replay) events marks (λ device. (on.tracks device).sums)
+  run-of = rw on.marked at (marked-run joins (list-of on) on.chosen
+      (λ device. (track_in replay.tracks device).state) (λ device. (on.tracks device).sums)
+      (rw on.begins (λ device. (on.tracks device).way)))
 
   -- a row breaks a rule of the link
-  pub link-offence : (old : Replay) (events : List Event) (marks : List (ℕ × Mark)) (row : Event)
-      (mark : Option Mark) (on : StandsFor old events marks) (fault : LinkFault)
-      (offence : Offence) → IsLinkFault (scope_of old) on.pieces row fault.rule fault.blame
-      → (HasActList (scope_of old) (events_of on.pieces ++ row ∷ []) → ⊥)
-      → offence ≡ record { row = old.rows + 1; rule = fault.rule; blame = fault.blame }
-      → IsReplayOffence (scope_of old) events marks row mark offence
-  link-offence old events marks row mark on fault offence is impossible told = rw told (record {
-    reached = (_, run-of old events marks on);
+  pub link-offence : (row : Event) (mark : Option Mark) (fault : LinkFault) (offence : Offence)
+      → IsLinkFault (scope_of replay) on.pieces row fault.rule fault.blame
+      → (HasActList (scope_of replay) (events_of on.pieces ++ row ∷ []) → ⊥)
+      → offence ≡ record { row = replay.rows + 1; rule = fault.rule; blame = fault.blame }
+      → IsReplayOffence (scope_of replay) events marks row mark offence
+  link-offence row mark fault offence is impossible told = rw told (record {
+    reached = (_, run-of);
     not_reached = λ reached.
         impossible (reached.1.run.pieces, rw on.whole reached.1.run.act_list);
     number = ap (λ n. n + 1) on.rows;
     why = inl (record { pieces = on.pieces; act_list = list-of on; fault = is });
   })
 
--- A way through pieces that has these marks.
-record MarkedWay (scope : Scope) (marks : List (ℕ × Mark)) (states : States) (sums : AllSums)
-    (pieces : List Piece) : Type 0 where
-  loss : Loss
-  way : IsWay scope.begins loss pieces states sums
-  are : marks_of pieces (choices_of scope.begins loss pieces states sums way) ≡ marks
-
--- a run has one through each act list of its rows
-way-in : {scope : Scope} {rows : List Event} {marks : List (ℕ × Mark)} {sums : AllSums}
-    → OneActList scope → (pieces : List Piece) → IsActList scope pieces rows
-    → (marked : MarkedRun scope rows marks sums)
-    → MarkedWay scope marks marked.run.states sums pieces
-way-in {scope} {rows} {marks} {sums} one pieces list marked =
-    let run = marked.run in
-    subst (MarkedWay scope marks run.states sums) (one rows run.pieces pieces run.act_list list)
-    (record { loss = run.loss; way = run.way; are = marked.are })
-
--- each run with the marks of choices has ways with these choices
-pub followed : SplitWithChoices → MarksTell → (scope : Scope) → OneActList scope
-    → (rows : List Event) (marks : List (ℕ × Mark)) (pieces : List Piece)
-    (chosen : Choices (acts_of pieces)) → IsActList scope pieces rows
-    → marks_of pieces chosen ≡ marks → (sums : AllSums)
-    (marked : MarkedRun scope rows marks sums)
-    → AllFollow scope.begins (acts_of pieces) chosen marked.run.states sums
-followed splits tell scope one rows marks pieces chosen list have sums marked =
-    let it = way-in one pieces list marked in
-    subst (λ c. AllFollow scope.begins (acts_of pieces) c marked.run.states sums)
-    (tell scope pieces _ chosen list.in_order (it.are ∙ sym have))
-    (splits scope.begins it.loss pieces marked.run.states sums it.way)
-
--- so it is where the tracks are, with their sums
-pub only-run : SplitWithChoices → MarksTell → ((scope : Scope) → OneActList scope)
-    → (replay : Replay) (events : List Event) (marks : List (ℕ × Mark))
-    (on : StandsFor replay events marks) (sums : AllSums)
-    (marked : MarkedRun (scope_of replay) events marks sums) (device : Device)
-    → (marked.run.states device ≡ (track_in replay.tracks device).state)
-    × (sums device ≡ (on.tracks device).sums)
-only-run splits tell one replay events marks on sums marked device =
-    let ways = followed splits tell (scope_of replay) (one (scope_of replay)) events marks on.pieces
-    on.chosen (list-of on) on.marked sums marked in
-    (on.tracks device).only (marked.run.states device) (sums device)
-    (rw on.begins at (ways device))
-
--- a machine has no step by an act under the choice of the mark
-pub machine-offence : JoinWithChoices → SplitWithChoices → MarksTell
-    → ((scope : Scope) → OneActList scope) → (old mid new : Replay) (events : List Event)
-    (marks : List (ℕ × Mark)) (row : Event) (act : Act) (mark : Option Mark)
-    (fault : ReplayFault) (on : StandsFor old events marks)
-    → GoesOn mid.bus on.pieces row (Some act) → scope_of mid ≡ scope_of old
-    → mid.tracks ≡ old.tracks → mid.rows ≡ old.rows → (profile : Profile)
-    → profile ≡ profile_of (scope_of old).begins → MayStandAt profile mark (Some act)
-    → (chosen : Choice) → chosen ≡ choice_by mark → HasStopped mid act chosen row new fault
-    → IsReplayFault (scope_of old) events marks row mark fault
-machine-offence joins splits tell one old mid new events marks row act mark fault on goes same_scope
-    same_tracks same_rows profile by may chosen same_choice had =
-    let can = can-stand profile mark act may in
-    let scope : Scope = scope_of old in
-    let choice = choice_by mark in
-    let has = rw same_choice at had in
-    let grown = goes.grown in
-    let earlier = earlier-known grown (known-of on) in
-    let more : Choices (act ∷ acts_of grown.earlier) =
-    chosen_more act (acts_of grown.earlier) choice can earlier.chosen in
-    let are = newest-whole grown in
-    let pieces : List Piece = Whole act (grown.begun ++ row ∷ []) ∷ grown.earlier in
-    let list : IsActList scope pieces (events ++ row ∷ []) = rw (same_scope, are) at
-    (list-on mid.bus events row on.pieces (Some act) on.whole goes) in
-    let device : Device = has.none.0 in
-    let stops = rw same_tracks at has.none.1 in
-    let none : HasNoStepFrom (machine_of (PowerOn on.profile) device) (acts_of grown.earlier) act
-    choice (track_in old.tracks device).state =
-    stops.none on.profile (acts_of grown.earlier) earlier.chosen (earlier.stand device) in
-    let have = more-marked grown.earlier (grown.begun ++ row ∷ []) act mark earlier.chosen can
-    (ap length list.whole ∙ length-append events (row ∷ [])) earlier.marked in
-    let counted = rw (same_scope, are) at (has.counts goes.longer goes.stands) in
-    rw has.is (record {
-      reached = (_, run-of joins old events marks on);
-      not_reached = λ reached.
-          let ways = followed splits tell scope (one scope) (events ++ row ∷ [])
-          (with_mark (length events + 1) mark marks) pieces more list have reached.0
-          reached.1 in
-          let way = (subst (λ b. AllFollow b (acts_of pieces) more reached.1.run.states reached.0)
-          on.begins ways) device in
-          let was = (earlier.stand device).only way.before way.sums_before way.way in
-          none (reached.1.run.states device) way.gains (rw was.0 at way.step);
-      number = ap (λ n. n + 1) (same_rows ∙ on.rows);
-      why = inr (record {
-        act = act;
-        begun = grown.begun;
-        earlier = grown.earlier;
-        act_list = list;
-        may = rw by at may;
-        no_step = record {
-          device = device;
-          rule = stops.rule;
-          none = λ sums marked. rw (
-            on.begins,
-            (only-run splits tell one old events marks on sums marked device).0,
-          ) none;
-        };
-        own = has.rule;
-        counts = ap (λ (f : LinkFault). f.rule) counted;
-        blame = ap (λ (f : LinkFault). f.blame) counted;
-      });
-    })
+module _ (one : (scope : Scope) → OneActList scope) where
+  -- a run with the marks of a replay is where the tracks are, with their sums
+  pub only-run : {replay : Replay} {events : List Event} {marks : List (ℕ × Mark)}
+      (on : StandsFor replay events marks) {sums : AllSums}
+      (marked : MarkedRun (scope_of replay) events marks sums) (device : Device)
+      → (marked.run.states device ≡ (track_in replay.tracks device).state)
+      × (sums device ≡ (on.tracks device).sums)
+  only-run {replay} on {sums} marked device =
+      let ways = followed (one (scope_of replay)) on.pieces on.chosen (list-of on) on.marked marked
+      in
+      (on.tracks device).only (marked.run.states device) (sums device)
+      (rw on.begins at (ways device))
 
 -- the newest act of pieces is the one that a row ended
 newest-stands : {act : Option Act} (profile : Profile) (mark : Mark) (newest : Piece)
@@ -388,93 +255,118 @@ newest-stands : {act : Option Act} (profile : Profile) (mark : Mark) (newest : P
 newest-stands profile mark (Whole one events) earlier ends may = rw (← ends) may
 newest-stands profile mark newest earlier ends may = absurd may
 
--- a mark may not stand there
-pub mark-fault : JoinWithChoices → SplitWithChoices → ((scope : Scope) → OneActList scope)
-    → (old : Replay) (bus : Bus) (events : List Event)
-    (marks : List (ℕ × Mark)) (row : Event) (act : Option Act) (mark : Option Mark)
-    (on : StandsFor old events marks) → GoesOn bus on.pieces row act
-    → link.scope_of bus ≡ scope_of old → (profile : Profile)
-    → profile ≡ profile_of (scope_of old).begins → (MayStandAt profile mark act → ⊥)
-    → IsMarkFault (scope_of old) events marks row mark (old.rows + 1)
-mark-fault joins splits one old bus events marks row act None on goes same profile by not =
-    absurd (not tt)
-mark-fault joins splits one old bus events marks row act (Some mark) on goes same profile by not =
-    let begins : Beginning = (scope_of old).begins in
-    let list : IsActList (scope_of old) goes.longer (events ++ row ∷ []) =
-    rw same at (list-on bus events row on.pieces act on.whole goes) in
-    let cannot : MayStandOnNewest (profile_of begins) mark goes.longer → ⊥ = λ may.
-    not (newest-stands profile mark goes.grown.newest goes.grown.earlier goes.grown.ends
-    (rw (← by, goes.grown.are) at may)) in
-    record {
-      reached = (_, run-of joins old events marks on);
-      not_reached = λ reached.
-          let states = reached.1.run.states in
-          let it = way-in (one (scope_of old)) goes.longer list reached.1 in
-          cannot (last-stands begins (scope_of old) goes.longer
-          (choices_of begins it.loss goes.longer states reached.0 it.way) states reached.0 marks
-          (length events + 1) mark list.in_order
-          (splits begins it.loss goes.longer states reached.0 it.way) it.are
-          (sym (ap length list.whole ∙ length-append events (row ∷ []))));
-      at = ap (λ n. n + 1) on.rows;
-      standing = mark;
-      is = refl;
-      pieces = goes.longer;
-      act_list = list;
-      cannot = cannot;
-    }
+module _ (joins : JoinWithChoices) (one : (scope : Scope) → OneActList scope) where
+  -- a machine has no step by an act under the choice of the mark
+  pub machine-offence : {old mid new : Replay} {events : List Event} {marks : List (ℕ × Mark)}
+      {row : Event} {act : Act} (mark : Option Mark) {fault : ReplayFault}
+      (on : StandsFor old events marks) → GoesOn mid.bus on.pieces row (Some act)
+      → scope_of mid ≡ scope_of old → mid.tracks ≡ old.tracks → mid.rows ≡ old.rows
+      → (profile : Profile) → profile ≡ profile_of (scope_of old).begins
+      → MayStandAt profile mark (Some act) → {chosen : Choice} → chosen ≡ choice_by mark
+      → HasStopped mid act chosen row new fault
+      → IsReplayFault (scope_of old) events marks row mark fault
+  machine-offence {old} {mid} {events = events} {marks} {row} {act} mark on goes same_scope
+      same_tracks same_rows profile by may same_choice had =
+      let can = can-stand profile mark act may in
+      let scope : Scope = scope_of old in
+      let choice = choice_by mark in
+      let has = rw same_choice at had in
+      let grown = goes.grown in
+      let earlier = before-newest (Known on.profile old.tracks marks) tail-known grown
+      (known-of on) in
+      let more : Choices (act ∷ acts_of grown.earlier) =
+      chosen_more act (acts_of grown.earlier) choice can earlier.chosen in
+      let are = newest-whole grown in
+      let pieces : List Piece = Whole act (grown.begun ++ row ∷ []) ∷ grown.earlier in
+      let list : IsActList scope pieces (events ++ row ∷ []) = rw (same_scope, are) at
+      (list-on mid.bus events row on.pieces (Some act) on.whole goes) in
+      let device : Device = has.none.0 in
+      let stops = rw same_tracks at has.none.1 in
+      let none : HasNoStepFrom (machine_of (PowerOn on.profile) device) (acts_of grown.earlier) act
+      choice (track_in old.tracks device).state =
+      stops.none on.profile (acts_of grown.earlier) earlier.chosen (earlier.stand device) in
+      let have = more-marked grown.earlier (grown.begun ++ row ∷ []) act mark earlier.chosen can
+      (ap length list.whole ∙ length-append events (row ∷ [])) earlier.marked in
+      let counted = rw (same_scope, are) at (has.counts goes.longer goes.stands) in
+      rw has.is (record {
+        reached = (_, run-of joins on);
+        not_reached = λ reached.
+            let ways = followed (one scope) pieces more list have reached.1 in
+            let way = (subst (λ b. AllFollow b (acts_of pieces) more reached.1.run.states
+            reached.0) on.begins ways) device in
+            let was = (earlier.stand device).only way.before way.sums_before way.way in
+            none (reached.1.run.states device) way.gains (rw was.0 at way.step);
+        number = ap (λ n. n + 1) (same_rows ∙ on.rows);
+        why = inr (record {
+          act = act;
+          begun = grown.begun;
+          earlier = grown.earlier;
+          act_list = list;
+          may = rw by at may;
+          no_step = record {
+            device = device;
+            rule = stops.rule;
+            none = λ sums marked.
+                rw (on.begins, (only-run one on marked device).0) none;
+          };
+          own = has.rule;
+          counts = ap (λ (f : LinkFault). f.rule) counted;
+          blame = ap (λ (f : LinkFault). f.blame) counted;
+        });
+      })
 
--- what the answer of a test tells
-pub not-may : (b : Bool) (P : Type 0) → (IsTrue b ↔ P) → b ≡ false → P → ⊥
-not-may b P told is holds = let never : false ≡ true = sym is ∙ told.1 holds in absurd cc
+  -- what a replay reports
+  pub reported : {replay : Replay} {events : List Event} {marks : List (ℕ × Mark)}
+      (report : Report) (on : StandsFor replay events marks) (cells : Device → Cell)
+      → ((device : Device) → cells device ≡ (track_in replay.tracks device).cell)
+      → report ≡ report_of (scope_of replay) replay.rows on.pieces (account_by cells)
+      → IsReplayReport (scope_of replay) events marks report
+  reported {replay} {events} {marks} report on cells are telling =
+      let Runs : AllSums → Type 0 = MarkedRun (scope_of replay) events marks in
+      let sums : AllSums = λ device. (on.tracks device).sums in
+      let run : Runs sums = run-of joins on in
+      let only = λ (other : AllSums) (marked : Runs other) (device : Device).
+      (only-run one on marked device).1 in
+      record {
+        sums = sums;
+        reached = run;
+        only = only;
+        pieces = on.pieces;
+        act_list = list-of on;
+        accounts = account_by cells;
+        of_run = accounts-of-cells Runs cells (λ device.
+            cell-of-runs Runs (λ other. other ≡ sums device) (λ all. all device) (record {
+              lift = λ other is. (sums, sym is, run);
+              lower = λ other marked. only other marked device;
+            }) (cells device) (rw (are device) (on.tracks device).cell));
+        telling = rw on.rows at telling;
+      }
 
--- what a replay reports
-pub reported : JoinWithChoices → SplitWithChoices → MarksTell
-    → ((scope : Scope) → OneActList scope) → (replay : Replay) (events : List Event)
-    (marks : List (ℕ × Mark)) (report : Report) (on : StandsFor replay events marks)
-    (cells : Device → Cell)
-    → ((device : Device) → cells device ≡ (track_in replay.tracks device).cell)
-    → report ≡ report_of (scope_of replay) replay.rows on.pieces (account_by cells)
-    → IsReplayReport (scope_of replay) events marks report
-reported joins splits tell one replay events marks report on cells are telling =
-    let Runs : AllSums → Type 0 = MarkedRun (scope_of replay) events marks in
-    let sums : AllSums = λ device. (on.tracks device).sums in
-    let run : Runs sums = run-of joins replay events marks on in
-    let only = λ (other : AllSums) (marked : Runs other) (device : Device).
-    (only-run splits tell one replay events marks on other marked device).1 in
-    record {
-      sums = sums;
-      reached = run;
-      only = only;
-      pieces = on.pieces;
-      act_list = list-of on;
-      accounts = account_by cells;
-      of_run = accounts-of-cells Runs cells (λ device.
-          cell-of-runs Runs (λ other. other ≡ sums device) (λ all. all device) (record {
-            lift = λ other is. (sums, sym is, run);
-            lower = λ other marked. only other marked device;
-          }) (cells device) (rw (are device) (on.tracks device).cell));
-      telling = rw on.rows at telling;
-    }
-
--- an act ended, or none did
-pub by-act : (bus : Bus) (pieces : List Piece) (row : Event) (ended : Bool) (act : Act)
-    → ended ≡ true → GoesOn bus pieces row (ended_act ended act)
-    → GoesOn bus pieces row (Some act)
-by-act bus pieces row ended act is goes = rw is at goes
-
-pub by-none : (bus : Bus) (pieces : List Piece) (row : Event) (ended : Bool) (act : Act)
-    → ended ≡ false → GoesOn bus pieces row (ended_act ended act) → GoesOn bus pieces row None
-by-none bus pieces row ended act is goes = rw is at goes
-
--- its mark may stand there
-pub may-then : (profile : Profile) (b : Bool) (mark : Option Mark) (ended : Bool) (act : Act)
-    → (IsTrue b ↔ MayStandAt profile mark (ended_act ended act)) → b ≡ true → ended ≡ true
-    → MayStandAt profile mark (Some act)
-may-then profile b mark ended act told is whole = rw whole at (told.0 is)
-
-pub none-then : (profile : Profile) (b : Bool) (mark : Option Mark) (ended : Bool) (act : Act)
-    (row : ℕ) (marks : List (ℕ × Mark))
-    → (IsTrue b ↔ MayStandAt profile mark (ended_act ended act)) → b ≡ true → ended ≡ false
-    → with_mark row mark marks ≡ marks
-none-then profile b mark ended act row marks told is whole =
-    no-mark row profile mark marks (rw whole at (told.0 is))
+  -- a mark may not stand there
+  pub mark-fault : {old : Replay} {bus : Bus} {events : List Event} {marks : List (ℕ × Mark)}
+      {row : Event} {act : Option Act} (mark : Option Mark) (on : StandsFor old events marks)
+      → GoesOn bus on.pieces row act → link.scope_of bus ≡ scope_of old → (profile : Profile)
+      → profile ≡ profile_of (scope_of old).begins → (MayStandAt profile mark act → ⊥)
+      → IsMarkFault (scope_of old) events marks row mark (old.rows + 1)
+  mark-fault None on goes same profile by not = absurd (not tt)
+  mark-fault {old} {bus} {events} {marks} {row} {act} (Some mark) on goes same profile by not =
+      let scope : Scope = scope_of old in
+      let list : IsActList scope goes.longer (events ++ row ∷ []) =
+      rw same at (list-on bus events row on.pieces act on.whole goes) in
+      let cannot : MayStandOnNewest (profile_of scope.begins) mark goes.longer → ⊥ = λ may.
+      not (newest-stands profile mark goes.grown.newest goes.grown.earlier goes.grown.ends
+      (rw (← by, goes.grown.are) at may)) in
+      record {
+        reached = (_, run-of joins on);
+        not_reached = λ reached.
+            let it = ways-of (one scope) goes.longer list reached.1 in
+            cannot (last-stands scope.begins scope goes.longer it.chosen reached.1.run.states
+            reached.0 marks (length events + 1) mark list.in_order it.ways it.are
+            (sym (ap length list.whole ∙ length-append events (row ∷ []))));
+        at = ap (λ n. n + 1) on.rows;
+        standing = mark;
+        is = refl;
+        pieces = goes.longer;
+        act_list = list;
+        cannot = cannot;
+      }

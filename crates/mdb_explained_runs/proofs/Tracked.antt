@@ -1,11 +1,9 @@
 -- Tracks go on by the only step of their machine: that of one device, those of all, and those that
 -- have no part in an act.
-use Rattle.std.proofs.Common.{arith, refl, sym, ap, subst, ◌∙◌, ◌≡◌, ◌≤◌, ◌+◌, ◌*◌, ◌^◌, ℕ, List, ◌∷◌}
+use Rattle.std.proofs.Common.{arith, refl, sym, ap, ◌∙◌, ◌≡◌, ◌≤◌, ◌+◌, ◌*◌, ◌^◌, ℕ, List, ◌∷◌}
 use Rattle.std.proofs.Common.{Some, ◌<◌, get_or, inl, inr, Ok, Err, Result}
 use Rattle.std.specs.Prelude.{IfErr, IfOk, OnErr}
 use Rattle.mdb_msgs.specs.declared.command.Device.{Device}
-use Rattle.mdb_msgs.specs.declared.command.Device.TheVariants as devices
-use Rattle.mdb_msgs.specs.declared.command.ReaderUnit.TheVariants.{First, Second}
 use Rattle.mdb_bus.specs.declared.act.Act.{Act}
 use Rattle.mdb_bus.specs.declared.fault.Rule.{Rule}
 use Rattle.mdb_bus.specs.declared.scope.Beginning.TheVariants.{PowerOn}
@@ -16,17 +14,16 @@ use Rattle.mdb_machine.specs.declared.gains.Gains.{Gains}
 use Rattle.mdb_machine.specs.Gains.{no_gains}
 use Rattle.mdb_machine.specs.SmallGains.{IsSmall}
 use Rattle.mdb_machine.specs.Machine.{Machine}
-use Rattle.mdb_machine.specs.Pair.{IsActOf, IsMachineOf, IsOnlyStep}
+use Rattle.mdb_machine.specs.Pair.{IsActOf, IsOnlyStep}
 use Rattle.mdb_explained_runs.specs.declared.track.Track.{Track}
 use Rattle.mdb_explained_runs.specs.declared.tracks.Tracks.{Tracks}
-use Rattle.mdb_follow.specs.Cells.{IsCell, moved_cell}
+use Rattle.mdb_follow.specs.Cells.{moved_cell}
 use Rattle.mdb_follow.specs.Sums.{added}
 use Rattle.mdb_follow.specs.declared.report.TheConstants.Report.{DEVICES}
 use Rattle.mdb_follow.specs.Choosing.{Choices}
 use Rattle.mdb_follow.specs.Machines.{machine_of}
 use Rattle.mdb_follow.specs.Offences.{rule_of}
 use Rattle.mdb_explained_runs.specs.Tracks.{HasNoStepFrom, IsTrackOf, TrackOf, track_in}
-use Rattle.mdb_follow.specs.Limits.{IsCellWithin}
 use Rattle.mdb_explained_runs.specs.inner.TrackSteps.{AreTracksWithin, IsTrackWithin, Leads}
 use Rattle.mdb_explained_runs.specs.inner.TrackSteps.{LeadsOf, OneLeads, TrackStops, TracksLead}
 use Rattle.mdb_explained_runs.specs.inner.TrackSteps.{TracksStop}
@@ -37,9 +34,9 @@ use Rattle.mdb_follow.proofs.Ways.{no-gains}
 use Rattle.mdb_follow.proofs.Ends.{Moved, cell-moved, cell-moved-within, cell-same, cell-within-weaker}
 
 -- a track was led over an act by the only step from its state
-pub leads : {Facts State : Type 0} (stands_for : Facts → List Act → Type 0)
-    (machine : Machine State) (unvalued : List Act → ℕ) (old new : Track Facts State) (act : Act)
-    (choice : Choice) (gains : Gains) (by : ℕ)
+pub leads : {Facts State : Type 0} {stands_for : Facts → List Act → Type 0}
+    {machine : Machine State} {unvalued : List Act → ℕ} {old new : Track Facts State} {act : Act}
+    {choice : Choice} {gains : Gains} (by : ℕ)
     → ((acts : List Act) → stands_for old.facts acts
     → IsOnlyStep (machine.Step acts act choice old.state) (Some (new.state, gains)))
     → ((acts : List Act) → stands_for old.facts acts → stands_for new.facts (act ∷ acts))
@@ -48,8 +45,8 @@ pub leads : {Facts State : Type 0} (stands_for : Facts → List Act → Type 0)
     → unvalued (act ∷ acts) ≡ by + unvalued acts)
     → by ≤ 35 → new.unvalued ≡ old.unvalued + by
     → Leads stands_for machine unvalued old act choice new
-leads stands_for machine unvalued old new act choice gains by only learns moved small adds few
-    more =
+leads {machine = machine} {old = old} {act = act} {choice} {gains} by only learns moved small adds
+    few more =
     record {
       stands = λ acts chosen can on.
           let one = only acts on.facts in
@@ -68,14 +65,12 @@ leads stands_for machine unvalued old new act choice gains by only learns moved 
             };
             only = λ state other way.
                 let was = on.only way.before way.sums_before way.way in
-                let same = one.1 state way.gains
-                (subst (λ s. machine.Step acts act choice s state way.gains) was.0 way.step) in (
+                let same = one.1 state way.gains (rw was.0 at way.step) in (
                   same.0,
                   way.adds ∙ ap (λ sums. added sums way.gains) was.1
                       ∙ ap (added on.sums) same.1,
                 );
-            cell = subst (IsCell (λ other. other ≡ added on.sums gains)) (sym moved)
-                (cell-same (Moved (λ other. other ≡ on.sums) gains)
+            cell = rw moved (cell-same (Moved (λ other. other ≡ on.sums) gains)
                 (λ other. other ≡ added on.sums gains) (moved_cell old.cell gains)
                 (λ sums m. m.adds ∙ ap (λ before. added before gains) m.kind)
                 (λ sums is. record { before = on.sums; kind = refl; adds = is })
@@ -85,27 +80,21 @@ leads stands_for machine unvalued old new act choice gains by only learns moved 
       within = λ limit fits.
           let count = fits.count in
           record {
-            ends = subst (λ cell. IsCellWithin (limit + 2 ^ 32) cell) (sym moved)
-                (cell-moved-within limit old.cell gains fits.ends small);
+            ends = rw moved (cell-moved-within limit old.cell gains fits.ends small);
             count = omega (arith, few, count, more);
           };
     }
 
-track-within-weaker : {Facts State : Type 0} (limit more : ℕ) (track : Track Facts State)
+track-within-weaker : {Facts State : Type 0} {limit more : ℕ} {track : Track Facts State}
     → limit ≤ more → IsTrackWithin limit track → IsTrackWithin more track
-track-within-weaker limit more track le is =
-    let count = is.count in
-    record {
-      ends = cell-within-weaker limit more track.cell le is.ends;
-      count = omega (arith, le, count);
-    }
+track-within-weaker {limit = limit} {more} {track} le is =
+    record { ends = cell-within-weaker limit more track.cell le is.ends; count = omega arith }
 
 -- an act in which a device has no part leaves its track, whatever the choice
 still : (device : Device) (track : TrackOf device) (act : Act) (choice : Choice)
     → (IsActOf device act → ⊥) → LeadsOf act choice device track track
 still device track act choice other profile =
-    let is : IsMachineOf device (machine_of (PowerOn profile) device) = is_machine_of
-    (PowerOn profile) device in
+    let is = is_machine_of (PowerOn profile) device in
     record {
       stands = λ acts chosen can on. record {
         facts = unmoved (PowerOn profile) device track.facts acts act other on.facts;
@@ -130,43 +119,18 @@ still device track act choice other profile =
         cell = on.cell;
         counted = on.counted ∙ sym (untold (PowerOn profile) device acts act other);
       };
-      within = λ limit. track-within-weaker limit (limit + 2 ^ 32) track (omega arith);
+      within = λ limit. track-within-weaker (omega arith);
     }
 
--- tracks with one in place of a device's
-abbrev pub with_track : (device : Device) → TrackOf device → Tracks → Tracks
-with_track devices.Changer track tracks = record tracks { changer = track }
-with_track devices.Bill track tracks = record tracks { bill = track }
-with_track (devices.Reader First) track tracks = record tracks { first_reader = track }
-with_track (devices.Reader Second) track tracks = record tracks { second_reader = track }
-
-its : (device : Device) (track : TrackOf device) (tracks : Tracks)
-    → track ≡ track_in (with_track device track tracks) device
-its devices.Changer track tracks = refl
-its devices.Bill track tracks = refl
-its (devices.Reader First) track tracks = refl
-its (devices.Reader Second) track tracks = refl
-
-others : (device : Device) (track : TrackOf device) (tracks : Tracks) (other : Device)
-    → (other ≡ device → ⊥)
-    → track_in (with_track device track tracks) other ≡ track_in tracks other
-others devices.Changer track tracks devices.Changer not = absurd (not refl)
-others devices.Bill track tracks devices.Bill not = absurd (not refl)
-others (devices.Reader First) track tracks (devices.Reader First) not = absurd (not refl)
-others (devices.Reader Second) track tracks (devices.Reader Second) not = absurd (not refl)
-others _ track tracks _ not = refl
-
 -- The track of the device that an arm is of goes on.
-pub one-leads : {T E : Type 0} (r : Result T E) (device which : Device) (tracks : Tracks)
-    (track : TrackOf which) (act : Act) (choice : Choice) → device ≡ which
-    → IfOk r (λ _. LeadsOf act choice which (track_in tracks which) track)
-    → IfOk r (λ _. OneLeads device tracks act choice (with_track which track tracks))
-one-leads (Ok x) device which tracks track act choice is goes =
-    subst (λ d. OneLeads d tracks act choice (with_track which track tracks)) (sym is) (record {
-      own = subst (LeadsOf act choice which (track_in tracks which)) (its which track tracks) goes;
-      others = others which track tracks;
-    })
-one-leads (Err e) device which tracks track act choice is goes = tt
+pub one-leads : {T E : Type 0} (r : Result T E) (device which : Device) (old new : Tracks)
+    (act : Act) (choice : Choice) → device ≡ which
+    → IfOk r (λ _. LeadsOf act choice which (track_in old which) (track_in new which))
+    → ((other : Device) → (other ≡ which → ⊥) → track_in new other ≡ track_in old other)
+    → IfOk r (λ _. OneLeads device old act choice new)
+one-leads (Ok x) device which old new act choice is goes others =
+    rw is (record { own = goes; others = others })
+one-leads (Err e) device which old new act choice is goes others = tt
 
 -- It has no step.
 pub one-stops : {T : Type 0} (r : Result T Rule) (device which : Device) (tracks : Tracks)
@@ -178,26 +142,17 @@ pub one-stops : {T : Type 0} (r : Result T Rule) (device which : Device) (tracks
     → IfErr r (TrackStops device tracks act choice)
 one-stops (Ok x) device which tracks act choice is none its = tt
 one-stops (Err broken) device which tracks act choice is none its =
-    subst (λ d. TrackStops d tracks act choice broken) (sym is)
-    (record { rule = its; none = none })
-
--- its ends and its count are as far from 0 as those of the device
-pub within-at : (device which : Device) (limit : ℕ) (tracks : Tracks) → device ≡ which
-    → IsTrackWithin limit (track_in tracks device) → IsTrackWithin limit (track_in tracks which)
-within-at device which limit tracks is = subst (λ d. IsTrackWithin limit (track_in tracks d)) is
+    rw is (record { rule = its; none = none })
 
 -- All go on by an act that is of no other device than one that goes on.
 pub all-lead : (device : Device) (old new : Tracks) (act : Act) (choice : Choice)
     → ((other : Device) → IsActOf other act → other ≡ device)
     → OneLeads device old act choice new → TracksLead old act choice new
-all-lead device old new act choice only leads other =
-    elim (same_or_not other device) [
-      | inl same ↦ subst (λ d. LeadsOf act choice d (track_in old d) (track_in new d)) (sym same)
-          leads.own
-      | inr apart ↦ subst (LeadsOf act choice other (track_in old other))
-          (sym (leads.others other apart))
-          (still other (track_in old other) act choice (λ of. apart (only other of)))
-    ]
+all-lead device old new act choice only leads other = elim (same_or_not other device) [
+  | inl same ↦ rw same leads.own
+  | inr apart ↦ rw (leads.others other apart)
+      (still other (track_in old other) act choice (λ of. apart (only other of)))
+]
 
 -- All stay where the act is no device's.
 pub none-leads : (tracks : Tracks) (act : Act) (choice : Choice)
@@ -210,52 +165,31 @@ abbrev pub FrontLeads : ℕ → Tracks → Act → Choice → Tracks → Type 0
 FrontLeads count old act choice new =
     Front TrackOf (LeadsOf act choice) count (track_in old) (track_in new)
 
--- the next track has no step where it had none before
-pub front-stops : (count : ℕ) (old : Tracks) (act : Act) (choice : Choice) (mid : Tracks)
-    (d : Device) (broken : Rule) → count < 4 → FrontLeads count old act choice mid
-    → TrackStops (get_or DEVICES count d) mid act choice broken
-    → TracksStop old act choice broken
-front-stops count old act choice mid d broken within front stops =
-    let device : Device = get_or DEVICES count d in (
-      device,
-      record {
-        rule = stops.rule;
-        none = subst (λ (t : TrackOf device). (profile : Profile) (acts : List Act)
-            (chosen : Choices acts) → IsTrackOf profile device t acts chosen
-            → HasNoStepFrom (machine_of (PowerOn profile) device) acts act choice t.state)
-            (front-next TrackOf (LeadsOf act choice) count (track_in old) (track_in mid) d within
-            front)
-            stops.none;
-      },
-    )
+-- the next stands as it was before
+module _ (count : ℕ) (old : Tracks) (act : Act) (choice : Choice) (mid : Tracks) (d : Device)
+    (within : count < 4) (front : FrontLeads count old act choice mid) where
+  stood : track_in mid (get_or DEVICES count d) ≡ track_in old (get_or DEVICES count d)
+  stood = front-next TrackOf (LeadsOf act choice) count (track_in old) (track_in mid) d within front
 
--- and is as far from 0 as it was
-pub front-fits : (count : ℕ) (old : Tracks) (act : Act) (choice : Choice) (mid : Tracks)
-    (d : Device) (limit : ℕ) → count < 4 → FrontLeads count old act choice mid
-    → AreTracksWithin limit old → IsTrackWithin limit (track_in mid (get_or DEVICES count d))
-front-fits count old act choice mid d limit within front on =
-    let device : Device = get_or DEVICES count d in
-    subst (λ (t : TrackOf device). IsTrackWithin limit t)
-    (sym (front-next TrackOf (LeadsOf act choice) count (track_in old) (track_in mid) d within
-    front))
-    (on device)
+  -- it has no step where it had none before
+  pub front-stops : (broken : Rule) → TrackStops (get_or DEVICES count d) mid act choice broken
+      → TracksStop old act choice broken
+  front-stops broken stops =
+      (get_or DEVICES count d, record { rule = stops.rule; none = rw stood at stops.none })
+
+  -- and is as far from 0 as it was
+  pub front-fits : (limit : ℕ) → AreTracksWithin limit old
+      → IsTrackWithin limit (track_in mid (get_or DEVICES count d))
+  front-fits limit on = rw stood (on (get_or DEVICES count d))
 
 -- how far from 0 the ends of all tracks and their counts are, by the rows of a recording
-pub tracks-within-weaker : (limit more : ℕ) (tracks : Tracks) → limit ≤ more
+pub tracks-within-weaker : {limit more : ℕ} (tracks : Tracks) → limit ≤ more
     → AreTracksWithin limit tracks → AreTracksWithin more tracks
-tracks-within-weaker limit more tracks le is device =
-    track-within-weaker limit more (track_in tracks device) le (is device)
-
--- what `lead` requires, of a recording of at most 100,000,000 rows
-pub tracks-within-rows : (rows : ℕ) (tracks : Tracks) → rows ≤ 100000000
-    → AreTracksWithin (rows * 2 ^ 32) tracks → AreTracksWithin (2 ^ 62) tracks
-tracks-within-rows rows tracks few =
-    tracks-within-weaker (rows * 2 ^ 32) (2 ^ 62) tracks (omega arith)
+tracks-within-weaker tracks le is device = track-within-weaker le (is device)
 
 -- tracks that were led from some within the limit of so many rows are within that of one row more
 pub tracks-within-next : (rows : ℕ) (old : Tracks) (act : Act) (choice : Choice) (new : Tracks)
     → AreTracksWithin (rows * 2 ^ 32) old → TracksLead old act choice new
     → AreTracksWithin ((rows + 1) * 2 ^ 32) new
-tracks-within-next rows old act choice new within led =
-    tracks-within-weaker (rows * 2 ^ 32 + 2 ^ 32) ((rows + 1) * 2 ^ 32) new (omega arith)
-    (λ device. (led device Base).within (rows * 2 ^ 32) (within device))
+tracks-within-next rows old act choice new within led device =
+    track-within-weaker (omega arith) ((led device Base).within (rows * 2 ^ 32) (within device))

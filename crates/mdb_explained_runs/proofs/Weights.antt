@@ -43,12 +43,10 @@ account-adds : (side : AccountSide) (bound : Bound) (one other : AccountSums)
     → towards bound (side_value side (account_sum one other))
     ≡ towards bound (side_value side one) +ℤ towards bound (side_value side other)
 unfolding account_sum
-account-adds sides.Device Least one other = omega (arith, ints)
-account-adds sides.Device Greatest one other = omega (arith, ints)
-account-adds sides.Controller Least one other = omega (arith, ints)
-account-adds sides.Controller Greatest one other = omega (arith, ints)
 account-adds sides.Difference Least one other = omega (arith, ints)
 account-adds sides.Difference Greatest one other = omega (arith, ints)
+account-adds side Least one other = omega (arith, ints)
+account-adds side Greatest one other = omega (arith, ints)
 
 -- what sums with gains count is what the sums count and what the gains do
 pub weigh-adds : (weight : Weight) (sums : Sums) (gains : Gains)
@@ -61,12 +59,8 @@ weigh-adds (weights.Account slot side bound) sums gains =
 -- no sums count nothing
 pub weigh-none : (weight : Weight) → weigh weight no_sums ≡ pos 0
 weigh-none weights.Nothing = refl
-weigh-none (weights.Account slot sides.Device Least) = refl
-weigh-none (weights.Account slot sides.Device Greatest) = refl
-weigh-none (weights.Account slot sides.Controller Least) = refl
-weigh-none (weights.Account slot sides.Controller Greatest) = refl
-weigh-none (weights.Account slot sides.Difference Least) = refl
-weigh-none (weights.Account slot sides.Difference Greatest) = refl
+weigh-none (weights.Account slot side Least) = grind (arith, ints)
+weigh-none (weights.Account slot side Greatest) = grind (arith, ints)
 
 -- and no gains count nothing
 pub weight-none : (weight : Weight) → weight_of weight no_gains ≡ pos 0
@@ -81,25 +75,12 @@ account-near : (side : AccountSide) (bound : Bound) (one : AccountSums) → one.
     → one.controller < 2 ^ 32
     → (neg_ℤ (pos (2 ^ 32)) ≤ℤ towards bound (side_value side one))
     × (towards bound (side_value side one) ≤ℤ pos (2 ^ 32))
-account-near sides.Device Least one d c = (omega (arith, ints), omega (arith, ints))
-account-near sides.Device Greatest one d c = (omega (arith, ints), omega (arith, ints))
-account-near sides.Controller Least one d c = (omega (arith, ints), omega (arith, ints))
-account-near sides.Controller Greatest one d c = (omega (arith, ints), omega (arith, ints))
-account-near sides.Difference Least one d c = (omega (arith, ints), omega (arith, ints))
-account-near sides.Difference Greatest one d c = (omega (arith, ints), omega (arith, ints))
+account-near side bound one d c = grind (arith, ints)
 
-weight-near : (weight : Weight) (gains : Gains) → IsSmall gains
+pub weight-near : (weight : Weight) (gains : Gains) → IsSmall gains
     → (neg_ℤ (pos (2 ^ 32)) ≤ℤ weight_of weight gains)
     × (weight_of weight gains ≤ℤ pos (2 ^ 32))
 weight-near weights.Nothing gains small = (omega (arith, ints), omega (arith, ints))
 weight-near (weights.Account slot side bound) gains small =
     account-near side bound (gained slot gains) (small_at gains.device slot small.device)
     (small_at gains.controller slot small.controller)
-
-pub weight-low : (weight : Weight) (gains : Gains) → IsSmall gains
-    → neg_ℤ (pos (2 ^ 32)) ≤ℤ weight_of weight gains
-weight-low weight gains small = (weight-near weight gains small).0
-
-pub weight-high : (weight : Weight) (gains : Gains) → IsSmall gains
-    → weight_of weight gains ≤ℤ pos (2 ^ 32)
-weight-high weight gains small = (weight-near weight gains small).1

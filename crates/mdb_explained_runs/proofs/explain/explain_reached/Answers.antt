@@ -1,5 +1,5 @@
+-- The marks of the best ways of all devices explain the goal.
 use Rattle.std.proofs.Common.{◌∙◌}
-use Rattle.mdb_bus.specs.Scopes.{from_power_on}
 use Rattle.mdb_follow.proofs.Following.{if-ok}
 use Rattle.mdb_explained_runs.proofs.Explained.{explained_all, has-way, list-of-seeker}
 use Rattle.mdb_explained_runs.proofs.Explained.{paths-of-seeker}
@@ -8,38 +8,31 @@ use Rattle.mdb_explained_runs.proofs.explain.explain_reached.Goals as goal
 pub marks_of_all-requires : goal.marks_of_all-requires
 marks_of_all-requires c =
     let profile = c.args.profile in
-    let scope = from_power_on profile c.args.without in
+    let without = c.args.without in
     let on = c.in_ok-seeker.ensures.stands in
-    let same = c.in_ok-seeker.ensures.scope ∙ c.from_power_on.ensures in
-    let list = list-of-seeker c.args.goal.now c.args.events.now c.in_ok-seeker.seeker scope same on
-    in (
+    let same = c.in_ok-seeker.ensures.scope ∙ c.from_power_on.ensures in (
       profile,
       c.args.goal.now,
       on.pieces,
-      paths-of-seeker c.args.goal.now c.args.events.now c.in_ok-seeker.seeker profile
-          c.args.without same on,
-      has-way profile c.args.without (c.transcripts_have_one_act_list.ensures scope)
-          c.args.events.now on.pieces list c.requires.reached,
+      paths-of-seeker on profile without same,
+      has-way profile without (c.transcripts_have_one_act_list.ensures _) (list-of-seeker on same)
+          c.requires.reached,
     )
 
 pub returns : goal.returns
 returns c =
-    let aim = c.args.goal.now in
-    let events = c.args.events.now in
     let profile = c.args.profile in
     let without = c.args.without in
-    let scope = from_power_on profile without in
     let on = c.in_ok-seeker.ensures.stands in
-    let same = c.in_ok-seeker.ensures.scope ∙ c.from_power_on.ensures in
-    let list = list-of-seeker aim events c.in_ok-seeker.seeker scope same on in
     let one = c.transcripts_have_one_act_list.ensures in
-    let ways = has-way profile without (one scope) events on.pieces list c.requires.reached in
-    if-ok c.marks_of_all.result _ _
-    (λ all are. explained_all
+    let same = c.in_ok-seeker.ensures.scope ∙ c.from_power_on.ensures in
+    let list = list-of-seeker on same in
+    if-ok c.marks_of_all.result _ _ (λ all are. explained_all
     (record {
       joins = c.ways_with_choices_join.ensures;
       one_list = one;
       told = c.own_acts_are_those_that_a_device_has_a_part_in.ensures.test;
-    }) profile without events on.pieces list aim all.items (are profile aim on.pieces
-    (paths-of-seeker aim events c.in_ok-seeker.seeker profile without same on) ways))
+    }) profile without c.args.events.now on.pieces list c.args.goal.now all.items
+    (are profile c.args.goal.now on.pieces (paths-of-seeker on profile without same)
+    (has-way profile without (one _) list c.requires.reached)))
     c.marks_of_all.ensures

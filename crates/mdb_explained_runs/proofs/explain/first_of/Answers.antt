@@ -1,5 +1,7 @@
-use Rattle.std.proofs.Common.{arith}
-use Rattle.mdb_explained_runs.proofs.Merging.{before_first, before_none, none_left, takes_one, takes_other}
+-- The first mark of both lists is that of the least row.
+use Rattle.std.proofs.Common.{arith, ◌∷◌}
+use Rattle.mdb_explained_runs.proofs.Merging.{before_none, none_left}
+use Rattle.mdb_explained_runs.specs.inner.Merges.{of_one, of_other}
 use Rattle.mdb_explained_runs.proofs.explain.first_of.Goals as goal
 
 pub returns-in_err-next-clause-none : goal.returns-in_err-next-clause-none
@@ -9,29 +11,22 @@ returns-in_err-next-clause-none c =
 
 pub returns-in_default-clause-goes : goal.returns-in_default-clause-goes
 returns-in_default-clause-goes c =
-    let next = c.in_ok-next.next.now in
-    takes_other next c.args.one.now c.args.other.now c.in_ok-next.further.now
-    c.in_ok-next.ensures.cases.0 (before_none next c.args.one.now c.in_default.ensures.cases)
+    rw c.in_ok-next.ensures.cases.0 (λ rest. of_other _ _ _ rest
+    (before_none c.in_ok-next.next.now c.args.one.now c.in_default.ensures.cases))
 
 pub returns-in-None-clause-goes : goal.returns-in-None-clause-goes
 returns-in-None-clause-goes c =
-    let mark = c.in-Some.mark.now in
-    takes_one mark c.args.one.now c.in-Some.more.now c.args.other.now c.in-Some.ensures.cases.0
-    (before_none mark c.args.other.now c.in-None.ensures.cases)
+    rw c.in-Some.ensures.cases.0 (λ rest. of_one _ _ _ rest
+    (before_none c.in-Some.mark.now c.args.other.now c.in-None.ensures.cases))
 
 pub returns-then-next-mark-clause-goes : goal.returns-then-next-mark-clause-goes
 returns-then-next-mark-clause-goes c =
-    let mark = c.in-Some.mark.now in
-    let next = c.in-Some-split_first.next.now in
-    takes_other next c.args.one.now c.args.other.now c.in-Some-split_first.further.now
-    c.in-Some-split_first.ensures.cases.0
-    (before_first next mark c.args.one.now c.in-Some.more.now c.in-Some.ensures.cases.0
-    (omega (arith, c.if-next-mark.true)))
+    rw (c.in-Some.ensures.cases.0, c.in-Some-split_first.ensures.cases.0)
+    (λ rest. of_other c.in-Some-split_first.next.now (c.in-Some.mark.now ∷ c.in-Some.more.now)
+    _ rest (omega (arith, c.if-next-mark.true)))
 
 pub returns-else-next-mark-clause-goes : goal.returns-else-next-mark-clause-goes
 returns-else-next-mark-clause-goes c =
-    let mark = c.in-Some.mark.now in
-    let next = c.in-Some-split_first.next.now in
-    takes_one mark c.args.one.now c.in-Some.more.now c.args.other.now c.in-Some.ensures.cases.0
-    (before_first mark next c.args.other.now c.in-Some-split_first.further.now
-    c.in-Some-split_first.ensures.cases.0 (omega (arith, c.if-next-mark.false)))
+    let other = c.in-Some-split_first.next.now ∷ c.in-Some-split_first.further.now in
+    rw (c.in-Some.ensures.cases.0, c.in-Some-split_first.ensures.cases.0)
+    (λ rest. of_one c.in-Some.mark.now _ other rest (omega (arith, c.if-next-mark.false)))

@@ -1,3 +1,4 @@
+-- The report of a run with given marks is there.
 use Rattle.mdb_explained_runs.proofs.ReplayReports.{report_of_run}
 use Rattle.mdb_explained_runs.proofs.laws.rows_with_a_marked_run_have_a_replay_report.Goals as goal
 
@@ -6,5 +7,4 @@ returns c scope = report_of_run (record {
   changer = c.from_power_on_all_is_known_of_the_changer.ensures.steps;
   bill = c.from_power_on_all_is_known_of_the_validator.ensures.steps;
   reader = c.from_power_on_all_is_known_of_a_reader.ensures.steps;
-}) c.ways_split_with_choices.ensures
-    c.marks_tell_what_is_chosen.ensures scope (c.transcripts_have_one_act_list.ensures scope)
+}) scope (c.transcripts_have_one_act_list.ensures scope)

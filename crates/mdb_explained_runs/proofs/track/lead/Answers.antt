@@ -1,3 +1,4 @@
+-- A track is led by the only step of its machine.
 use Rattle.std.proofs.Common.{refl}
 use Rattle.mdb_bus.specs.declared.scope.Beginning.TheVariants.{PowerOn}
 use Rattle.mdb_explained_runs.proofs.Tracked.{leads}
@@ -5,9 +6,7 @@ use Rattle.mdb_explained_runs.proofs.track.lead.Goals as goal
 
 pub returns-in-Some-clause-led : goal.returns-in-Some-clause-led
 returns-in-Some-clause-led g c profile =
-    leads (g.P.Pair.stands_for (PowerOn profile)) (g.P.Pair.machine (PowerOn profile))
-    (g.P.Pair.unvalued (PowerOn profile)) c.args.track.now _ c.args.act.now c.args.choice _
-    c.unvalued_by.result (λ acts on. c.in-Some.ensures.step (PowerOn profile) acts on)
+    leads c.unvalued_by.result (λ acts on. c.in-Some.ensures.step (PowerOn profile) acts on)
     (λ acts on. c.learn.ensures (PowerOn profile) acts on)
     c.moved-track.ensures c.in-Some.ensures.small
     (λ acts on. c.unvalued_by.ensures.adds (PowerOn profile) acts on)

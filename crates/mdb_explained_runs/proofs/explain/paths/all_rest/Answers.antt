@@ -1,7 +1,5 @@
-use Rattle.std.proofs.Common.{subst}
-use Rattle.std.proofs.lemmas.List.{take_all}
+-- Each entry rests, up to the last.
 use Rattle.mdb_bus.specs.declared.scope.Beginning.TheVariants.{PowerOn}
-use Rattle.mdb_explained_runs.specs.inner.Paths.{AllRest}
 use Rattle.mdb_explained_runs.proofs.Paths.{rests-more}
 use Rattle.mdb_explained_runs.proofs.explain.paths.all_rest.Goals as goal
 
@@ -11,10 +9,3 @@ loop-code-preserved g c profile =
     rests-more p.code_of (p.machine (PowerOn profile)) c.args.act.now c.args.entries.now
     c.loop-code.code-index _ c.state.result c.loop-code-test.true g.met.P.Pair.apart
     c.state.ensures (c.if-not-rests.ensures (PowerOn profile)) (c.loop-code.invariant profile)
-
-pub returns : goal.returns
-returns g c profile =
-    let p = g.P.Pair in
-    subst (AllRest p.code_of (p.machine (PowerOn profile)) c.args.act.now)
-    (take_all c.loop-code.code-index c.args.entries.now c.loop-code-test.false)
-    (c.loop-code.invariant profile)

@@ -1,9 +1,7 @@
-use Rattle.std.proofs.Common.{arith, ap, refl, sym, subst, ◌≡◌, ◌+◌}
-use Rattle.std.proofs.Common.{to_z, of_z, w64}
+-- A way that goes on is taken in, or one that is as good stays.
+use Rattle.std.proofs.Common.{arith, ap, refl, sym, ◌+◌}
+use Rattle.std.proofs.Common.{w64}
 use Rattle.std.proofs.lemmas.Int.{to_z-of_z}
-use Rattle.mdb_explained_runs.specs.declared.explain.best.Best.{Best}
-use Rattle.mdb_explained_runs.specs.inner.Paths.{HasAsGood}
-use Rattle.mdb_explained_runs.specs.inner.Paths.{LinksGoOnFrom, TakesIn}
 use Rattle.mdb_explained_runs.proofs.Bests.{has-counted, has-push, has-set, has-still, takes-push}
 use Rattle.mdb_explained_runs.proofs.Bests.{takes-same, takes-set}
 use Rattle.mdb_explained_runs.proofs.Bests.{good-read, marks-few}
@@ -11,109 +9,47 @@ use Rattle.mdb_explained_runs.proofs.explain.paths.take_in.Goals as goal
 
 pub overflow_add-marks : goal.overflow_add-marks
 overflow_add-marks g c =
-    let few = marks-few c.args.row c.args.choice in
-    omega (arith, few, c.marks_of.ensures c.args.row, c.requires.few)
+    omega (arith, marks-few c.args.row c.args.choice, c.marks_of.ensures c.args.row, c.requires.few)
 
 pub returns-in_ok-chain-in-Some-clause-takes : goal.returns-in_ok-chain-in-Some-clause-takes
 returns-in_ok-chain-in-Some-clause-takes g c =
-    let entries = c.args.room.now.entries.items in
-    let best : Best = record {
-      value = to_z w64 (of_z w64 c.args.value);
-      marks = c.args.before.now.marks + c.marks_of.result;
-      chain = c.in_ok-chain-in-Some.chain;
-    } in
-    let same : best.value ≡ c.args.value =
-    to_z-of_z w64 c.args.value c.ranges.value in
-    takes-set _ entries c.in-Some.place c.args.code best
-    (record {
+    takes-set c.args.room.now.entries.items c.in-Some.place c.args.code _ (record {
       code = refl;
-      value = same;
+      value = to_z-of_z w64 c.args.value c.ranges.value;
       marks = ap (λ n. c.args.before.now.marks + n) (c.marks_of.ensures c.args.row);
       chain = c.in_ok-chain-in-Some.ensures.grown;
-    })
-    c.in-Some.ensures
-    (λ d. good-read entries c.in-Some.place d c.index.result.now best.value best.marks
-    c.in-Some.ensures.0 (sym c.index.ensures)
+    }) c.in-Some.ensures (λ d. good-read c.args.room.now.entries.items c.in-Some.place d
+    c.index.result.now c.in-Some.ensures.0 (sym c.index.ensures)
     c.if-not-is_beaten_by.ensures.better)
 
 pub returns-in_ok-chain-in-Some-clause-has : goal.returns-in_ok-chain-in-Some-clause-has
 returns-in_ok-chain-in-Some-clause-has g c =
-    let entries = c.args.room.now.entries.items in
-    let best : Best = record {
-      value = to_z w64 (of_z w64 c.args.value);
-      marks = c.args.before.now.marks + c.marks_of.result;
-      chain = c.in_ok-chain-in-Some.chain;
-    } in
-    let same : best.value ≡ c.args.value =
-    to_z-of_z w64 c.args.value c.ranges.value in
-    has-counted _ c.args.code best.value c.args.value best.marks _ same
+    has-counted (to_z-of_z w64 c.args.value c.ranges.value)
     (ap (λ n. c.args.before.now.marks + n) (c.marks_of.ensures c.args.row))
-    (has-set entries c.in-Some.place c.args.code best c.in-Some.ensures.0)
+    (has-set c.args.room.now.entries.items c.args.code _ c.in-Some.place c.in-Some.ensures.0)
 
 pub returns-in_ok-push-in-None-clause-has : goal.returns-in_ok-push-in-None-clause-has
-returns-in_ok-push-in-None-clause-has g c =
-    let entries = c.args.room.now.entries.items in
-    let best : Best = record {
-      value = to_z w64 (of_z w64 c.args.value);
-      marks = c.args.before.now.marks + c.marks_of.result;
-      chain = c.in_ok-chain-in-None.chain;
-    } in
-    let same : best.value ≡ c.args.value =
-    to_z-of_z w64 c.args.value c.ranges.value in
-    has-counted _ c.args.code best.value c.args.value best.marks _ same
+returns-in_ok-push-in-None-clause-has g c = rw c.in_ok-push-in-None.ensures.items
+    (has-counted (to_z-of_z w64 c.args.value c.ranges.value)
     (ap (λ n. c.args.before.now.marks + n) (c.marks_of.ensures c.args.row))
-    (subst (λ es. HasAsGood es c.args.code best.value best.marks)
-    (sym c.in_ok-push-in-None.ensures.items) (has-push entries c.args.code best))
+    (has-push c.args.room.now.entries.items c.args.code _))
 
 pub returns-then-not-is_beaten_by-clause-takes : goal.returns-then-not-is_beaten_by-clause-takes
-returns-then-not-is_beaten_by-clause-takes g c = takes-same _ c.args.room.now.entries.items
+returns-then-not-is_beaten_by-clause-takes g c = takes-same c.args.room.now.entries.items
 
 pub returns-then-not-is_beaten_by-clause-has : goal.returns-then-not-is_beaten_by-clause-has
 returns-then-not-is_beaten_by-clause-has g c =
-    let entries = c.args.room.now.entries.items in
-    let marks = c.args.before.now.marks + c.marks_of.result in
-    let value = to_z w64 (of_z w64 c.args.value) in
-    has-counted entries c.args.code value c.args.value marks _
-    (to_z-of_z w64 c.args.value c.ranges.value)
+    has-counted (to_z-of_z w64 c.args.value c.ranges.value)
     (ap (λ n. c.args.before.now.marks + n) (c.marks_of.ensures c.args.row))
-    (has-still entries c.in-Some.place c.args.code value marks c.index.result.now
+    (has-still c.args.room.now.entries.items c.in-Some.place c.args.code c.index.result.now
     c.in-Some.ensures (sym c.index.ensures) c.if-not-is_beaten_by.ensures.not)
-
-pub returns-then-not-is_beaten_by-clause-kept : goal.returns-then-not-is_beaten_by-clause-kept
-returns-then-not-is_beaten_by-clause-kept g c chain marks was = was
 
 pub returns-in_ok-push-in-None-clause-takes : goal.returns-in_ok-push-in-None-clause-takes
 returns-in_ok-push-in-None-clause-takes g c =
-    let entries = c.args.room.now.entries.items in
-    let best : Best = record {
-      value = to_z w64 (of_z w64 c.args.value);
-      marks = c.args.before.now.marks + c.marks_of.result;
-      chain = c.in_ok-chain-in-None.chain;
-    } in
-    let same : best.value ≡ c.args.value =
-    to_z-of_z w64 c.args.value c.ranges.value in
-    subst (λ es. TakesIn (LinksGoOnFrom c.args.chains.now.links.items
-    c.extend-in-None.new.self.links.items c.args.before.now c.args.row c.args.choice c.args.code
-    c.args.value) entries es)
-    (sym c.in_ok-push-in-None.ensures.items)
-    (takes-push _ entries (c.args.code, best) (record {
+    rw c.in_ok-push-in-None.ensures.items
+    (takes-push c.args.room.now.entries.items _ (record {
       code = refl;
-      value = same;
+      value = to_z-of_z w64 c.args.value c.ranges.value;
       marks = ap (λ n. c.args.before.now.marks + n) (c.marks_of.ensures c.args.row);
       chain = c.in_ok-chain-in-None.ensures.grown;
     }))
-
-pub returns-in_err-chain-in-Some-clause-kept : goal.returns-in_err-chain-in-Some-clause-kept
-returns-in_err-chain-in-Some-clause-kept g c = c.extend.ensures.kept
-
-pub returns-in_ok-chain-in-Some-clause-kept : goal.returns-in_ok-chain-in-Some-clause-kept
-returns-in_ok-chain-in-Some-clause-kept g c = c.extend.ensures.kept
-
-pub returns-in_err-chain-in-None-clause-kept : goal.returns-in_err-chain-in-None-clause-kept
-returns-in_err-chain-in-None-clause-kept g c = c.extend-in-None.ensures.kept
-
-pub returns-in_err-push-in-None-clause-kept : goal.returns-in_err-push-in-None-clause-kept
-returns-in_err-push-in-None-clause-kept g c = c.extend-in-None.ensures.kept
-
-pub returns-in_ok-push-in-None-clause-kept : goal.returns-in_ok-push-in-None-clause-kept
-returns-in_ok-push-in-None-clause-kept g c = c.extend-in-None.ensures.kept

@@ -1,3 +1,4 @@
+-- What the step under a choice leads to is taken in.
 use Rattle.std.proofs.Common.{inl, ap, refl, sym, ◌∙◌, ◌+ℤ◌}
 use Rattle.std.proofs.lemmas.Option.{none-some, same_Some}
 use Rattle.mdb_bus.specs.declared.scope.Beginning.TheVariants.{PowerOn}
@@ -7,23 +8,16 @@ use Rattle.mdb_explained_runs.proofs.explain.paths.take_step.Goals as goal
 
 pub returns-in_default-clause-takes : goal.returns-in_default-clause-takes
 returns-in_default-clause-takes g c profile acts stands =
-    let p = g.P.Pair in
-    takes-nothing p.CODES c.args.choice p.code_of
-    ((p.machine (PowerOn profile)).Step acts c.args.act.now) c.args.weight.now c.args.row
-    c.args.chains.now.links.items c.args.entry.now c.args.room.now.entries.items
+    takes-nothing c.args.choice c.args.chains.now.links.items c.args.entry.now
+    c.args.room.now.entries.items
     (λ next gains step. none-some (next, gains)
     (sym c.in_default.is ∙ (c.step.ensures.steps (PowerOn profile) acts stands next gains).1
     (inl c.requires.can, step)))
 
 pub returns-clause-takes : goal.returns-clause-takes
 returns-clause-takes g c profile acts stands =
-    let p = g.P.Pair in
     let steps = c.in-Some.ensures.steps (PowerOn profile) acts stands in
-    takes-one p.CODES c.args.choice p.code_of
-    ((p.machine (PowerOn profile)).Step acts c.args.act.now)
-    c.args.weight.now c.args.row c.args.chains.now.links.items c.take_in.new.chains.links.items
-    c.args.entry.now c.args.room.now.entries.items c.take_in.new.room.entries.items
-    c.in-Some.next c.in-Some.gains _
+    takes-one c.args.choice
     (small-sum c.args.entry.now.1.value c.of.result c.requires.within.low c.requires.within.high
     c.of.ensures.low c.of.ensures.high
     ∙ ap (λ by. c.args.entry.now.1.value +ℤ by) c.of.ensures.is)

@@ -1,46 +1,30 @@
-use Rattle.std.proofs.Common.{◌≡◌, Some, refl, subst, sym}
+-- What the steps under all choices lead to is taken in.
+use Rattle.std.proofs.Common.{Some, refl, subst, sym}
 use Rattle.mdb_bus.specs.declared.scope.Beginning.TheVariants.{PowerOn}
 use Rattle.mdb_machine.specs.Choices.{CanStand}
-use Rattle.mdb_machine.specs.declared.choice.Choice.TheVariants.{Plain}
 use Rattle.mdb_machine.proofs.Ways.{by_second, plain_only}
 use Rattle.mdb_explained_runs.proofs.Steps.{takes-alone, takes-both, takes-unheeded}
 use Rattle.mdb_explained_runs.proofs.explain.paths.take_steps.Goals as goal
 
 pub returns-then-not-heeds_choice-clause-takes : goal.returns-then-not-heeds_choice-clause-takes
 returns-then-not-heeds_choice-clause-takes g c profile acts stands =
-    let p = g.P.Pair in
-    let act = c.args.act.now in
-    takes-unheeded p.CODES (CanStand act) p.code_of ((p.machine (PowerOn profile)).Step acts act)
-    c.args.weight.now c.args.row c.args.chains.now.links.items c.take_step.new.chains.links.items
-    c.args.entry.now c.args.room.now.entries.items c.take_step.new.room.entries.items
-    c.state.result g.met.P.Pair.apart c.state.ensures tt
+    takes-unheeded c.state.result g.met.P.Pair.apart c.state.ensures tt
     (c.if-not-heeds_choice.ensures (PowerOn profile) acts)
     (c.in_ok-take_step.ensures.takes profile acts stands)
 
 pub returns-in_ok-take_step-2-clause-takes : goal.returns-in_ok-take_step-2-clause-takes
 returns-in_ok-take_step-2-clause-takes g c profile acts stands =
-    let p = g.P.Pair in
-    let act = c.args.act.now in
     let second = c.in-Some.ensures in
-    takes-both p.CODES (CanStand act) p.code_of ((p.machine (PowerOn profile)).Step acts act)
-    c.args.weight.now c.args.row c.args.chains.now.links.items c.take_step.new.chains.links.items
-    c.take_step-in-Some.new.chains.links.items c.args.entry.now c.args.room.now.entries.items
-    c.take_step.new.room.entries.items c.take_step-in-Some.new.room.entries.items c.in-Some.choice
-    tt (second.stands c.in-Some.choice refl).0
-    (by_second (p.machine (PowerOn profile)) (g.met.P.Pair.is_machine (PowerOn profile)) acts act
-    (Some c.in-Some.choice) c.in-Some.choice refl second.stands second.only)
+    takes-both c.in-Some.choice tt (second.stands c.in-Some.choice refl).0
+    (by_second (g.P.Pair.machine (PowerOn profile)) (g.met.P.Pair.is_machine (PowerOn profile)) acts
+    c.args.act.now (Some c.in-Some.choice) c.in-Some.choice refl second.stands second.only)
     c.take_step.ensures.kept c.take_step-in-Some.ensures.kept
     (c.in_ok-take_step.ensures.takes profile acts stands)
     (c.in_ok-take_step-2.ensures.takes profile acts stands)
 
 pub returns-in_default-clause-takes : goal.returns-in_default-clause-takes
 returns-in_default-clause-takes g c profile acts stands =
-    let p = g.P.Pair in
     let act = c.args.act.now in
-    takes-alone p.CODES (λ one. one ≡ Plain) (CanStand act) p.code_of
-    ((p.machine (PowerOn profile)).Step acts act) c.args.weight.now c.args.row
-    c.args.chains.now.links.items c.take_step.new.chains.links.items c.args.entry.now
-    c.args.room.now.entries.items c.take_step.new.room.entries.items
-    (λ choice same. subst (CanStand act) (sym same) tt)
+    takes-alone (λ choice same. subst (CanStand act) (sym same) tt)
     (plain_only act c.other_choice.result c.in_default.is c.other_choice.ensures.only)
     (c.in_ok-take_step.ensures.takes profile acts stands)

@@ -1,9 +1,4 @@
-use Rattle.std.proofs.Common.{subst, sym, ◌≡◌}
-use Rattle.std.specs.Prelude.{map}
-use Rattle.mdb_follow.specs.declared.report.TheConstants.Report.{DEVICES}
-use Rattle.mdb_follow.specs.Report.{device_facts_of}
-use Rattle.mdb_follow.specs.Silences.{asks_of}
-use Rattle.mdb_follow.specs.SilencesKept.{AllStandForAsks}
+-- A replay reports the run that it stands for.
 use Rattle.mdb_explained_runs.specs.Replays.{scope_of}
 use Rattle.mdb_bus.specs.ActLists.{acts_of}
 use Rattle.mdb_follow.specs.Cells.{cell_in}
@@ -12,12 +7,8 @@ use Rattle.mdb_explained_runs.proofs.replay.Replay.report.Goals as goal
 
 pub returns-clause-report : goal.returns-clause-report
 returns-clause-report c events marks on =
-    reported c.ways_with_choices_join.ensures c.ways_split_with_choices.ensures
-    c.marks_tell_what_is_chosen.ensures c.transcripts_have_one_act_list.ensures c.args.self.now
-    events marks c.of.result on (cell_in c.cells-cells.result) c.cells-cells.ensures
+    reported c.ways_with_choices_join.ensures c.transcripts_have_one_act_list.ensures c.of.result on
+    (cell_in c.cells-cells.result) c.cells-cells.ensures
     (c.of.ensures.telling (scope_of c.args.self.now) on.pieces
-    (subst (λ begins. c.facts-facts.result
-    ≡ map (λ device. device_facts_of begins device (acts_of on.pieces)) DEVICES) (sym on.begins)
-    (c.facts-facts.ensures on.profile (acts_of on.pieces) on.chosen on.tracks))
-    (subst (λ begins. AllStandForAsks c.args.self.now.silences
-    (λ device. asks_of begins device on.pieces)) (sym on.begins) on.silences) on.untimely)
+    (rw on.begins (c.facts-facts.ensures on.profile (acts_of on.pieces) on.chosen on.tracks))
+    (rw on.begins on.silences) on.untimely)

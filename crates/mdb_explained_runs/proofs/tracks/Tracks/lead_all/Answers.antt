@@ -1,6 +1,5 @@
+-- A break leads the track of each device, one after the other.
 use Rattle.std.proofs.Common.{◌^◌}
-use Rattle.mdb_explained_runs.specs.Tracks.{TrackOf, track_in}
-use Rattle.mdb_explained_runs.specs.inner.TrackSteps.{LeadsOf}
 use Rattle.mdb_follow.proofs.ByDevice.{front-all, front-more}
 use Rattle.mdb_follow.proofs.Following.{if-err-is}
 use Rattle.mdb_explained_runs.proofs.Tracked.{front-fits, front-stops}
@@ -8,25 +7,21 @@ use Rattle.mdb_explained_runs.proofs.tracks.Tracks.lead_all.Goals as goal
 
 pub lead_one-requires : goal.lead_one-requires
 lead_one-requires c =
-    front-fits c.loop-device.device-index c.args.self.now c.args.act.now c.args.choice
-    c.loop-device.self _ (2 ^ 62) c.loop-device-test.true c.loop-device.invariant c.requires
+    front-fits _ c.args.self.now c.args.act.now c.args.choice c.loop-device.self _
+    c.loop-device-test.true c.loop-device.invariant (2 ^ 62) c.requires
 
 pub returns-in_err-lead_one-clause-stopped : goal.returns-in_err-lead_one-clause-stopped
 returns-in_err-lead_one-clause-stopped c =
     let broken = c.in_err-lead_one.field-0.0 in
     if-err-is c.from_residual.result broken _ c.from_residual.ensures.1
-    (front-stops c.loop-device.device-index c.args.self.now c.args.act.now c.args.choice
-    c.loop-device.self _ broken c.loop-device-test.true c.loop-device.invariant
-    c.in_err-lead_one.ensures.stopped)
+    (front-stops _ c.args.self.now c.args.act.now c.args.choice c.loop-device.self _
+    c.loop-device-test.true c.loop-device.invariant broken c.in_err-lead_one.ensures.stopped)
 
 pub loop-device-preserved : goal.loop-device-preserved
 loop-device-preserved c =
-    front-more TrackOf (LeadsOf c.args.act.now c.args.choice) c.loop-device.device-index
-    (track_in c.args.self.now) (track_in c.loop-device.self) (track_in c.lead_one.new.self) _
-    c.loop-device-test.true c.loop-device.invariant c.in_ok-lead_one.ensures.led
+    front-more _ _ _ _ _ _ _ c.loop-device-test.true c.loop-device.invariant
+    c.in_ok-lead_one.ensures.led
 
 pub returns-clause-led : goal.returns-clause-led
 returns-clause-led c =
-    front-all TrackOf (LeadsOf c.args.act.now c.args.choice) c.loop-device.device-index
-    (track_in c.args.self.now) (track_in c.loop-device.self) c.loop-device-test.false
-    c.loop-device.invariant
+    front-all _ _ _ _ _ c.loop-device-test.false c.loop-device.invariant

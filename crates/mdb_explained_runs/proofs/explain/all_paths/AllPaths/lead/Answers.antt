@@ -1,18 +1,13 @@
+-- The paths of each device are led by an act of one, or of none.
 use Rattle.mdb_follow.proofs.Following.{if-ok, on-true}
 use Rattle.mdb_explained_runs.proofs.AllPaths.{all-led, all-within, none-led, none-within, on-false}
 use Rattle.mdb_explained_runs.proofs.explain.all_paths.AllPaths.lead.Goals as goal
-
-pub lead_one-requires : goal.lead_one-requires
-lead_one-requires c = record {
-  stands = (c.requires.stands.0, c.requires.stands.1, c.requires.stands.2 c.in-One.device);
-  within = c.requires.within c.in-One.device;
-}
 
 pub returns-in-One-clause-led : goal.returns-in-One-clause-led
 returns-in-One-clause-led c =
     if-ok c.lead_one.result _ _ (λ goes. on-true goes _ _
     (all-led c.args.goal.now c.in-One.device c.args.act.now c.args.row c.args.self.now
-    c.lead_one.new.self (λ other. (c.in-One.ensures other).0) c.lead_one.ensures.kept))
+    c.lead_one.new.self c.lead_one.ensures.kept (λ other. (c.in-One.ensures other).0)))
     c.lead_one.ensures.led
 
 pub returns-in-One-clause-none : goal.returns-in-One-clause-none
@@ -30,9 +25,8 @@ returns-in-One-clause-within c =
 
 pub returns-in-Nobody-clause-led : goal.returns-in-Nobody-clause-led
 returns-in-Nobody-clause-led c profile pieces events at are =
-    none-led c.args.goal.now c.args.act.now c.args.self.now c.in-Nobody.ensures profile pieces
+    none-led c.args.self.now c.args.goal.now c.args.act.now c.in-Nobody.ensures profile pieces
     events are
 
 pub returns-in-Nobody-clause-within : goal.returns-in-Nobody-clause-within
-returns-in-Nobody-clause-within c limit are =
-    none-within c.args.self.now limit are
+returns-in-Nobody-clause-within c = none-within c.args.self.now

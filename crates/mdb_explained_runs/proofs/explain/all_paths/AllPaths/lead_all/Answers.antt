@@ -1,60 +1,52 @@
+-- A break leads the paths of each device, one after the other.
 use Rattle.std.proofs.Common.{◌^◌}
 use Rattle.mdb_msgs.specs.declared.command.Device.TheVariants.{Changer}
 use Rattle.mdb_explained_runs.proofs.AllPaths.{front-all, front-fits, front-more, front-none}
-use Rattle.mdb_explained_runs.proofs.AllPaths.{front-stands, front-starts, keep-then}
+use Rattle.mdb_explained_runs.proofs.AllPaths.{front-stands, front-starts}
+use Rattle.mdb_explained_runs.proofs.Chains.{keep-then}
 use Rattle.mdb_explained_runs.proofs.explain.all_paths.AllPaths.lead_all.Goals as goal
 
 pub loop-device-init : goal.loop-device-init
-loop-device-init c = front-starts c.args.goal.now c.args.act.now c.args.row c.args.self.now
+loop-device-init c = front-starts _ _ _ _
 
 pub lead_one-requires : goal.lead_one-requires
 lead_one-requires c =
+    let stands = c.requires.stands in
     let front = c.loop-device.invariant in
+    let within = c.loop-device-test.true in
     record {
       stands = (
-        c.requires.stands.0,
-        c.requires.stands.1,
-        front-stands c.requires.stands.0 c.args.goal.now c.args.act.now c.args.row
-            c.loop-device.device-index c.args.self.now c.loop-device.self Changer
-            c.requires.stands.1 c.loop-device-test.true front c.requires.stands.2,
+        stands.0,
+        stands.1,
+        front-stands Changer within front stands.0 stands.1 stands.2,
       );
-      within = front-fits c.args.goal.now c.args.act.now c.args.row c.loop-device.device-index
-          c.args.self.now c.loop-device.self Changer (2 ^ 62) c.loop-device-test.true front
-          c.requires.within;
+      within = front-fits Changer within front (2 ^ 62) c.requires.within;
     }
 
 pub returns-in_err-lead_one-clause-kept : goal.returns-in_err-lead_one-clause-kept
 returns-in_err-lead_one-clause-kept c =
-    keep-then _ _ _ c.loop-device.invariant.kept c.lead_one.ensures.kept
+    keep-then c.loop-device.invariant.kept c.lead_one.ensures.kept
 
 pub returns-then-not-branch-clause-none : goal.returns-then-not-branch-clause-none
 returns-then-not-branch-clause-none c =
-    front-none c.args.goal.now c.args.act.now c.args.row c.loop-device.device-index
-    c.args.self.now c.loop-device.self Changer c.loop-device-test.true c.loop-device.invariant
-    c.in_ok-lead_one.field-0 c.if-not-branch.true c.in_ok-lead_one.ensures.none
+    front-none Changer c.loop-device-test.true c.loop-device.invariant c.in_ok-lead_one.field-0
+    c.if-not-branch.true c.in_ok-lead_one.ensures.none
 
 pub returns-then-not-branch-clause-kept : goal.returns-then-not-branch-clause-kept
 returns-then-not-branch-clause-kept c =
-    keep-then _ _ _ c.loop-device.invariant.kept c.lead_one.ensures.kept
+    keep-then c.loop-device.invariant.kept c.lead_one.ensures.kept
 
 pub loop-device-preserved : goal.loop-device-preserved
 loop-device-preserved c =
-    front-more c.args.goal.now c.args.act.now c.args.row c.loop-device.device-index
-    c.args.self.now c.loop-device.self c.lead_one.new.self Changer c.loop-device-test.true
-    c.loop-device.invariant c.in_ok-lead_one.field-0 c.if-not-branch.false
-    c.in_ok-lead_one.ensures.led c.lead_one.ensures.kept
+    front-more Changer c.loop-device-test.true c.loop-device.invariant c.lead_one.new.self
+    c.in_ok-lead_one.field-0 c.if-not-branch.false c.in_ok-lead_one.ensures.led
+    c.lead_one.ensures.kept
 
 pub returns-clause-led : goal.returns-clause-led
 returns-clause-led c profile pieces events at are device =
-    (front-all c.args.goal.now c.args.act.now c.args.row c.loop-device.device-index
-    c.args.self.now c.loop-device.self c.loop-device-test.false c.loop-device.invariant
-    device).led profile pieces events at (are device)
+    (front-all c.loop-device-test.false c.loop-device.invariant device).led profile pieces events at
+    (are device)
 
 pub returns-clause-within : goal.returns-clause-within
 returns-clause-within c limit are device =
-    (front-all c.args.goal.now c.args.act.now c.args.row c.loop-device.device-index
-    c.args.self.now c.loop-device.self c.loop-device-test.false c.loop-device.invariant
-    device).within limit (are device)
-
-pub returns-clause-kept : goal.returns-clause-kept
-returns-clause-kept c = c.loop-device.invariant.kept
+    (front-all c.loop-device-test.false c.loop-device.invariant device).within limit (are device)
