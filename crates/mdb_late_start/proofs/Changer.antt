@@ -12,7 +12,7 @@ use Rattle.mdb_machine.specs.declared.choice.Choice.{Choice}
 use Rattle.mdb_machine.specs.declared.gains.Gains.{Gains}
 use Rattle.mdb_machine.specs.Kept.{kept_of}
 use Rattle.mdb_late_start.specs.MidSession.{MayJoinLate}
-use Rattle.mdb_late_start.proofs.Keepers.{AlsoSteps, IsEnabledIn, IsSteady, in_end, step_in_end, told_first, told_on}
+use Rattle.mdb_late_start.proofs.Keepers.{AlsoSteps, IsEnabledIn, IsSteady, as_it_is, in_end, recorded, step_in_end, told_first, told_on}
 use Rattle.mdb_msgs.specs.Changer.{IsChangerMsg}
 use Rattle.mdb_msgs.specs.declared.command.ChangerCommand.{ChangerCommand}
 use Rattle.mdb_msgs.specs.declared.command.ChangerCommand.TheVariants as changer
@@ -55,10 +55,7 @@ asks known facts (changer.Dispense coins) before after gains step =
           (λ value. if again then no_gains else controller_gains (in_slots (0 ∷ value ∷ []))) is
           ∙ sym step.1;
     }
-asks known facts changer.Reset before after gains step =
-    record { other = gains; step = step; same = λ is. refl }
-asks known facts _ before after gains step =
-    record { other = gains; step = step; same = λ is. refl }
+asks known facts _ before after gains step = as_it_is step
 
 -- and so with what the changer takes
 acks : (known : KnownFacts) (facts : Facts) (command : ChangerCommand) (choice : Choice)
@@ -72,10 +69,8 @@ acks known facts (changer.Dispense coins) choice before after gains step = recor
   same = λ is. same_asked known facts coins (λ value. device_gains (in_slots (0 ∷ value ∷ []))) is
       ∙ sym step.1;
 }
-acks known facts changer.Reset choice before after gains step =
-    record { other = gains; step = step; same = λ is. refl }
-acks known facts _ choice before after gains step =
-    record { other = gains; step = step; same = λ is. refl }
+acks known facts changer.Reset choice before after gains step = as_it_is step
+acks known facts _ choice before after gains step = as_it_is step
 
 -- what is kept of the messages of a reply that may answer a command
 kept_fit : (items : List ChangerMsg) → AllByRecursion IsChangerMsg items
@@ -97,12 +92,10 @@ may_be_new : (known : KnownFacts) (facts : Facts) (news : List ChangerActivity)
     → IsEnabledIn known facts → AllByRecursion Fits news → AllByRecursion (MayBeNew facts) news
     → AllByRecursion (MayBeNew (in_end known facts)) news
 may_be_new known facts [] enabled fit may = tt
-may_be_new known facts (CashBox coin ∷ news) enabled fit may =
-    (enabled coin fit.0 may.0, may_be_new known facts news enabled fit.1 may.1)
-may_be_new known facts (Tube coin ∷ news) enabled fit may =
-    (enabled coin fit.0 may.0, may_be_new known facts news enabled fit.1 may.1)
 may_be_new known facts (Dispensed count coin ∷ news) enabled fit may =
     (tt, may_be_new known facts news enabled fit.1 may.1)
+may_be_new known facts (deposit ∷ news) enabled fit may =
+    (enabled _ fit.0 may.0, may_be_new known facts news enabled fit.1 may.1)
 
 -- it holds no messages by what is asked that it didn't hold before
 ask_holds : (facts : Facts) (command : ChangerCommand) (before after : ChangerState)
@@ -121,10 +114,7 @@ ack_holds : (facts : Facts) (command : ChangerCommand) (choice : Choice)
 ack_holds facts (changer.Dispense coins) choice before after gains step is =
     sym (ap (λ (s : ChangerState). s.holds) step.0) ∙ is
 ack_holds facts changer.Reset choice before after gains step is =
-    absurd (no_truth (sym (ap (λ (s : ChangerState). s.holds) step.0) ∙ is))
-  where
-    no_truth : false ≡ true → ⊥
-    no_truth same = cc
+    let clash : false ≡ true = sym (ap (λ (s : ChangerState). s.holds) step.0) ∙ is in cc clash
 ack_holds facts _ choice before after gains step is =
     sym (ap (λ (s : ChangerState). s.holds) step.0) ∙ is
 
@@ -152,14 +142,10 @@ pub changer_stays : (begins : Beginning) (setups : Setups)
 changer_stays begins setups = record {
   starts = told_first tables conduct Fits steady begins;
   starts_anew = λ so_far state told. tt;
-  goes_on = told_on tables conduct Fits steady begins;
+  goes_on = λ so_far act choice before after gains told step. told_on tables conduct Fits steady
+      step.facts choice before after gains begins so_far act told step.step;
   step = λ later front act choice before after gains names told step.
-      let goes = step_in_end tables conduct Fits steady begins setups later front act choice before
-      after gains names told step in
-      record {
-        other = goes.other;
-        step = goes.step;
-        valued = λ are answers none. goes.same (inl (are, answers, none));
-        alike = λ power_on empty none. goes.same (inr (power_on, empty, none));
-      };
+      recorded begins setups devices.Changer later front act choice before after gains
+      (step_in_end tables conduct Fits steady begins setups later front act choice before after
+      gains names told step);
 }

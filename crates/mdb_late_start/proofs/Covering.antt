@@ -61,8 +61,7 @@ pub covers_over : {X : Type 0} (begins : Beginning) (setups : Setups) (none : X)
     (first second whole : Option X) → whole ≡ or_else first second
     → Covers (known_by (Joined setups (profile_of begins)) none first) (known_by begins none whole)
 covers_over begins setups none first second whole is =
-    subst (λ w. Covers (known_by (Joined setups (profile_of begins)) none first)
-    (known_by begins none w)) (sym is) (covers_told begins setups none first second)
+    rw is (covers_told begins setups none first second)
 
 -- after a boundary in the end, the acts from the last boundary on are those of the end
 from_end : (powers : Act → Bool) (later front : List Act) → list_any powers later ≡ true
@@ -96,23 +95,15 @@ or_true false = refl
 end_enables : (any whole end runs full : Bool) → (any ≡ true → whole ≡ end)
     → (any ≡ true → runs ≡ false) → full ≡ true → (whole || (runs && full)) ≡ true
     → (end || (not any && full)) ≡ true
-end_enables false whole end runs full same stops ones is = ap (λ b. end || b) ones ∙ or_true end
-end_enables true whole true runs full same stops ones is = refl
-end_enables true true false runs full same stops ones is =
-    let no : true ≡ false = same refl in absurd cc
-end_enables true false false true full same stops ones is =
-    let no : true ≡ false = stops refl in absurd cc
-end_enables true false false false full same stops ones is = absurd cc
+end_enables false whole end runs full same stops ones is = rw ones (or_true end)
+end_enables true whole end runs full same stops ones is = rw (same refl, stops refl) at is
 
 -- whether a reset message is owed in the whole, from whether it is in the end
 end_owes : (any whole end runs : Bool) → (any ≡ true → whole ≡ end) → (any ≡ true → runs ≡ false)
     → (not end && not (not any)) ≡ true → (not whole && not runs) ≡ true
 end_owes false whole true runs same stops is = absurd cc
 end_owes false whole false runs same stops is = absurd cc
-end_owes true false end false same stops is = refl
-end_owes true true true runs same stops is = absurd cc
-end_owes true true false runs same stops is = let no : true ≡ false = same refl in absurd cc
-end_owes true false end true same stops is = let no : true ≡ false = stops refl in absurd cc
+end_owes true whole end runs same stops is = rw (same refl, stops refl) is
 
 -- a type that is enabled in the whole is enabled in the end
 enabled_end : (begins : Beginning) (setups : Setups) (effect : Command → Effect)

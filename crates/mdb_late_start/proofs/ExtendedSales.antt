@@ -39,49 +39,26 @@ pub there_asked : (command : Option ReaderCommand) (earlier : Bool) (here there 
     (sale_asked command there)
 there_asked (Some (reader.VendRequest price item)) earlier here there is = refl
 there_asked command false here there is = ap (sale_asked command) is
-there_asked (Some reader.VendCancel) true Unknown there is = tt
-there_asked (Some reader.VendCancel) true Unawaited Unknown is = absurd is
-there_asked (Some reader.VendCancel) true Unawaited Awaited is = absurd is
-there_asked (Some reader.VendCancel) true Unawaited there is = tt
-there_asked (Some reader.VendCancel) true Nothing Nothing is = tt
-there_asked (Some reader.VendCancel) true Nothing Asked is = tt
-there_asked (Some reader.VendCancel) true Nothing (Approved amount) is = tt
 there_asked (Some reader.VendCancel) true (Sold item) there is =
     subst (λ sale. IsEarlierSale Nothing (cancelled sale)) (sym is) tt
-there_asked (Some reader.VendCancel) true here there is = absurd is
-there_asked (Some reader.Reset) true here there is = tt
-there_asked (Some (reader.VendSuccess item)) true here there is = refl
-there_asked (Some reader.VendFailure) true here there is = tt
-there_asked (Some reader.SessionComplete) true here there is = tt
-there_asked command true here there is = is
+there_asked (Some reader.VendCancel) true here Unknown is = search
+there_asked (Some reader.VendCancel) true here there is = search
+there_asked command true here there is = search
 
 -- after 00 and 06
 earlier_unawaited : (here there : Sale) → IsEarlierSale here there
     → IsEarlierSale (unawaited here) (unawaited there)
-earlier_unawaited Unknown Unknown is = tt
-earlier_unawaited Unknown there is = tt
-earlier_unawaited Unawaited Unknown is = tt
-earlier_unawaited Unawaited there is = tt
-earlier_unawaited Nothing Nothing is = tt
-earlier_unawaited Nothing Asked is = tt
-earlier_unawaited Nothing (Approved amount) is = tt
 earlier_unawaited (Sold item) there is = ap unawaited is
-earlier_unawaited here there is = absurd is
+earlier_unawaited here Unknown is = search
+earlier_unawaited here there is = search
 
 -- after 05
 earlier_approved : (amount : ℕ) (here there : Sale) → IsEarlierSale here there
     → IsEarlierSale (sale_heard (messages.VendApproved amount) here)
     (sale_heard (messages.VendApproved amount) there)
-earlier_approved amount Unknown Unknown is = tt
-earlier_approved amount Unknown there is = tt
-earlier_approved amount Unawaited Unknown is = tt
-earlier_approved amount Unawaited there is = tt
-earlier_approved amount Nothing Nothing is = tt
-earlier_approved amount Nothing Asked is = tt
-earlier_approved amount Nothing (Approved before) is = tt
-earlier_approved amount (Sold item) there is =
-    ap (sale_heard (messages.VendApproved amount)) is
-earlier_approved amount here there is = absurd is
+earlier_approved amount (Sold item) there is = ap (sale_heard (messages.VendApproved amount)) is
+earlier_approved amount here Unknown is = search
+earlier_approved amount here there is = search
 
 earlier_heard : (said : List ReaderMsg) (here there : Sale) → IsEarlierSale here there
     → IsEarlierSale (sale_all_heard said here) (sale_all_heard said there)

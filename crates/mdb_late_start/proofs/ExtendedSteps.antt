@@ -44,7 +44,7 @@ use Rattle.mdb_cashless.specs.shared.ReaderWays.{first_of_three}
 use Rattle.mdb_machine.specs.Choices.{is_approval}
 use Rattle.mdb_late_start.specs.MidSession.{IsNothingOr}
 use Rattle.mdb_late_start.proofs.Covering.{Covers as IsKnownToo}
-use Rattle.mdb_late_start.proofs.Keepers.{AlsoSteps, allowed_end, as_same, by_own}
+use Rattle.mdb_late_start.proofs.Keepers.{AlsoSteps, allowed_end, as_it_is, as_same, by_own}
 use Rattle.mdb_late_start.proofs.ExtendedSales.{IsEarlierSale, IsSaleThere, hears_here, there_asked, there_heard, there_nothing}
 use Rattle.mdb_late_start.proofs.ReaderCovers as covers
 use Rattle.mdb_late_start.proofs.ReaderCovers.{IsCounted}
@@ -75,43 +75,35 @@ known_too None here there too = too
 known_too (Some x) here there too = refl
 
 module _ (unit : ReaderUnit) where
+  -- how the sale stands in the whole (`there`), by how it stands in the end (`one`), stays so
+  sale_after : (act : Act) (here one there : Facts) → IsSaleThere here.earlier one.sale there.sale
+      → IsSaleThere (facts_after unit act here).earlier (facts_after unit act one).sale
+      (facts_after unit act there).sale
+  sale_after (acts.Ask command) here one there is =
+      there_asked (own unit command) here.earlier one.sale there.sale is
+  sale_after (acts.VmcAck command reply) here one there is = there_heard
+      (own_messages unit command (messages_of reply)) here.earlier one.sale there.sale is
+  sale_after (acts.Break length) here one there is = there_nothing here.earlier
+  sale_after act here one there is = is
+
   covers_after : (act : Act) (here there : Facts) → Covers here there
       → Covers (facts_after unit act here) (facts_after unit act there)
-  covers_after (acts.Ask command) here there known = record {
-    earlier = both_earlier _ here.earlier there.earlier known.earlier;
-    sale = there_asked (own unit command) here.earlier here.sale there.sale known.sale;
-    approvals = known.approvals;
+  covers_after act here there known = record {
+    earlier = earlier act known.earlier;
+    sale = sale_after act here here there known.sale;
+    approvals = approvals act known.approvals;
   }
-  covers_after (acts.Reply command reply) here there known = record {
-    earlier = known.earlier;
-    sale = known.sale;
-    approvals = known_too _ here.approvals there.approvals known.approvals;
-  }
-  covers_after (acts.VmcAck command reply) here there known = record {
-    earlier = known.earlier;
-    sale = there_heard (own_messages unit command (messages_of reply)) here.earlier here.sale
-        there.sale known.sale;
-    approvals = known.approvals;
-  }
-  covers_after (acts.Break length) here there known = record {
-    earlier = known.earlier;
-    sale = there_nothing here.earlier;
-    approvals = known.approvals;
-  }
-  covers_after act here there known = known
+    where
+      earlier : (act : Act) → (there.earlier ≡ true → here.earlier ≡ true)
+          → (facts_after unit act there).earlier ≡ true
+          → (facts_after unit act here).earlier ≡ true
+      earlier (acts.Ask command) before = both_earlier _ here.earlier there.earlier before
+      earlier act before = before
 
-  -- A sale that isn't approved, where no request was asked, is so again.
-  whole_after : (act : Act) (here there : Facts)
-      → IsSaleThere here.earlier there.sale there.sale
-      → IsSaleThere (facts_after unit act here).earlier (facts_after unit act there).sale
-      (facts_after unit act there).sale
-  whole_after (acts.Ask command) here there is =
-      there_asked (own unit command) here.earlier there.sale there.sale is
-  whole_after (acts.VmcAck command reply) here there is =
-      there_heard (own_messages unit command (messages_of reply)) here.earlier there.sale there.sale
-      is
-  whole_after (acts.Break length) here there is = there_nothing here.earlier
-  whole_after act here there is = is
+      approvals : (act : Act) → IsKnownToo here.approvals there.approvals
+          → IsKnownToo (facts_after unit act here).approvals (facts_after unit act there).approvals
+      approvals (acts.Reply command reply) too = known_too _ here.approvals there.approvals too
+      approvals act too = too
 
   -- the config message and the amount are those of the base profile
   told_after : (act : Act) (facts : Facts)
@@ -168,9 +160,9 @@ same_new : (here there : Facts) (reply : Reply) (choice : Choice) (before : Appr
     → AreSaidPriced reply (config_with reply here.config) (config_with reply there.config)
     → worth here reply new ≡ worth there reply new
 same_new here there reply choice before last new is (inl none) =
-    let nothing : new ≡ [] = none_new choice before last new
-    (sym (ap (news choice before last) (none_in (messages_of reply) none)) ∙ is) in
-    ap (worth here reply) nothing ∙ sym (ap (worth there reply) nothing)
+    let nothing : new ≡ [] =
+    none_new choice before last new (rw (none_in (messages_of reply) none) at is) in
+    rw nothing
 same_new here there reply choice before last [] is (inr same) = refl
 same_new here there reply choice before last (amount ∷ new) is (inr same) =
     ap (λ config. value config amount) same
@@ -219,6 +211,14 @@ module _ (here there : Facts) (known : Covers here there) where
     λ same. ap (λ (p : Prices). value p.config p.amount) same ∙ sym is.1,
   )
 
+  none_or_before : {Else : Type 0} (its_worth : ℕ) → (its_worth ≡ 0) ⊎ IsEarlier there its_worth
+      → (other : ℕ) × ((other ≡ 0) ⊎ IsEarlier here other)
+      × ((prices_of here ≡ prices_of there) × Else → other ≡ its_worth)
+  none_or_before its_worth (inl none) = (0, inl refl, λ same. sym none)
+  none_or_before its_worth (inr earlier) =
+      let is = before_whole its_worth earlier in
+      (last_value here, inr is.0, λ same. is.1 same.0)
+
   -- by the same sale
   sells_same : (item : ℕ) (sale : Sale) (its_worth : ℕ) → MaySell there item sale its_worth
       → Sells item sale sale its_worth
@@ -231,12 +231,8 @@ module _ (here there : Facts) (known : Covers here there) where
   sells_same item (Sold last) its_worth (inr may) =
       let is = before_whole its_worth may.1 in
       (last_value here, inr (may.0, is.0), λ same. is.1 same.0)
-  sells_same item Unknown its_worth (inl may) = (0, inl refl, λ same. sym may)
-  sells_same item Unknown its_worth (inr may) =
-      let is = before_whole its_worth may in (last_value here, inr is.0, λ same. is.1 same.0)
-  sells_same item Unawaited its_worth (inl may) = (0, inl refl, λ same. sym may)
-  sells_same item Unawaited its_worth (inr may) =
-      let is = before_whole its_worth may in (last_value here, inr is.0, λ same. is.1 same.0)
+  sells_same item Unknown its_worth may = none_or_before its_worth may
+  sells_same item Unawaited its_worth may = none_or_before its_worth may
   sells_same item sale its_worth may =
       let is = before_whole its_worth may in (last_value here, is.0, λ same. is.1 same.0)
 
@@ -252,22 +248,19 @@ module _ (here there : Facts) (known : Covers here there) where
       × ((prices_of here ≡ prices_of there) × IsInEnd its → other ≡ its_worth)
   sells_either item (Approved amount) its_worth earlier may =
       (last_value here, inr (earlier, refl), λ same. not_approved amount earlier same.1)
-  sells_either item (Sold last) its_worth earlier (inl may) = (0, inl refl, λ same. sym may.1)
-  sells_either item (Sold last) its_worth earlier (inr may) =
-      let is = before_whole its_worth may.1 in (last_value here, inr is.0, λ same. is.1 same.0)
-  sells_either item Unknown its_worth earlier may = sells_same item Unknown its_worth may
-  sells_either item Unawaited its_worth earlier may = sells_same item Unawaited its_worth may
-  sells_either item its its_worth earlier may =
-      let is = before_whole its_worth may in (last_value here, inr is.0, λ same. is.1 same.0)
+  sells_either item (Sold last) its_worth earlier (inl may) = none_or_before its_worth (inl may.1)
+  sells_either item (Sold last) its_worth earlier (inr may) = none_or_before its_worth (inr may.1)
+  sells_either item Unknown its_worth earlier may = none_or_before its_worth may
+  sells_either item Unawaited its_worth earlier may = none_or_before its_worth may
+  sells_either item its its_worth earlier may = none_or_before its_worth (inr may)
 
   sells : (item : ℕ) (is_earlier : Bool) (sale its : Sale) (its_worth : ℕ)
       → here.earlier ≡ is_earlier → IsSaleThere is_earlier sale its
       → MaySell there item its its_worth → Sells item sale its its_worth
-  sells item false sale its its_worth later is may =
-      subst (λ s. Sells item s its its_worth) (sym is) (sells_same item its its_worth may)
+  sells item false sale its its_worth later is may = rw is (sells_same item its its_worth may)
   sells item true Unknown its its_worth earlier is may = sells_either item its its_worth earlier may
-  sells item true Unawaited its its_worth earlier is may = sells_either item its its_worth earlier
-      may
+  sells item true Unawaited its its_worth earlier is may =
+      sells_either item its its_worth earlier may
   sells item true Nothing (Approved amount) its_worth earlier is may =
       (last_value here, (earlier, refl), λ same. not_approved amount earlier same.1)
   sells item true Nothing Asked its_worth earlier is may = sells_same item Asked its_worth may
@@ -296,100 +289,89 @@ module _ (here there : Facts) (known : Covers here there) where
       ap (λ (p : Prices). if before.approved then value p.config p.amount else 0) same
   same_sold its before alike = refl
 
-  same_sold_by : (its : ReaderCommand) (reply : Reply) (start : ApprovalState) → IsAlike its
-      → sold_by here its reply start ≡ sold_by there its reply start
-  same_sold_by its reply start alike =
-      ap (λ n. if tells_out_of_sequence reply then 0 else n) (same_sold its start alike)
-
-  ask_here : (its : ReaderCommand) (before after : ApprovalState) (gains : Gains)
-      → AskStep there its before after gains
-      → AlsoSteps (AskStep here its before after) (IsAskAlike its) gains
-  ask_here its before after gains step =
-      let ask = may_ask its step.0 step.1 in
-      record {
-        other = controller_gains (in_slots (0 ∷ ask.0 ∷ []));
-        step = (ask.0, ask.1, step.2, refl);
-        same = λ alike. ap (λ n. controller_gains (in_slots (0 ∷ n ∷ []))) (ask.2 alike)
-            ∙ sym step.3;
-      }
-
-  ack_here : (its : ReaderCommand) (before after : ApprovalState) (gains : Gains)
-      → AckStep there its before after gains
-      → AlsoSteps (AckStep here its before after) (IsAlike its) gains
-  ack_here its before after gains step = record {
-    other = device_gains (in_slots (0 ∷ sold here its before ∷ []));
-    step = (step.0, refl);
-    same = λ alike. ap (λ n. device_gains (in_slots (0 ∷ n ∷ []))) (same_sold its before alike)
-        ∙ sym step.1;
-  }
-
-  reply_here : (reply : Reply) (choice : Choice) (its : ReaderCommand)
-      (before after : ApprovalState) (gains : Gains)
-      → ReplyStep there its reply choice before after gains
-      → AlsoSteps (ReplyStep here its reply choice before after)
-      (IsAlike its
-      × AreSaidPriced reply (config_with reply here.config) (config_with reply there.config)) gains
-  reply_here reply choice its before after gains step =
-      let sale = sold_by here its reply (read choice before) in
-      record {
-        other = device_gains (in_slots (worth here reply step.new ∷ sale ∷ []));
-        step = record {
-          last = step.last;
-          may_be_last = allowed_end here.approvals there.approvals step.last known.approvals
-              step.may_be_last;
-          may_be_read = step.may_be_read;
-          new = step.new;
-          is_new = step.is_new;
-          to = step.to;
-          gained = refl;
-        };
-        same = λ alike. ap (λ n. device_gains (in_slots (n ∷ sale ∷ [])))
-            (same_new here there reply choice _ step.last step.new step.is_new alike.1)
-            ∙ ap (λ n. device_gains (in_slots (worth there reply step.new ∷ n ∷ [])))
-            (same_sold_by its reply (read choice before) alike.0)
-            ∙ sym step.gained;
-      }
-
-  vmc_ack_here : (reply : Reply) (choice : Choice) (its : ReaderCommand)
-      (before after : ApprovalState) (gains : Gains)
-      → VmcAckStep there reply choice before after gains
-      → AlsoSteps (VmcAckStep here reply choice before after)
-      (AreSaidPriced reply here.config there.config) gains
-  vmc_ack_here reply choice its before after gains step =
-      let said = messages_of reply in
-      let hears = hears_here here.earlier here.sale there.sale step.0 known.sale step.1 in
-      record {
-        other = controller_gains (in_slots (approved_to here.config hears.0 said ∷ 0 ∷ []));
-        step = (hears.0, hears.1, step.2, refl);
-        same = λ alike. ap (λ n. controller_gains (in_slots (n ∷ 0 ∷ [])))
-            (hears.2 here.config said ∙ same_heard here.config there.config said step.0 alike)
-            ∙ sym step.3;
-      }
-
   -- what an act values has the same value
-  abbrev pub IsActAlike : ReaderUnit → Act → Type 0
+  abbrev IsActAlike : ReaderUnit → Act → Type 0
   IsActAlike unit (acts.Ask command) =
       (its : ReaderCommand) → own unit command ≡ Some its → IsAskAlike its
   IsActAlike unit act = IsPriced unit (prices_of here) (prices_of there) act
 
-  pub goes_here : (unit : ReaderUnit) (act : Act) (choice : Choice)
-      (before after : ApprovalState) (gains : Gains)
-      → ReaderStep unit there act choice before after gains
-      → AlsoSteps (ReaderStep unit here act choice before after) (IsActAlike unit act) gains
-  goes_here unit (acts.Ask c) choice before after gains step =
-      by_own (own unit c) _ _ _ before after gains (λ its is ask. as_same (λ alike. alike its is)
-      (ask_here its before after gains ask)) step
-  goes_here unit (acts.Ack c) choice before after gains step =
-      by_own (own unit c) _ _ _ before after gains (λ its is ack. as_same (λ alike. alike its is)
-      (ack_here its before after gains ack)) step
-  goes_here unit (acts.Reply c r) choice before after gains step =
-      by_own (own unit c) _ _ _ before after gains (λ its is reply.
-      as_same (λ alike. alike its is) (reply_here r choice its before after gains reply)) step
-  goes_here unit (acts.VmcAck c r) choice before after gains step =
-      by_own (own unit c) _ _ _ before after gains (λ its is ack. as_same (λ alike. alike its is)
-      (vmc_ack_here r choice its before after gains ack)) step
-  goes_here unit act choice before after gains step =
-      record { other = gains; step = step; same = λ alike. refl }
+  module _ (before after : ApprovalState) (gains : Gains) where
+    ask_here : (its : ReaderCommand) → AskStep there its before after gains
+        → AlsoSteps (AskStep here its before after) (IsAskAlike its) gains
+    ask_here its step =
+        let ask = may_ask its step.0 step.1 in
+        record {
+          other = controller_gains (in_slots (0 ∷ ask.0 ∷ []));
+          step = (ask.0, ask.1, step.2, refl);
+          same = λ alike. rw (ask.2 alike) (sym step.3);
+        }
+
+    ack_here : (its : ReaderCommand) → AckStep there its before after gains
+        → AlsoSteps (AckStep here its before after) (IsAlike its) gains
+    ack_here its step = record {
+      other = device_gains (in_slots (0 ∷ sold here its before ∷ []));
+      step = (step.0, refl);
+      same = λ alike. rw (same_sold its before alike) (sym step.1);
+    }
+
+    reply_here : (reply : Reply) (choice : Choice) (its : ReaderCommand)
+        → ReplyStep there its reply choice before after gains
+        → AlsoSteps (ReplyStep here its reply choice before after)
+        (IsAlike its
+        × AreSaidPriced reply (config_with reply here.config) (config_with reply there.config))
+        gains
+    reply_here reply choice its step =
+        let start = read choice before in
+        let sale = sold_by here its reply start in
+        record {
+          other = device_gains (in_slots (worth here reply step.new ∷ sale ∷ []));
+          step = record {
+            last = step.last;
+            may_be_last = allowed_end here.approvals there.approvals step.last known.approvals
+                step.may_be_last;
+            may_be_read = step.may_be_read;
+            new = step.new;
+            is_new = step.is_new;
+            to = step.to;
+            gained = refl;
+          };
+          same = λ alike.
+              let same_sale : sale ≡ sold_by there its reply start =
+              ap (λ n. if tells_out_of_sequence reply then 0 else n)
+              (same_sold its start alike.0) in
+              ap (λ n. device_gains (in_slots (n ∷ sale ∷ [])))
+              (same_new here there reply choice _ step.last step.new step.is_new alike.1)
+              ∙ ap (λ n. device_gains (in_slots (worth there reply step.new ∷ n ∷ []))) same_sale
+              ∙ sym step.gained;
+        }
+
+    vmc_ack_here : (reply : Reply) (choice : Choice)
+        → VmcAckStep there reply choice before after gains
+        → AlsoSteps (VmcAckStep here reply choice before after)
+        (AreSaidPriced reply here.config there.config) gains
+    vmc_ack_here reply choice step =
+        let said = messages_of reply in
+        let hears = hears_here here.earlier here.sale there.sale step.0 known.sale step.1 in
+        record {
+          other = controller_gains (in_slots (approved_to here.config hears.0 said ∷ 0 ∷ []));
+          step = (hears.0, hears.1, step.2, refl);
+          same = λ alike. ap (λ n. controller_gains (in_slots (n ∷ 0 ∷ [])))
+              (hears.2 here.config said ∙ same_heard here.config there.config said step.0 alike)
+              ∙ sym step.3;
+        }
+
+    goes_here : (unit : ReaderUnit) (act : Act) (choice : Choice)
+        → ReaderStep unit there act choice before after gains
+        → AlsoSteps (ReaderStep unit here act choice before after) (IsActAlike unit act) gains
+    goes_here unit (acts.Ask c) choice step = by_own (own unit c) _ _ _ before after gains
+        (λ its is ask. as_same (λ alike. alike its is) (ask_here its ask)) step
+    goes_here unit (acts.Ack c) choice step = by_own (own unit c) _ _ _ before after gains
+        (λ its is ack. as_same (λ alike. alike its is) (ack_here its ack)) step
+    goes_here unit (acts.Reply c r) choice step = by_own (own unit c) _ _ _ before after gains
+        (λ its is reply. as_same (λ alike. alike its is) (reply_here r choice its reply)) step
+    goes_here unit (acts.VmcAck c r) choice step = by_own (own unit c) _ _ _ before after gains
+        (λ its is ack. as_same (λ alike. alike its is) (vmc_ack_here r choice ack)) step
+    goes_here unit act choice step = as_it_is step
 
 -- ---- in the end
 
@@ -409,32 +391,22 @@ module _ (unit : ReaderUnit) (begins : Beginning) where
       × (asks_sale (own unit command) ≡ true → (facts_of begins unit so_far).earlier ≡ false)
   ask_valued command so_far =
       let same = as_base unit begins so_far in
-      let earlier : Bool = (facts_of begins unit so_far).earlier in
-      let Valued : Option ReaderConfig → Option ℕ → Type 0 = λ config amount.
-      one_if (asks_sale (own unit command)
-      && (is_none config || is_none amount || earlier)) ≡ 0 in
       λ none. valued_ask (asks_sale (own unit command))
       (is_none (known_of begins unit so_far).config)
-      (is_none (last_told (amount_by unit) so_far)) earlier
-      (subst (λ config. Valued config (last_told (amount_by unit) so_far)) same.0
-      (subst (λ amount. Valued (facts_of begins unit so_far).config amount) same.1 none))
+      (is_none (last_told (amount_by unit) so_far)) (facts_of begins unit so_far).earlier
+      (rw (same.0, same.1) at none)
 
   valued_by : (act : Act) (so_far : List Act)
       → unvalued_by unit (facts_of begins unit so_far) act ≡ 0
       → reader_amounts.unvalued_by unit (known_of begins unit so_far) act ≡ 0
   valued_by (acts.Ask command) so_far none = (ask_valued command so_far none).0
-  valued_by act so_far none =
-      subst (λ config. amounts.unvalued_by (or_else (config_by unit act) config)
-      (sum_by (λ message. one_if (is_approval message)) (messages_by unit act)) ≡ 0)
-      (as_base unit begins so_far).0 none
+  valued_by act so_far none = rw (as_base unit begins so_far).0 at none
 
   valued : (so_far : List Act) → unvalued unit begins so_far ≡ 0
       → reader_amounts.unvalued unit begins so_far ≡ 0
   valued [] none = none
   valued (act ∷ so_far) none =
-      let first = valued_by act so_far (omega (arith, none)) in
-      let rest = valued so_far (omega (arith, none)) in
-      omega (arith, first, rest)
+      omega (arith, valued_by act so_far (omega (arith, none)), valued so_far (omega (arith, none)))
 
 module _ (unit : ReaderUnit) (begins : Beginning) (setups : Setups) (later front : List Act) where
   abbrev joined : Beginning
@@ -461,14 +433,11 @@ module _ (unit : ReaderUnit) (begins : Beginning) (setups : Setups) (later front
       → IsSaleThere (facts_of joined unit later).earlier (facts_of begins unit (later ++
       front)).sale
       (facts_of begins unit (later ++ front)).sale
-  in_whole [] front power_on empty =
-      subst (λ acts. IsEarlierSale (facts_of begins unit acts).sale (facts_of begins unit
-      acts).sale)
-      (sym empty)
-      (subst (λ b. IsEarlierSale (facts_of b unit []).sale (facts_of b unit []).sale) (sym power_on)
-      tt)
-  in_whole (act ∷ later) front power_on empty = whole_after unit act (facts_of joined unit later)
-      (facts_of begins unit (later ++ front)) (in_whole later front power_on empty)
+  in_whole [] front power_on empty = rw (empty, power_on) tt
+  in_whole (act ∷ later) front power_on empty =
+      let whole : Facts = facts_of begins unit (later ++ front) in
+      sale_after unit act (facts_of joined unit later) whole whole
+      (in_whole later front power_on empty)
 
   in_end : (earlier : Bool) → here.earlier ≡ earlier
       → IsSaleThere earlier there.sale there.sale → IsInEnd here there it there.sale
@@ -481,18 +450,18 @@ module _ (unit : ReaderUnit) (begins : Beginning) (setups : Setups) (later front
       (unvalued unit joined (act ∷ later))
       → IsPriced unit (prices_of here) (prices_of there) act
   counted_base act counted =
-      subst (λ prices. IsPriced unit prices (prices_of there) act)
-      (sym (prices_are unit joined later))
-      (subst (λ prices. IsPriced unit (prices_known unit joined later) prices act)
-      (sym (prices_are unit begins (later ++ front)))
-      (covers.counted unit begins setups later front act (elim counted [
+      let its = covers.counted unit begins setups later front act (elim counted [
         | inl (are, answers, none) ↦ inl (
-          subst (IsNothingOr (config_known setups unit)) (as_base unit begins front).0 are,
+          rw (as_base unit begins front).0 at are,
           answers,
           valued unit joined (act ∷ later) none,
         )
         | inr same ↦ inr same
-      ])))
+      ]) in
+      subst (λ prices. IsPriced unit prices (prices_of there) act)
+      (sym (prices_are unit joined later))
+      (subst (λ prices. IsPriced unit (prices_known unit joined later) prices act)
+      (sym (prices_are unit begins (later ++ front))) its)
 
   ask_alike : (command : Command) (its : ReaderCommand) → own unit command ≡ Some its
       → unvalued_by unit here (acts.Ask command) ≡ 0
@@ -526,4 +495,4 @@ module _ (unit : ReaderUnit) (begins : Beginning) (setups : Setups) (later front
       (IsCounted unit begins setups later front act (facts_of begins unit front).config
       (unvalued unit joined (act ∷ later))) gains
   extended_in_end act choice before after gains step =
-      as_same (counted_alike act) (goes_here here there it unit act choice before after gains step)
+      as_same (counted_alike act) (goes_here here there it before after gains unit act choice step)

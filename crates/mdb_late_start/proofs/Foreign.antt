@@ -22,6 +22,20 @@ use Rattle.mdb_follow.specs.Arrivals.{Arrives}
 use Rattle.mdb_follow.specs.Machines.{StateOf, machine_of}
 use Rattle.mdb_follow.specs.Sums.{Sums, no_sums}
 use Rattle.mdb_follow.proofs.Ways.{no-gains}
+use Rattle.mdb_machine.specs.Machine.{Machine}
+use Rattle.mdb_late_start.proofs.CutWords.{IsForeignAct}
+
+-- pieces are foreign acts
+abbrev pub AreForeign : List Piece → Type 0
+AreForeign [] = Unit {0}
+AreForeign (piece ∷ pieces) = IsForeignAct piece × AreForeign pieces
+
+-- so are those of foreign words
+pub words_are : (words : List Event) (pieces : List Piece) → AreForeign pieces
+    → AreForeign (with_foreign words pieces)
+words_are [] pieces foreign = foreign
+words_are (word ∷ words) pieces foreign =
+    words_are words (Whole acts.Foreign (word ∷ []) ∷ pieces) (tt, foreign)
 
 -- each device has a machine of its own
 pub is_machine_of : (begins : Beginning) (device : Device)
@@ -30,76 +44,59 @@ is_machine_of begins devices.Changer = changer_ways.is_machine begins
 is_machine_of begins devices.Bill = bill_ways.is_machine begins
 is_machine_of begins (devices.Reader unit) = reader_ways.is_machine unit begins
 
--- foreign words are acts of no device
-pub none_own : (device : Device) (words : List Event) (pieces : List Piece)
-    → own_acts device (acts_of (with_foreign words pieces)) ≡ own_acts device (acts_of pieces)
-none_own device [] pieces = refl
-none_own device (word ∷ words) pieces =
-    none_own device words (Whole acts.Foreign (word ∷ []) ∷ pieces)
+module _ (device : Device) where
+  -- a device has no part in foreign acts
+  pub none_of_its : (pieces : List Piece) → AreForeign pieces → own_acts device (acts_of pieces) ≡ []
+  none_of_its [] foreign = refl
+  none_of_its (Whole acts.Foreign events ∷ pieces) foreign = none_of_its pieces foreign.1
+  none_of_its (piece ∷ pieces) foreign = absurd foreign.0
 
--- a way leads through foreign words where it was
-pub through_foreign : (begins : Beginning) (device : Device) (words : List Event)
-    (pieces : List Piece) (state : StateOf device) (sums : Sums)
-    → Arrives (machine_of begins device) (acts_of pieces) state sums
-    → Arrives (machine_of begins device) (acts_of (with_foreign words pieces)) state sums
-through_foreign begins device [] pieces state sums way = way
-through_foreign begins device (word ∷ words) pieces state sums way =
-    let is = is_machine_of begins device in
-    through_foreign begins device words (Whole acts.Foreign (word ∷ []) ∷ pieces) state sums
-    (record {
+  -- its own acts don't change where others stand in front
+  pub own_later : (later others : List Act) → own_acts device others ≡ []
+      → own_acts device (later ++ others) ≡ own_acts device later
+  own_later [] others none = none
+  own_later (act ∷ later) others none =
+      ap (λ (own : List Act). if has_part device act then act ∷ own else own)
+      (own_later later others none)
+
+  -- a way in mid-session leads on where foreign acts stand in front
+  module _ (setups : Setups) (profile : Profile) where
+    abbrev machine : Machine (StateOf device)
+    machine = machine_of (Joined setups profile) device
+
+    is : IsMachineOf device machine
+    is = is_machine_of (Joined setups profile) device
+
+    -- a way leads through these from each state where it may start to the same
+    stays_there : (pieces : List Piece) → AreForeign pieces → (state : StateOf device)
+        → machine.Starts state → Arrives machine (acts_of pieces) state no_sums
+    stays_there [] foreign state starts = (starts, refl)
+    stays_there (Whole acts.Foreign events ∷ pieces) foreign state starts = record {
       choice = Plain;
       stands = tt;
       before = state;
-      sums_before = sums;
+      sums_before = no_sums;
       gains = no_gains;
-      way = way;
+      way = stays_there pieces foreign.1 state starts;
       step = (is.elsewhere (acts_of pieces) acts.Foreign Plain state state no_gains
           (λ part. absurd cc)).1 (refl, refl);
-      adds = no-gains sums;
-    })
+      adds = no-gains no_sums;
+    }
+    stays_there (piece ∷ pieces) foreign state starts = absurd foreign.0
 
--- a device's own acts don't change where others stand in front
-pub own_later : (device : Device) (later others : List Act) → own_acts device others ≡ []
-    → own_acts device (later ++ others) ≡ own_acts device later
-own_later device [] others none = none
-own_later device (act ∷ later) others none =
-    ap (λ (own : List Act). if has_part device act then act ∷ own else own)
-    (own_later device later others none)
-
--- A way in mid-session leads on where acts stand in front in which the device has no part, and
--- through which a way leads from each state where it may start to the same.
-pub after_others : (setups : Setups) (profile : Profile) (device : Device) (others : List Act)
-    → own_acts device others ≡ []
-    → ((state : StateOf device) → (machine_of (Joined setups profile) device).Starts state
-    → Arrives (machine_of (Joined setups profile) device) others state no_sums)
-    → (later : List Act) (state : StateOf device) (sums : Sums)
-    → Arrives (machine_of (Joined setups profile) device) later state sums
-    → Arrives (machine_of (Joined setups profile) device) (later ++ others) state sums
-after_others setups profile device others none through [] state sums way =
-    subst (λ u. Arrives (machine_of (Joined setups profile) device) others state u) (sym way.1)
-    (through state way.0)
-after_others setups profile device others none through (act ∷ later) state sums way =
-    let is = is_machine_of (Joined setups profile) device in
-    record {
+    pub after_foreign : (pieces : List Piece) → AreForeign pieces → (later : List Act)
+        (state : StateOf device) (sums : Sums) → Arrives machine later state sums
+        → Arrives machine (later ++ acts_of pieces) state sums
+    after_foreign pieces foreign [] state sums way =
+        rw way.1 (stays_there pieces foreign state way.0)
+    after_foreign pieces foreign (act ∷ later) state sums way = record {
       choice = way.choice;
       stands = way.stands;
       before = way.before;
       sums_before = way.sums_before;
       gains = way.gains;
-      way = after_others setups profile device others none through later way.before way.sums_before
-          way.way;
-      step = is.own later (later ++ others) act way.choice way.before state way.gains
-          (sym (own_later device later others none)) way.step;
+      way = after_foreign pieces foreign later way.before way.sums_before way.way;
+      step = is.own later (later ++ acts_of pieces) act way.choice way.before state way.gains
+          (sym (own_later later (acts_of pieces) (none_of_its pieces foreign))) way.step;
       adds = way.adds;
     }
-
--- so where foreign words stand in front
-pub after_foreign : (setups : Setups) (profile : Profile) (device : Device) (words : List Event)
-    (later : List Act) (state : StateOf device) (sums : Sums)
-    → Arrives (machine_of (Joined setups profile) device) later state sums
-    → Arrives (machine_of (Joined setups profile) device) (later ++ acts_of (with_foreign words []))
-    state sums
-after_foreign setups profile device words =
-    after_others setups profile device (acts_of (with_foreign words [])) (none_own device words [])
-    (λ state starts. through_foreign (Joined setups profile) device words [] state no_sums
-    (starts, refl))

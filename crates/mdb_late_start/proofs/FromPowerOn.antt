@@ -25,106 +25,98 @@ use Rattle.mdb_bus.specs.Pieces.{NamesAReply}
 use Rattle.mdb_late_start.specs.inner.EndLaws.{EndLaws}
 use Rattle.mdb_late_start.proofs.EndRuns.{all_name}
 use Rattle.mdb_late_start.proofs.InEnds.{AllName, holds_there}
+use Rattle.mdb_bus.specs.declared.scope.Beginning.{Beginning}
 
--- the same way in mid-session
-pub record SameWay (profile : Profile) (setups : Setups) (loss : Loss) (pieces : List Piece)
-    (states : States) (sums : AllSums) (way : IsWay (PowerOn profile) loss pieces states sums)
-    : Type 0 where
-  pub more : AllSums
-  pub same : IsWay (Joined setups profile) loss pieces states more
-  pub alike : AreAlike (PowerOn profile) (Joined setups profile) loss pieces states states sums more
-      way same
-  pub gained : (device : Device) → IsNotKnown (Joined setups profile) device
-      → more device ≡ sums device
+module _ (laws : EndLaws) (profile : Profile) (setups : Setups) where
+  abbrev begins : Beginning
+  begins = PowerOn profile
 
--- a step of a device from power-on, in mid-session
-step_there : EndLaws → (profile : Profile) (setups : Setups) (device : Device) (so_far : List Act)
-    (act : Act)
-    (choice : Choice) (before after : StateOf device) (gains : Gains) → NamesAReply act
-    → HasToldWhatItHolds (PowerOn profile) device so_far before
-    → (machine_of (PowerOn profile) device).Step so_far act choice before after gains
-    → GoesOnInEnd (PowerOn profile) setups device so_far [] act choice before after gains
-step_there laws profile setups device so_far act choice before after gains name holds step =
-    let whole : so_far ≡ so_far ++ [] = sym (append-nil so_far) in
-    (laws.stays (PowerOn profile) setups device).step so_far [] act choice before after gains name
-    (subst (λ l. HasToldWhatItHolds (PowerOn profile) device l before) whole holds)
-    (subst (λ l. (machine_of (PowerOn profile) device).Step l act choice before after gains) whole
-    step)
+  abbrev late : Beginning
+  late = Joined setups profile
 
-pub same_way : EndLaws → (profile : Profile) (setups : Setups) (loss : Loss)
-    (pieces : List Piece) (states : States) (sums : AllSums) (way : IsWay (PowerOn profile) loss
-    pieces states sums)
-    → AllName (acts_of pieces) → SameWay profile setups loss pieces states sums way
-same_way laws profile setups loss [] states sums way name = record {
-  more = λ device. no_sums;
-  same = λ device.
-      let law = laws.stays (PowerOn profile) setups device in
-      (law.starts_anew [] (states device) (law.starts (states device) (way device).0), refl);
-  alike = tt;
-  gained = λ device unknown. sym (way device).1;
-}
-same_way laws profile setups loss (Whole act events ∷ pieces) states sums way name =
-    let earlier =
-    same_way laws profile setups loss pieces way.before way.sums_before way.way name.1 in
-    let arrived = laws.splits (PowerOn profile) loss pieces way.before way.sums_before way.way in
-    let there : (device : Device) → GoesOnInEnd (PowerOn profile) setups device (acts_of pieces) []
-    act way.choice (way.before device) (states device) (way.go device).gains =
-    λ device. step_there laws profile setups device (acts_of pieces) act way.choice
-    (way.before device) (states device) (way.go device).gains name.0
-    (holds_there (PowerOn profile) setups device (laws.stays (PowerOn profile) setups device)
-    (acts_of pieces) (way.before device) (way.sums_before device) (arrived device))
-    (way.go device).step in
-    record {
-      more = λ device. added (earlier.more device) (there device).other;
-      same = record {
-        choice = way.choice;
-        stands = way.stands;
-        as_lost = way.as_lost;
-        before = way.before;
-        sums_before = earlier.more;
-        way = earlier.same;
-        go = λ device. record {
-          gains = (there device).other;
-          step = (there device).step;
-          adds = refl;
+  -- a step of a device from power-on, in mid-session
+  step_there : (device : Device) (so_far : List Act) (act : Act) (choice : Choice)
+      (before after : StateOf device) (gains : Gains) → NamesAReply act
+      → HasToldWhatItHolds begins device so_far before
+      → (machine_of begins device).Step so_far act choice before after gains
+      → GoesOnInEnd begins setups device so_far [] act choice before after gains
+  step_there device so_far act choice before after gains name holds step =
+      let whole : so_far ≡ so_far ++ [] = sym (append-nil so_far) in
+      (laws.stays begins setups device).step so_far [] act choice before after gains name
+      (subst (λ l. HasToldWhatItHolds begins device l before) whole holds)
+      (subst (λ l. (machine_of begins device).Step l act choice before after gains) whole step)
+
+  -- the same way in mid-session
+  abbrev SameWay : (loss : Loss) (pieces : List Piece) (states : States) (sums : AllSums)
+      → IsWay begins loss pieces states sums → Type 0
+  SameWay loss pieces states sums way = record {
+    more : AllSums;
+    same : IsWay late loss pieces states more;
+    alike : AreAlike begins late loss pieces states states sums more way same;
+    gained : (device : Device) → IsNotKnown late device → more device ≡ sums device;
+  }
+
+  same_way : (loss : Loss) (pieces : List Piece) (states : States) (sums : AllSums)
+      (way : IsWay begins loss pieces states sums) → AllName (acts_of pieces)
+      → SameWay loss pieces states sums way
+  same_way loss [] states sums way name = record {
+    more = λ device. no_sums;
+    same = λ device.
+        let law = laws.stays begins setups device in
+        (law.starts_anew [] (states device) (law.starts (states device) (way device).0), refl);
+    alike = tt;
+    gained = λ device unknown. sym (way device).1;
+  }
+  same_way loss (Whole act events ∷ pieces) states sums way name =
+      let earlier = same_way loss pieces way.before way.sums_before way.way name.1 in
+      let arrived = laws.splits begins loss pieces way.before way.sums_before way.way in
+      let there : (device : Device) → GoesOnInEnd begins setups device (acts_of pieces) [] act
+      way.choice (way.before device) (states device) (way.go device).gains =
+      λ device. step_there device (acts_of pieces) act way.choice (way.before device)
+      (states device) (way.go device).gains name.0
+      (holds_there begins setups device (laws.stays begins setups device) (acts_of pieces)
+      (way.before device) (way.sums_before device) (arrived device)) (way.go device).step in
+      record {
+        more = λ device. added (earlier.more device) (there device).other;
+        same = record {
+          choice = way.choice;
+          stands = way.stands;
+          as_lost = way.as_lost;
+          before = way.before;
+          sums_before = earlier.more;
+          way = earlier.same;
+          go = λ device. record {
+            gains = (there device).other;
+            step = (there device).step;
+            adds = refl;
+          };
         };
-      };
-      alike = (refl, refl, earlier.alike);
-      gained = λ device unknown.
-          ap (λ s. added s (there device).other) (earlier.gained device unknown)
-          ∙ ap (added (way.sums_before device)) ((there device).alike refl refl unknown)
-          ∙ sym (way.go device).adds;
-    }
-same_way laws profile setups loss (piece ∷ pieces) states sums way name =
-    let earlier = same_way laws profile setups loss pieces states sums way name in
-    record {
-      more = earlier.more;
-      same = earlier.same;
-      alike = earlier.alike;
-      gained = earlier.gained;
-    }
+        alike = (refl, refl, earlier.alike);
+        gained = λ device unknown.
+            ap (λ s. added s (there device).other) (earlier.gained device unknown)
+            ∙ ap (added (way.sums_before device)) ((there device).alike refl refl unknown)
+            ∙ sym (way.go device).adds;
+      }
+  same_way loss (piece ∷ pieces) states sums way name = same_way loss pieces states sums way name
 
--- each run from power-on is one in mid-session
-pub run_joined : EndLaws → ((profile : Profile) (setups : Setups) (without : DeviceSet)
-    (pieces : List Piece) (rows : List Event)
-    → MayBeReadAlone (from_power_on profile without) setups [] rows
-    → IsActList (from_power_on profile without) pieces rows
-    → IsActList (joined_by profile setups without) pieces rows)
-    → (profile : Profile) (setups : Setups) (without : DeviceSet) (rows : List Event)
-    (sums : AllSums) (run : Run (from_power_on profile without) rows sums)
-    → MayBeReadAlone (from_power_on profile without) setups [] rows → (more : AllSums)
-    × IsActList (joined_by profile setups without) run.pieces rows
-    × (way : IsWay (Joined setups profile) run.loss run.pieces run.states more)
-    × AreAlike (PowerOn profile) (Joined setups profile) run.loss run.pieces run.states run.states
-    sums more run.way way
-    × ((device : Device) → IsNotKnown (Joined setups profile) device → more device ≡ sums device)
-run_joined laws lists profile setups without rows sums run may =
-    let name = all_name laws (from_power_on profile without) run.pieces run.act_list.in_order in
-    let there =
-    same_way laws profile setups run.loss run.pieces run.states sums run.way name in (
-      there.more,
-      lists profile setups without run.pieces rows may run.act_list,
-      there.same,
-      there.alike,
-      there.gained,
-    )
+  -- each run from power-on is one in mid-session
+  pub run_joined : ((without : DeviceSet) (pieces : List Piece) (rows : List Event)
+      → MayBeReadAlone (from_power_on profile without) setups [] rows
+      → IsActList (from_power_on profile without) pieces rows
+      → IsActList (joined_by profile setups without) pieces rows)
+      → (without : DeviceSet) (rows : List Event) (sums : AllSums)
+      (run : Run (from_power_on profile without) rows sums)
+      → MayBeReadAlone (from_power_on profile without) setups [] rows → (more : AllSums)
+      × IsActList (joined_by profile setups without) run.pieces rows
+      × (way : IsWay late run.loss run.pieces run.states more)
+      × AreAlike begins late run.loss run.pieces run.states run.states sums more run.way way
+      × ((device : Device) → IsNotKnown late device → more device ≡ sums device)
+  run_joined lists without rows sums run may =
+      let name = all_name laws (from_power_on profile without) run.pieces run.act_list.in_order in
+      let there = same_way run.loss run.pieces run.states sums run.way name in (
+        there.more,
+        lists without run.pieces rows may run.act_list,
+        there.same,
+        there.alike,
+        there.gained,
+      )

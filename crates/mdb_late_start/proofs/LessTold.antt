@@ -34,50 +34,33 @@ by_profile Extended = inr refl
 
 -- ---- what stays with each act is so in the end of pieces, where it is so in front of it
 
-abbrev pub StaysBy : Profile → (Levels → Levels → Type 0) → Type 0
+abbrev StaysBy : Profile → (Levels → Levels → Type 0) → Type 0
 StaysBy profile Less =
     (act : Act) (one other : Levels) → Less one other
     → Less (levels_by profile act one) (levels_by profile act other)
 
-pub less_later : (profile : Profile) (Less : Levels → Levels → Type 0) → StaysBy profile Less
-    → (less more : Levels) (later : List Piece) (words : List Event) (before : List Piece)
-    → Less less (levels_of profile more before)
-    → Less (levels_of profile less (later ++ with_foreign words []))
-    (levels_of profile more (later ++ before))
-less_later profile Less stays less more [] words before told =
-    subst (λ (levels : Levels). Less levels (levels_of profile more before))
-    (sym (foreign_levels profile less words [])) told
-less_later profile Less stays less more (Whole act events ∷ later) words before told =
-    stays act (levels_of profile less (later ++ with_foreign words []))
-    (levels_of profile more (later ++ before))
-    (less_later profile Less stays less more later words before told)
-less_later profile Less stays less more (piece ∷ later) words before told =
-    less_later profile Less stays less more later words before told
+module _ (profile : Profile) (Less : Levels → Levels → Type 0) (stays : StaysBy profile Less)
+    (less more : Levels) where
+  less_later : (later : List Piece) (words : List Event) (before : List Piece)
+      → Less less (levels_of profile more before)
+      → Less (levels_of profile less (later ++ with_foreign words []))
+      (levels_of profile more (later ++ before))
+  less_later [] words before told = rw (foreign_levels profile less words []) told
+  less_later (Whole act events ∷ later) words before told =
+      stays act (levels_of profile less (later ++ with_foreign words []))
+      (levels_of profile more (later ++ before)) (less_later later words before told)
+  less_later (piece ∷ later) words before told = less_later later words before told
 
--- ---- levels that the controller told
-
--- less told stays so with a command
-told_after : (asked : Command) (one other : Levels) → IsLessTold one other
-    → IsLessTold (levels_after asked one) (levels_after asked other)
-told_after (commands.Reader First (readers.SetupConfig level columns rows display)) one other less =
-    (refl, less.1)
-told_after (commands.Reader Second (readers.SetupConfig level columns rows display)) one other
-    less = (less.0, refl)
-told_after asked one other less = less
-
--- with what a reader tells of its own level
-told_with : (profile : Profile) (command : Command) (reply : Reply) (one other : Levels)
-    → IsLessTold one other
-    → IsLessTold (levels_told profile command reply one) (levels_told profile command reply other)
-told_with Extended (commands.Reader First command) (replies.Reader list) one other less = less
-told_with Extended (commands.Reader Second command) (replies.Reader list) one other less = less
-told_with profile command reply one other less = less
-
--- and so with an act
+-- less told by the controller stays so with an act
 told_by : (profile : Profile) → StaysBy profile IsLessTold
-told_by profile (acts.Ask command) one other less = told_after command one other less
-told_by profile (acts.Reply command reply) one other less =
-    told_with profile command reply one other less
+told_by profile (acts.Ask (commands.Reader First (readers.SetupConfig level columns rows display)))
+    one other less = (refl, less.1)
+told_by profile (acts.Ask (commands.Reader Second (readers.SetupConfig level columns rows display)))
+    one other less = (less.0, refl)
+told_by Extended (acts.Reply (commands.Reader First command) (replies.Reader list)) one other less =
+    less
+told_by Extended (acts.Reply (commands.Reader Second command) (replies.Reader list)) one other
+    less = less
 told_by profile act one other less = less
 
 -- so it is in the end of pieces, where it is so in front of the end
@@ -87,10 +70,12 @@ pub less_told : (profile : Profile) (less more : Levels) (later : List Piece) (w
     (levels_of profile more (later ++ before))
 less_told profile = less_later profile IsLessTold (told_by profile)
 
+-- ---- by the base profile
+
 -- a level that is none or the same is low if it was
 is_low : (one other : Option ℕ) → IsNothingOr one other → IsLow other → IsLow one
 is_low None other less low = tt
-is_low (Some level) other less low = subst IsLow less low
+is_low (Some level) other less low = rw less at low
 
 -- and so is that of a command's reader
 low_for : (command : Command) (one other : Levels) → IsLessTold one other
@@ -101,39 +86,24 @@ low_for (commands.Reader Second command) one other less low =
     is_low one.second.asked other.second.asked less.1 low
 low_for command one other less low = low
 
--- so by the base profile a reply fits as it did
-reply_fits : (begins : Beginning) (setups : Setups) → profile_of begins ≡ Base
-    → (command : Command) (reply : Reply) (one other : Levels) → IsLessTold one other
-    → ReplyFits begins other command reply
-    → ReplyFits (Joined setups (profile_of begins)) one command reply
-reply_fits (PowerOn Base) setups base command reply one other less fits =
-    (fits.0, λ high. low_for command one other less (fits.1 high))
-reply_fits (Joined known Base) setups base command reply one other less fits =
-    (fits.0, λ high. low_for command one other less (fits.1 high))
-reply_fits (PowerOn Extended) setups base command reply one other less fits = absurd (cc base)
-reply_fits (Joined known Extended) setups base command reply one other less fits =
-    absurd (cc base)
-
--- and what a piece says of levels does in mid-session
+-- so what a piece says of levels fits as it did, in mid-session
 pub levels_fit : (begins : Beginning) (setups : Setups) → profile_of begins ≡ Base
     → (piece : Piece) (one other : Levels) → IsLessTold one other → PieceFits begins other piece
     → PieceFits (Joined setups (profile_of begins)) one piece
 levels_fit begins setups base (Whole (acts.Reply command reply) events) one other less fits =
-    reply_fits begins setups base command reply one other less fits
+    let its = rw base at fits in
+    rw base (its.0, λ high. low_for command one other less (its.1 high))
 levels_fit begins setups base piece one other less fits = fits
 
--- by the base profile the levels that are known as an end begins are those that are told of it
+-- the levels that are known as an end begins are those that are told of it
 pub as_told : (setups : Setups) (profile : Profile) → profile ≡ Base → (levels : Levels)
     → first_levels (Joined setups profile) levels ≡ levels
-as_told setups Base base levels = refl
-as_told setups Extended base levels = absurd (cc base)
+as_told setups profile base levels = rw base
 
 -- so less is told as an end begins, where less is told of it
 pub less_before : (setups : Setups) (profile : Profile) → profile ≡ Base → (less more : Levels)
     → IsLessTold less more → IsLessTold (first_levels (Joined setups profile) less) more
-less_before setups profile base less more told =
-    subst (λ (levels : Levels). IsLessTold levels more)
-    (sym (as_told setups profile base less)) told
+less_before setups profile base less more told = rw (as_told setups profile base less) told
 
 -- ---- levels that both told
 
@@ -143,50 +113,32 @@ or_less : (now one other : Option ℕ) → IsNothingOr one other
 or_less None one other less = less
 or_less (Some level) one other less = refl
 
--- less known stays so with a command
-known_after : (asked : Command) (one other : Levels) → IsLessKnown one other
-    → IsLessKnown (levels_after asked one) (levels_after asked other)
-known_after (commands.Reader First (readers.SetupConfig level columns rows display)) one other
-    less = record {
-      first = record { asked = refl; told = less.first.told };
-      second = less.second;
-    }
-known_after (commands.Reader Second (readers.SetupConfig level columns rows display)) one other
-    less = record {
-      first = less.first;
-      second = record { asked = refl; told = less.second.told };
-    }
-known_after asked one other less = less
+-- less known of the readers' own levels
+abbrev IsLessSaid : Levels → Levels → Type 0
+IsLessSaid one other = IsNothingOr one.first.told other.first.told
+    × IsNothingOr one.second.told other.second.told
 
--- with what a reader tells of its own level
-known_with : (profile : Profile) (command : Command) (reply : Reply) (one other : Levels)
-    → IsLessKnown one other
-    → IsLessKnown (levels_told profile command reply one) (levels_told profile command reply other)
-known_with Extended (commands.Reader First command) (replies.Reader list) one other less =
-    record {
-      first = record {
-        asked = less.first.asked;
-        told = or_less (last_level list.messages) one.first.told other.first.told less.first.told;
-      };
-      second = less.second;
-    }
-known_with Extended (commands.Reader Second command) (replies.Reader list) one other less =
-    record {
-      first = less.first;
-      second = record {
-        asked = less.second.asked;
-        told = or_less (last_level list.messages) one.second.told other.second.told
-            less.second.told;
-      };
-    }
-known_with profile command reply one other less = less
+-- stays so with an act
+said_by : (profile : Profile) → StaysBy profile IsLessSaid
+said_by profile (acts.Ask (commands.Reader First (readers.SetupConfig level columns rows display)))
+    one other less = less
+said_by profile (acts.Ask (commands.Reader Second (readers.SetupConfig level columns rows display)))
+    one other less = less
+said_by Extended (acts.Reply (commands.Reader First command) (replies.Reader list)) one other less =
+    (or_less (last_level list.messages) one.first.told other.first.told less.0, less.1)
+said_by Extended (acts.Reply (commands.Reader Second command) (replies.Reader list)) one other
+    less = (less.0, or_less (last_level list.messages) one.second.told other.second.told less.1)
+said_by profile act one other less = less
 
--- and with an act
+-- and so does less known of both
 known_by : (profile : Profile) → StaysBy profile IsLessKnown
-known_by profile (acts.Ask command) one other less = known_after command one other less
-known_by profile (acts.Reply command reply) one other less =
-    known_with profile command reply one other less
-known_by profile act one other less = less
+known_by profile act one other less =
+    let asked = told_by profile act one other (less.first.asked, less.second.asked) in
+    let said = said_by profile act one other (less.first.told, less.second.told) in
+    record {
+      first = record { asked = asked.0; told = said.0 };
+      second = record { asked = asked.1; told = said.1 };
+    }
 
 pub less_known : (profile : Profile) (less more : Levels) (later : List Piece) (words : List Event)
     (before : List Piece) → IsLessKnown less (levels_of profile more before)

@@ -3,9 +3,7 @@ pub mod Changer
 pub mod Covering
 pub mod CutWords
 pub mod Cutting
-pub mod EachStays
 pub mod EndRuns
-pub mod EndSums
 pub mod EndVerdicts
 pub mod ExtendedSales
 pub mod ExtendedSteps

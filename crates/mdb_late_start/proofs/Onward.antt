@@ -80,20 +80,20 @@ each_goes_on begins loss before (Whole act events ∷ later) from sums_from stat
       gains = (way.go device).gains;
       way = each_goes_on begins loss before later from sums_from way.before way.sums_before way.way
           device;
-      step = subst (λ l. (machine_of begins device).Step l act way.choice (way.before device)
-          (states device) (way.go device).gains) (acts_in_two later before) (way.go device).step;
+      step = rw (acts_in_two later before) at (way.go device).step;
       adds = (way.go device).adds;
     }
 each_goes_on begins loss before (piece ∷ later) from sums_from states sums way device =
     each_goes_on begins loss before later from sums_from states sums way device
 
 -- a way of all, in two parts
-pub record AllInTwo (begins : Beginning) (loss : Loss) (later before : List Piece)
-    (states : States) (sums : AllSums) : Type 0 where
-  pub from : States
-  pub sums_from : AllSums
-  pub way : IsWay begins loss before from sums_from
-  pub onward : RunGoesOnThrough begins loss before later from sums_from states sums
+abbrev pub AllInTwo : Beginning → Loss → List Piece → List Piece → States → AllSums → Type 0
+AllInTwo begins loss later before states sums = record {
+  from : States;
+  sums_from : AllSums;
+  way : IsWay begins loss before from sums_from;
+  onward : RunGoesOnThrough begins loss before later from sums_from states sums;
+}
 
 pub all_in_two : (begins : Beginning) (loss : Loss) (later before : List Piece) (states : States)
     (sums : AllSums) → IsWay begins loss (later ++ before) states sums
@@ -121,10 +121,4 @@ all_in_two begins loss (Whole act events ∷ later) before states sums way =
       };
     }
 all_in_two begins loss (piece ∷ later) before states sums way =
-    let earlier = all_in_two begins loss later before states sums way in
-    record {
-      from = earlier.from;
-      sums_from = earlier.sums_from;
-      way = earlier.way;
-      onward = earlier.onward;
-    }
+    all_in_two begins loss later before states sums way

@@ -34,9 +34,10 @@ use Rattle.mdb_late_start.specs.Alone.{IsLessKnown, TellsLevelsOfFront}
 use Rattle.mdb_late_start.specs.Cuts.{SplitsAt, joined_with}
 use Rattle.mdb_late_start.proofs.Cutting.{AllFitAlone, ComesAlone, Cutting, alone, anew_still, splits}
 use Rattle.mdb_late_start.proofs.LessTold.{by_profile}
-use Rattle.mdb_late_start.proofs.OpenEnds.{LinkLaws, Tail, fit_by_base, format_alone, known_in_reply, reply_fits_there, reply_tail}
+use Rattle.mdb_late_start.proofs.OpenEnds.{LinkLaws, Tail, fit_by_base, format_alone, known_in_reply, reply_fits_there, reply_tail, IsLess, may_reply, some_events}
 use Rattle.mdb_bus.proofs.Lists.{front_and_last, last_push}
 use Rattle.mdb_bus.specs.ExtendedHaste.{counted_in, haste_of}
+use Rattle.mdb_bus.specs.declared.scope.Profile.{Profile}
 
 -- what mdb_bus says of faults
 pub record FaultLaws : Type 0 where
@@ -45,81 +46,19 @@ pub record FaultLaws : Type 0 where
       → ArePieces scope pieces → RowBreaks (situation_of scope pieces) row broken
       → HasActList scope (events_of pieces ++ row ∷ []) → ⊥
 
--- ---- the faults of a reply that was read with more known
-
--- one that isn't left out is a fault there too
-fault_as : OpenLeavesOut → (untold : Format) → IsExtended untold → (command : Command)
-    (less more : Levels) → IsLessKnown less more → (reply : Reply) (fault : MsgFault)
-    → fault ≢ Left → IsReplyTo command reply
-    → IsReadAs (format_by Extended untold more command) command reply
-    → HasFault (format_by Extended Open less command) command (reply_bytes reply) fault
-    → HasFault (format_by Extended untold more command) command (reply_bytes reply) fault
-fault_as leaves untold extended command less more known reply fault other answers is bad =
-    let Bad : Format → Type 0 = λ format. HasFault format command (reply_bytes reply) fault in
-    elim (format_alone untold extended command less more known) [
-      | inl is_open ↦ absurd (other (leaves (format_by Extended untold more command) command reply
-          fault is_open.1 is answers (subst Bad is_open.0 bad)))
-      | inr (inl alike) ↦ subst Bad alike bad
-      | inr (inr two) ↦
-          let both : HasFault (Or two.0 two.1) command (reply_bytes reply) fault =
-          subst Bad two.2 bad in
-          subst Bad (sym two.3) (both.0, fault, both.0)
-    ]
-
-fault_there : OpenLeavesOut → (begins : Beginning) (setups : Setups)
-    → profile_of begins ≡ Extended → (command : Command) (less more : Levels)
-    → IsLessKnown less more → (reply : Reply) (fault : MsgFault) → fault ≢ Left
-    → IsReplyTo command reply → ReplyFits begins more command reply
-    → HasFault (format_for (Joined setups (profile_of begins)) less command) command
-    (reply_bytes reply) fault
-    → HasFault (format_for begins more command) command (reply_bytes reply) fault
-fault_there leaves (PowerOn Extended) setups extended command less more known reply fault other
-    answers fits bad =
-    fault_as leaves (Or (short Full) (long Full)) (refl, refl) command less more known reply fault
-    other answers fits.0 bad
-fault_there leaves (Joined told Extended) setups extended command less more known reply fault other
-    answers fits bad =
-    fault_as leaves Open tt command less more known reply fault other answers fits.0 bad
-fault_there leaves (PowerOn Base) setups extended command less more known reply fault other answers
-    fits bad = absurd (cc extended)
-fault_there leaves (Joined told Base) setups extended command less more known reply fault other
-    answers fits bad = absurd (cc extended)
-
-answer_there : OpenLeavesOut → (begins : Beginning) (setups : Setups)
-    → profile_of begins ≡ Extended → (command : Command) (less more : Levels)
-    → IsLessKnown less more → (reply : Reply) → IsReplyTo command reply
-    → ReplyFits begins more command reply → (row : Event)
-    → WrongAnswer (Joined setups (profile_of begins)) less (InReply command (reply_bytes reply)) row
-    → WrongAnswer begins more (InReply command (reply_bytes reply)) row
-answer_there leaves begins setups extended command less more known reply answers fits
-    (Word at Peripheral word) bad = (
-      bad.0,
-      fault_there leaves begins setups extended command less more known reply Answer (λ is. cc is)
-          answers fits bad.1,
-    )
-answer_there leaves begins setups extended command less more known reply answers fits row bad =
-    bad
-
-message_there : OpenLeavesOut → (begins : Beginning) (setups : Setups)
-    → profile_of begins ≡ Extended → (command : Command) (less more : Levels)
-    → IsLessKnown less more → (reply : Reply) → IsReplyTo command reply
-    → ReplyFits begins more command reply → (row : Event)
-    → HasBadMessage (Joined setups (profile_of begins)) less (InReply command (reply_bytes reply))
-    row
-    → HasBadMessage begins more (InReply command (reply_bytes reply)) row
-message_there leaves begins setups extended command less more known reply answers fits
-    (Word at Peripheral word) bad = (
-      bad.0,
-      fault_there leaves begins setups extended command less more known reply Message (λ is. cc is)
-          answers fits bad.1,
-    )
-message_there leaves begins setups extended command less more known reply answers fits row bad =
-    bad
-
-sum_there : (one other : Scope) (command : Command) (bytes : List ℕ) (row : Event)
-    → WrongSum one (InReply command bytes) row → WrongSum other (InReply command bytes) row
-sum_there one other command bytes (Word at Peripheral word) bad = bad
-sum_there one other command bytes row bad = bad
+-- a fault of a reply that was read with more known is one there too, but that it is left out
+fault_as : OpenLeavesOut → (less more : Format) → IsLess less more → (command : Command)
+    (reply : Reply) (fault : MsgFault) → fault ≢ Left → IsReplyTo command reply
+    → IsReadAs more command reply → HasFault less command (reply_bytes reply) fault
+    → HasFault more command (reply_bytes reply) fault
+fault_as leaves less more known command reply fault other answers is bad = elim known [
+  | inl is_open ↦ absurd (other (leaves more command reply fault is_open.1 is answers
+      (rw is_open.0 at bad)))
+  | inr (inl alike) ↦ rw alike at bad
+  | inr (inr (first, second, two, one)) ↦
+      let both : HasFault (Or first second) command (reply_bytes reply) fault = rw two at bad in
+      rw one (both.0, fault, both.0)
+]
 
 -- the last row is that of events which aren't none
 last_alike : (one other events : List Event) → events ≢ []
@@ -132,247 +71,188 @@ last_alike one other events some =
     ∙ last_push (before ++ split.0) split.1 in
     ends one ∙ sym (ends other)
 
--- so a row that breaks a rule but Profile, where it ends the bytes of the reply, breaks it there
-breaks_there : FaultLaws → (scope : Scope) (setups : Setups) → profile_of scope.begins ≡ Extended
-    → (here there : List Piece) (command : Command) (reply : Reply) (front : List Event)
-    (row : Event) → front ≢ [] → IsReplyTo command reply
-    → IsLessKnown
-    (levels_of (profile_of scope.begins) (levels_before (joined_with setups scope)) here)
-    (levels_of (profile_of scope.begins) (levels_before scope) there)
-    → ReplyFits scope.begins
-    (levels_of (profile_of scope.begins) (levels_before scope) there) command reply
-    → (broken : Rule) → broken ≢ rule.Profile
-    → RowBreaks
-    (situation_of (joined_with setups scope) (ReplyTail command (reply_bytes reply) front ∷ here))
-    row broken
-    → RowBreaks (situation_of scope (ReplyTail command (reply_bytes reply) front ∷ there)) row
-    broken
-breaks_there laws scope setups extended here there command reply front row some answers known fits
-    broken other =
-    by_rule broken other
-  where
-    bytes : List ℕ
-    bytes = reply_bytes reply
-
-    last : last_of (events_of here ++ front) ≡ last_of (events_of there ++ front)
-    last = last_alike (events_of here) (events_of there) front some
-
-    less : Levels
-    less = levels_of (profile_of scope.begins) (levels_before (joined_with setups scope)) here
-
-    more : Levels
-    more = levels_of (profile_of scope.begins) (levels_before scope) there
-
-    by_rule : (broken : Rule) → broken ≢ rule.Profile
-        → RowBreaks
-        (situation_of (joined_with setups scope)
-        (ReplyTail command (reply_bytes reply) front ∷ here)) row broken
-        → RowBreaks (situation_of scope (ReplyTail command (reply_bytes reply) front ∷ there)) row
-        broken
-    by_rule rule.Order other breaks = subst (λ from. OutOfOrder from row) last breaks
-    by_rule rule.Speaker other breaks =
-        subst (λ from. WrongSpeaker (InReply command bytes) from row) last breaks
-    by_rule rule.Early other breaks =
-        subst (λ from. TooEarly (profile_of scope.begins) (InReply command bytes) from row) last
-        breaks
-    by_rule rule.Late other breaks =
-        subst (λ from. TooLate (profile_of scope.begins) (InReply command bytes) from row) last
-        breaks
-    by_rule rule.Spacing other breaks =
-        subst (λ from. TooFarApart (profile_of scope.begins) (InReply command bytes) from row) last
-        breaks
-    by_rule rule.Sum other breaks =
-        sum_there (joined_with setups scope) scope command bytes row breaks
-    by_rule rule.Answer other breaks =
-        answer_there laws.left_out scope.begins setups extended command less more known reply
-        answers fits row breaks
-    by_rule rule.Message other breaks =
-        message_there laws.left_out scope.begins setups extended command less more known reply
-        answers fits row breaks
-    by_rule rule.Profile other breaks = absurd (other refl)
-    by_rule broken other breaks = breaks
-
--- ---- the end of rows and one more
-
--- no reply ends with a row that breaks another rule than Profile
-no_reply_ends : LinkLaws → FaultLaws → (scope : Scope) (setups : Setups)
-    → profile_of scope.begins ≡ Extended → (front rows : List Event) (row : Event)
-    → TellsLevelsOfFront scope setups front (rows ++ row ∷ []) → (here : List Piece)
-    → IsActList (joined_with setups scope) here rows → (broken : Rule) → broken ≢ rule.Profile
-    → RowBreaks (situation_of (joined_with setups scope) here) row broken
-    → (middle : List Event) (command : Command) (reply : Reply) (begun : List Event) (last : Event)
-    (pieces : List Piece) → rows ++ row ∷ [] ≡ middle ++ (begun ++ last ∷ [])
-    → (cut : Cutting scope setups front middle pieces)
-    → (are : ArePieces scope (Whole (acts.Reply command reply) (begun ++ last ∷ []) ∷ pieces))
-    → ComesAlone scope setups (alone cut.later cut.words)
-    (Whole (acts.Reply command reply) (begun ++ last ∷ [])) are.1.first → ⊥
-no_reply_ends laws faults scope setups extended front rows row knows here list broken other breaks
-    middle command reply begun last pieces all cut are comes =
-    let new = joined_with setups scope in
-    let stands = are.1 in
-    let mine : List Piece = alone cut.later cut.words in
-    let same = same_from_push rows (middle ++ begun) row last
-    (all ∙ sym (append_assoc middle begun (last ∷ []))) in
-    let a : Tail new mine command reply begun last =
-    reply_tail new mine cut.stand command reply begun last stands.first stands.others
-    stands.begins are.0.said.0 are.0.said.1 are.0.spaced comes in
-    let b : Tail scope pieces command reply begun last =
-    reply_tail scope pieces are.2 command reply begun last stands.first stands.others
-    stands.begins are.0.said.0 are.0.said.1 are.0.spaced stands.comes in
-    let tail : List Piece = ReplyTail command (reply_bytes reply) begun ∷ mine in
-    let there : List Piece = ReplyTail command (reply_bytes reply) begun ∷ pieces in
-    let mine_list : IsActList new tail rows =
-    record { in_order = a.are; whole = ap (λ es. es ++ begun) cut.whole ∙ sym same.0 } in
-    let is : here ≡ tail = laws.one new rows here tail list mine_list in
-    let Breaks : List Piece → Type 0 = λ ps. RowBreaks (situation_of new ps) row broken in
-    let known = known_in_reply scope setups front (rows ++ row ∷ []) knows middle
-    (begun ++ last ∷ []) command pieces all cut comes.0 in
-    let broken_there = breaks_there faults scope setups extended mine pieces command reply begun row
-    a.some are.0.said.0.answers known stands.levels broken other (subst Breaks is breaks) in
-    let Has : Event → Type 0 =
-    λ r. HasActList scope (events_of there ++ r ∷ []) in
-    let whole : List Piece = Whole (acts.Reply command reply) (begun ++ last ∷ []) ∷ pieces in
-    let has : HasActList scope (events_of there ++ last ∷ []) = (
-      whole,
-      record {
-        in_order = are;
-        whole = sym (append_assoc (events_of pieces) begun (last ∷ []));
-      },
-    ) in
-    faults.breaks scope there row broken b.are broken_there (subst Has (sym same.1) has)
-
 -- the last element of a list that isn't empty is that of one with others before it
 ends_so : (rows all more : List Event) (row : Event) → more ≢ []
-    → rows ++ row ∷ [] ≡ all ++ more
-    → (rest : List Event) × (rows ≡ all ++ rest)
+    → rows ++ row ∷ [] ≡ all ++ more → (rest : List Event) × (rows ≡ all ++ rest)
 ends_so rows all more row some is =
     let split = front_and_last more some in
     let joined : rows ++ row ∷ [] ≡ (all ++ split.0) ++ split.1 ∷ [] =
     is ∙ ap (λ es. all ++ es) split.2 ∙ sym (append_assoc all split.0 (split.1 ∷ [])) in
     (split.0, (same_from_push rows (all ++ split.0) row split.1 joined).0)
 
--- all pieces fit in rows and one more that breaks another rule
-fit_but : LinkLaws → FaultLaws → (scope : Scope) (setups : Setups)
-    → profile_of scope.begins ≡ Extended → (front rows : List Event) (row : Event)
-    → TellsLevelsOfFront scope setups front (rows ++ row ∷ []) → (here : List Piece)
-    → IsActList (joined_with setups scope) here rows → (broken : Rule) → broken ≢ rule.Profile
-    → RowBreaks (situation_of (joined_with setups scope) here) row broken
-    → AllFitAlone scope setups front (rows ++ row ∷ [])
-fit_but laws faults scope setups extended front rows row knows here list broken other breaks middle
-    (next ∷ more) (Whole (acts.Reply command reply) events) pieces all cut are comes =
-    let new = joined_with setups scope in
-    let rest = ends_so rows (middle ++ events) (next ∷ more) row (λ none. cc none) all in
-    reply_fits_there laws scope setups front (rows ++ row ∷ []) extended knows middle (next ∷ more)
-    command reply events pieces all cut are comes
-    (laws.fronts new (middle ++ events) rest.0
-    (subst (HasActList new) rest.1 (here, list)))
-fit_but laws faults scope setups extended front rows row knows here list broken other breaks middle
-    [] (Whole (acts.Reply command reply) events) pieces all cut are comes =
-    let split = front_and_last events
-    (λ none. let clash : are.1.first ∷ are.1.others ≡ [] = sym are.1.begins ∙ none in cc clash) in
-    let whole : rows ++ row ∷ [] ≡ middle ++ events = all ∙ append-nil (middle ++ events) in
-    absurd (last_one events split.0 split.1 split.2 whole are comes)
-  where
-    last_one : (events begun : List Event) (last : Event) → events ≡ begun ++ last ∷ []
-        → rows ++ row ∷ [] ≡ middle ++ events
-        → (are : ArePieces scope (Whole (acts.Reply command reply) events ∷ pieces))
-        → ComesAlone scope setups (alone cut.later cut.words)
-        (Whole (acts.Reply command reply) events) are.1.first → ⊥
-    last_one events begun last is =
-        let P : List Event → Type 0 =
-        λ es. rows ++ row ∷ [] ≡ middle ++ es
-        → (are : ArePieces scope (Whole (acts.Reply command reply) es ∷ pieces))
-        → ComesAlone scope setups (alone cut.later cut.words)
-        (Whole (acts.Reply command reply) es) are.1.first → ⊥ in
-        subst P (sym is)
-        (λ whole are comes. no_reply_ends laws faults scope setups extended front rows row knows
-        here list broken other breaks middle command reply begun last pieces whole cut are comes)
-fit_but laws faults scope setups extended front rows row knows here list broken other breaks middle
-    more piece pieces all cut are comes = are.1.levels
-
 -- a rule is Profile, or another
 is_profile : (broken : Rule) → (broken ≡ rule.Profile) ⊎ (broken ≢ rule.Profile)
 is_profile rule.Profile = inl refl
 is_profile broken = inr (λ is. cc is)
 
--- so the first rule that is broken in an end is Profile
-only_left_out : LinkLaws → FaultLaws → (scope : Scope) (setups : Setups)
-    (front rows : List Event) (row : Event) → HasActList scope (front ++ (rows ++ row ∷ []))
-    → TellsLevelsOfFront scope setups front (rows ++ row ∷ []) → (here : List Piece)
-    → IsActList (joined_with setups scope) here rows → (broken : Rule)
-    → RowBreaks (situation_of (joined_with setups scope) here) row broken → broken ≡ rule.Profile
-only_left_out laws faults scope setups front rows row has knows here list broken breaks =
-    elim (is_profile broken) [
-      | inl is ↦ is
-      | inr other ↦ absurd (no_other other (by_profile (profile_of scope.begins)))
-    ]
-  where
-    new : Scope
-    new = joined_with setups scope
-
-    goes_on : SplitsAt scope setups front (rows ++ row ∷ []) has.0 → ⊥
-    goes_on it =
-        let Has : List Event → Type 0 = λ es. HasActList new (es ++ row ∷ []) in
-        faults.breaks new here row broken list.in_order breaks
-        (subst Has (sym list.whole) (_, it.act_list))
-
-    no_other : broken ≢ rule.Profile
-        → (profile_of scope.begins ≡ Base) ⊎ (profile_of scope.begins ≡ Extended) → ⊥
-    no_other other (inl base) =
-        goes_on (splits scope setups front (rows ++ row ∷ []) has.0
-        (fit_by_base scope setups front (rows ++ row ∷ []) base) has.1)
-    no_other other (inr extended) =
-        goes_on (splits scope setups front (rows ++ row ∷ []) has.0
-        (fit_but laws faults scope setups extended front rows row knows here list broken other
-        breaks) has.1)
-
--- what is told of the front counts for the first rows of an end
-pub first_rows : (scope : Scope) (setups : Setups) (front end more : List Event)
-    → TellsLevelsOfFront scope setups front (end ++ more)
-    → TellsLevelsOfFront scope setups front end
-first_rows scope setups front end more tells words rest before parts foreign anew list =
-    tells words (rest ++ more) before
-    (ap (λ rows. rows ++ more) parts ∙ append_assoc words rest more) foreign
-    (anew_still rest more anew) list
-
 -- haste excuses nothing that isn't followed
 still_left_out : (haste : Bool) (row : Event) (blamed : Blame)
     → (counted_in haste row (record { rule = rule.Profile; blame = blamed })).rule ≡ rule.Profile
-still_left_out false row blamed = refl
 still_left_out true (Word at Peripheral word) blamed = refl
 still_left_out true row blamed = refl
+still_left_out false row blamed = refl
 
--- and so is the rule of its fault
-fault_left_out : LinkLaws → FaultLaws → (scope : Scope) (setups : Setups)
-    (front rows : List Event) (row : Event) (here : List Piece) (broken : Rule) (blamed : Blame)
-    → HasActList scope (front ++ (rows ++ row ∷ []))
-    → TellsLevelsOfFront scope setups front (rows ++ row ∷ [])
-    → IsActList (joined_with setups scope) here rows
-    → IsLinkFault (joined_with setups scope) here row broken blamed → broken ≡ rule.Profile
-fault_left_out laws faults scope setups front rows row here broken blamed has knows list fault =
-    let new = joined_with setups scope in
-    let first : fault.first ≡ rule.Profile =
-    only_left_out laws faults scope setups front rows row has knows here list fault.first
-    fault.rule.breaks in
-    fault.counts ∙ (ap (λ r. (fault_of new here row r).rule) first
-    ∙ still_left_out (haste_of new here) row
-    (blame_of (position_of new here) (asked_device here) row rule.Profile))
+module _ (scope : Scope) (setups : Setups) where
+  -- the recording that begins with the end
+  abbrev new : Scope
+  new = joined_with setups scope
 
--- so it is of rows that go on
-pub left_out_alone : LinkLaws → FaultLaws → (scope : Scope) (setups : Setups)
-    (front rows more : List Event) (row : Event) (pieces : List Piece) (broken : Rule)
-    (blamed : Blame) → HasActList scope (front ++ (rows ++ row ∷ more))
-    → TellsLevelsOfFront scope setups front (rows ++ row ∷ more)
-    → IsActList (joined_with setups scope) pieces rows
-    → IsLinkFault (joined_with setups scope) pieces row broken blamed → broken ≡ rule.Profile
-left_out_alone laws faults scope setups front rows more row pieces broken blamed has tells list =
-    let now : List Event = rows ++ row ∷ [] in
-    let all : rows ++ row ∷ more ≡ now ++ more = sym (append_assoc rows (row ∷ []) more) in
-    let whole : front ++ (rows ++ row ∷ more) ≡ (front ++ now) ++ more =
-    ap (λ es. front ++ es) all ∙ sym (append_assoc front now more) in
-    let Tells : List Event → Type 0 = λ es. TellsLevelsOfFront scope setups front es in
-    let known : TellsLevelsOfFront scope setups front now =
-    first_rows scope setups front now more (subst Tells all tells) in
-    fault_left_out laws faults scope setups front rows row pieces broken blamed
-    (laws.fronts scope (front ++ now) more (subst (HasActList scope) whole has))
-    known list
+  abbrev profile : Profile
+  profile = profile_of scope.begins
+
+  -- what is told of the front counts for the first rows of an end
+  pub first_rows : (front end more : List Event)
+      → TellsLevelsOfFront scope setups front (end ++ more)
+      → TellsLevelsOfFront scope setups front end
+  first_rows front end more tells words rest before parts foreign anew list =
+      tells words (rest ++ more) before
+      (ap (λ rows. rows ++ more) parts ∙ append_assoc words rest more) foreign
+      (anew_still rest more anew) list
+
+  module _ (laws : LinkLaws) (faults : FaultLaws) where
+    -- a row that breaks a rule but Profile, where it ends the bytes of a reply, breaks it there
+    breaks_there : profile ≡ Extended → (here there : List Piece) (command : Command)
+        (reply : Reply) (front : List Event) (row : Event) → front ≢ [] → IsReplyTo command reply
+        → IsLessKnown (levels_of profile (levels_before new) here)
+        (levels_of profile (levels_before scope) there)
+        → ReplyFits scope.begins (levels_of profile (levels_before scope) there) command reply
+        → (broken : Rule) → broken ≢ rule.Profile
+        → RowBreaks (situation_of new (ReplyTail command (reply_bytes reply) front ∷ here)) row
+        broken
+        → RowBreaks (situation_of scope (ReplyTail command (reply_bytes reply) front ∷ there)) row
+        broken
+    breaks_there extended here there command reply front row some answers known fits broken other
+        breaks =
+        by_rule broken row other (rw last at breaks)
+      where
+        bytes : List ℕ
+        bytes = reply_bytes reply
+
+        less : Levels
+        less = levels_of profile (levels_before new) here
+
+        more : Levels
+        more = levels_of profile (levels_before scope) there
+
+        last : last_of (events_of here ++ front) ≡ last_of (events_of there ++ front)
+        last = last_alike (events_of here) (events_of there) front some
+
+        fault_too : (fault : MsgFault) → fault ≢ Left
+            → HasFault (format_for new.begins less command) command bytes fault
+            → HasFault (format_for scope.begins more command) command bytes fault
+        fault_too fault not_left bad = fault_as faults.left_out (format_for new.begins less command)
+            (format_for scope.begins more command)
+            (format_alone scope.begins setups extended command less more known) command reply fault
+            not_left answers fits.0 bad
+
+        by_rule : (broken : Rule) (row : Event) → broken ≢ rule.Profile
+            → RowBreaks (record (situation_of new (ReplyTail command bytes front ∷ here)) {
+              last = last_of (events_of there ++ front);
+            }) row broken
+            → RowBreaks (situation_of scope (ReplyTail command bytes front ∷ there)) row broken
+        by_rule rule.Sum (Word at Peripheral word) other breaks = breaks
+        by_rule rule.Sum row other breaks = absurd breaks
+        by_rule rule.Answer (Word at Peripheral word) other breaks =
+            (breaks.0, fault_too Answer (λ is. cc is) breaks.1)
+        by_rule rule.Message (Word at Peripheral word) other breaks =
+            (breaks.0, fault_too Message (λ is. cc is) breaks.1)
+        by_rule rule.Profile row other breaks = absurd (other refl)
+        by_rule broken row other breaks = breaks
+
+    -- rows and one more that breaks another rule than Profile
+    module _ (extended : profile ≡ Extended) (front rows : List Event) (row : Event)
+        (tells : TellsLevelsOfFront scope setups front (rows ++ row ∷ [])) (here : List Piece)
+        (list : IsActList new here rows) (broken : Rule) (other : broken ≢ rule.Profile)
+        (breaks : RowBreaks (situation_of new here) row broken) where
+      -- no reply ends with them
+      no_reply_ends : (middle : List Event) (command : Command) (reply : Reply)
+          (events : List Event) (pieces : List Piece) → rows ++ row ∷ [] ≡ middle ++ events
+          → (cut : Cutting scope setups front middle pieces)
+          → (are : ArePieces scope (Whole (acts.Reply command reply) events ∷ pieces))
+          → ComesAlone scope setups (alone cut.later cut.words)
+          (Whole (acts.Reply command reply) events) are.1.first → ⊥
+      no_reply_ends middle command reply events pieces all cut are comes =
+          let mine : List Piece = alone cut.later cut.words in
+          let may = may_reply scope pieces command reply events are in
+          let may_here = may (position_of new mine) (last_of (events_of mine)) comes in
+          let may_there = may (position_of scope pieces) (last_of (events_of pieces))
+          are.1.comes in
+          let split = front_and_last events (some_events may_there) in
+          let here_tail = reply_tail new mine cut.stand command reply split.0 split.1
+          (rw split.2 at may_here) in
+          let there_tail = reply_tail scope pieces are.2 command reply split.0 split.1
+          (rw split.2 at may_there) in
+          let same = same_from_push rows (middle ++ split.0) row split.1
+          (all ∙ ap (λ es. middle ++ es) split.2
+          ∙ sym (append_assoc middle split.0 (split.1 ∷ []))) in
+          let tail : List Piece = ReplyTail command (reply_bytes reply) split.0 ∷ mine in
+          let there : List Piece = ReplyTail command (reply_bytes reply) split.0 ∷ pieces in
+          let is : here ≡ tail = laws.one new rows here tail list (record {
+            in_order = here_tail.are;
+            whole = ap (λ es. es ++ split.0) cut.whole ∙ sym same.0;
+          }) in
+          let breaks_it = breaks_there extended mine pieces command reply split.0 row here_tail.some
+          are.0.said.0.answers (known_in_reply scope setups front (rows ++ row ∷ []) tells
+          middle command pieces cut events all comes.0) are.1.levels broken other
+          (subst (λ ps. RowBreaks (situation_of new ps) row broken) is breaks) in
+          let has : HasActList scope (events_of there ++ split.1 ∷ []) = (
+            Whole (acts.Reply command reply) events ∷ pieces,
+            record {
+              in_order = are;
+              whole = ap (λ es. events_of pieces ++ es) split.2
+                  ∙ sym (append_assoc (events_of pieces) split.0 (split.1 ∷ []));
+            },
+          ) in
+          faults.breaks scope there row broken there_tail.are breaks_it
+          (subst (λ r. HasActList scope (events_of there ++ r ∷ [])) (sym same.1) has)
+
+      -- so all pieces fit in them
+      fit_but : AllFitAlone scope setups front (rows ++ row ∷ [])
+      fit_but middle (next ∷ more) (Whole (acts.Reply command reply) events) pieces all cut are
+          comes =
+          let rest = ends_so rows (middle ++ events) (next ∷ more) row (λ none. cc none) all in
+          let its : HasActList new rows = (here, list) in
+          reply_fits_there scope setups front (rows ++ row ∷ []) tells middle command pieces cut
+          laws extended (next ∷ more) reply events all are comes
+          (laws.fronts new (middle ++ events) rest.0 (rw rest.1 at its))
+      fit_but middle [] (Whole (acts.Reply command reply) events) pieces all cut are comes =
+          absurd (no_reply_ends middle command reply events pieces
+          (all ∙ append-nil (middle ++ events)) cut are comes)
+      fit_but middle more piece pieces all cut are comes = are.1.levels
+
+    -- so the first rule that is broken in an end is Profile
+    only_left_out : (front rows : List Event) (row : Event)
+        → HasActList scope (front ++ (rows ++ row ∷ []))
+        → TellsLevelsOfFront scope setups front (rows ++ row ∷ []) → (here : List Piece)
+        → IsActList new here rows → (broken : Rule)
+        → RowBreaks (situation_of new here) row broken → broken ≡ rule.Profile
+    only_left_out front rows row has tells here list broken breaks = elim (is_profile broken) [
+      | inl is ↦ is
+      | inr other ↦ absurd (goes_on (splits scope setups front (rows ++ row ∷ []) has.0
+          (elim (by_profile profile) [
+            | inl base ↦ fit_by_base scope setups front (rows ++ row ∷ []) base
+            | inr extended ↦ fit_but extended front rows row tells here list broken other breaks
+          ]) has.1))
+    ]
+      where
+        goes_on : SplitsAt scope setups front (rows ++ row ∷ []) has.0 → ⊥
+        goes_on it = faults.breaks new here row broken list.in_order breaks
+            (rw list.whole (_, it.act_list))
+
+    -- and so is the rule of its fault, in rows that go on
+    pub left_out_alone : (front rows more : List Event) (row : Event) (pieces : List Piece)
+        (broken : Rule) (blamed : Blame) → HasActList scope (front ++ (rows ++ row ∷ more))
+        → TellsLevelsOfFront scope setups front (rows ++ row ∷ more) → IsActList new pieces rows
+        → IsLinkFault new pieces row broken blamed → broken ≡ rule.Profile
+    left_out_alone front rows more row pieces broken blamed has tells list fault =
+        let now : List Event = rows ++ row ∷ [] in
+        let all : rows ++ row ∷ more ≡ now ++ more = sym (append_assoc rows (row ∷ []) more) in
+        let whole : front ++ (rows ++ row ∷ more) ≡ (front ++ now) ++ more =
+        ap (λ es. front ++ es) all ∙ sym (append_assoc front now more) in
+        let first : fault.first ≡ rule.Profile = only_left_out front rows row
+        (laws.fronts scope (front ++ now) more (rw whole at has))
+        (first_rows front now more (rw all at tells)) pieces list fault.first
+        fault.rule.breaks in
+        fault.counts ∙ ap (λ r. (fault_of new pieces row r).rule) first
+        ∙ still_left_out (haste_of new pieces) row
+        (blame_of (position_of new pieces) (asked_device pieces) row rule.Profile)

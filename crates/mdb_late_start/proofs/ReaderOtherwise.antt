@@ -30,7 +30,7 @@ use Rattle.mdb_cashless.specs.ReaderView as reader_view
 use Rattle.mdb_cashless.specs.ReaderView.{heard}
 use Rattle.mdb_cashless.specs.Transactions.{amounts, ended_by, no_end}
 use Rattle.mdb_cashless.specs.Units.{own}
-use Rattle.mdb_late_start.proofs.Keepers.{AlsoSteps, as_same, by_own}
+use Rattle.mdb_late_start.proofs.Keepers.{AlsoSteps, as_it_is, as_same, by_own}
 use Rattle.mdb_late_start.proofs.ReaderPrices.{AreSaidPriced, IsPriced, IsSalePriced, Prices, approvals, config_with}
 
 -- ---- values that are the same
@@ -39,29 +39,25 @@ use Rattle.mdb_late_start.proofs.ReaderPrices.{AreSaidPriced, IsPriced, IsSalePr
 abbrev pub worth : Prices → ℕ
 worth prices = value prices.config prices.amount
 
--- a command that ends no sale adds nothing
-none_ended : (its : ReaderCommand) (n : ℕ) → asks_sale (Some its) ≡ false
-    → ended_by true its n ≡ no_end
-none_ended (reader.VendSuccess item) n none = absurd cc
-none_ended its n none = refl
-
 -- What a command adds is the same, where it ends no sale, or that has the same value.
 same_ended : (approved : Bool) (its : ReaderCommand) (one other : Prices)
     → IsSalePriced one other its
     → ended_by approved its (worth one) ≡ ended_by approved its (worth other)
 same_ended approved its one other (inr same) =
     ap (λ prices. ended_by approved its (worth prices)) same
+same_ended approved (reader.VendSuccess item) one other (inl none) = absurd cc
 same_ended false its one other (inl none) = refl
-same_ended true its one other (inl none) =
-    none_ended its (worth one) none ∙ sym (none_ended its (worth other) none)
+same_ended true its one other (inl none) = refl
 
 -- where there is a message 05, they are not none
 pub some_approved : (amount : ℕ) (said : List ReaderMsg)
     → approvals (messages.VendApproved amount ∷ said) ≡ 0 → ⊥
 some_approved amount said none =
-    let sum : approvals (messages.VendApproved amount ∷ said) ≡ 1 + approvals said =
-    sum_by-cons (λ message. one_if (is_approval message)) (messages.VendApproved amount) said in
-    omega (arith, none, sum)
+    omega (
+      arith,
+      none,
+      sum_by-cons (λ message. one_if (is_approval message)) (messages.VendApproved amount) said,
+    )
 
 -- where there is none, nothing is approved
 kept_none : (config : Option ReaderConfig) (said : List ReaderMsg) → approvals said ≡ 0
@@ -70,7 +66,7 @@ kept_none config [] none = refl
 kept_none config (messages.VendApproved amount ∷ said) none =
     absurd (some_approved amount said none)
 kept_none config (message ∷ said) none =
-    let rest = kept_none config said (omega (arith, none)) in omega (arith, rest)
+    omega (arith, kept_none config said (omega (arith, none)))
 
 module _ (config : Option ReaderConfig) where
   -- nor is it by the rest of a list
@@ -78,16 +74,15 @@ module _ (config : Option ReaderConfig) where
       → all_approved config news ≡ 0
   rest_none [] news none = none
   rest_none (message ∷ holding) news none =
-      let sum = sum_by-cons (approved config) message (holding ++ news) in
-      rest_none holding news (omega (arith, none, sum))
+      rest_none holding news
+      (omega (arith, none, sum_by-cons (approved config) message (holding ++ news)))
 
   -- nor by what is new of it
   news_none : (poll : Bool) (holding news : List ReaderActivity) (reply : Reply)
       → IsNew poll holding (kept_of (parts_of reply)) news → approvals (messages_of reply) ≡ 0
       → all_approved config news ≡ 0
   news_none poll holding news reply (inl new) none =
-      rest_none holding news
-      (sym (ap (all_approved config) new) ∙ kept_none config (messages_of reply) none)
+      rest_none holding news (rw new at (kept_none config (messages_of reply) none))
   news_none poll holding news reply (inr new) none = ap (all_approved config) new.2
 
   -- nor for the controller that hears it
@@ -97,8 +92,7 @@ module _ (config : Option ReaderConfig) where
   heard_none before (messages.VendApproved amount ∷ said) none =
       absurd (some_approved amount said none)
   heard_none before (message ∷ said) none =
-      let rest = heard_none (heard message before) said (omega (arith, none)) in
-      omega (arith, rest)
+      omega (arith, heard_none (heard message before) said (omega (arith, none)))
 
 -- ---- each step
 
@@ -255,4 +249,4 @@ module _ (unit : ReaderUnit) (facts : Facts) (known : KnownFacts)
   goes_otherwise (acts.VmcAck c r) step =
       by_own (own unit c) _ _ _ before after gains (λ its is ack. as_same (λ priced. priced its is)
       (vmc_ack_otherwise facts known its before after gains r choice ack)) step
-  goes_otherwise act step = record { other = gains; step = step; same = λ priced. refl }
+  goes_otherwise act step = as_it_is step

@@ -34,7 +34,7 @@ pub same_prices : {one other : Prices} → one.config ≡ other.config → one.a
     → one ≡ other
 same_prices {one} {other} config amount =
     let same : record one { config = one.config } ≡ record other { config = other.config } =
-    cc (config, amount) in
+        cc (config, amount) in
     same
 
 -- a command is no sale, or a sale has the same value
@@ -151,9 +151,7 @@ module _ (unit : ReaderUnit) (begins : Beginning) where
       → IsSaleKnown its before
   asked_known command before its is none =
       sale_known (asks_sale (Some its)) (known_config before) (amount_of before)
-      (subst (λ (o : Option ReaderCommand).
-      one_if (asks_sale o && is_unpriced (known_of begins unit before)) ≡ 0) is
-      (first_valued (acts.Ask command) before none))
+      (rw is at (first_valued (acts.Ask command) before none))
 
   -- one that is answered
   answered_known : (command : Command) (later before : List Act) (its : ReaderCommand)
@@ -168,10 +166,7 @@ module _ (unit : ReaderUnit) (begins : Beginning) where
       → (approvals (messages_of reply) ≡ 0) ⊎ IsSome (config_with reply (known_config before))
   reply_known command reply before its is none =
       amounts_known (config_with reply (known_config before)) (approvals (messages_of reply))
-      (subst (λ (ms : List ReaderMsg).
-      amounts.unvalued_by (or_else (last_said config_in ms) (known_config before)) (approvals ms)
-      ≡ 0)
-      (said unit command reply its is) (first_valued (acts.Reply command reply) before none))
+      (rw (said unit command reply its is) at (first_valued (acts.Reply command reply) before none))
 
   -- which is known after it
   known_after : (command : Command) (reply : Reply) (again before : List Act)
@@ -187,9 +182,7 @@ module _ (unit : ReaderUnit) (begins : Beginning) where
       let last : Option ReaderConfig = last_told (config_by unit) before in
       let elsewhere : Option ReaderConfig =
       known_before (λ setups. config_known setups unit) begins in
-      subst (λ (ms : List ReaderMsg).
-      IsSome (or_else (or_else (last_said config_in ms) last) elsewhere))
-      (sym (said unit command reply its is))
+      rw (said unit command reply its is)
       (subst IsSome (first_of_three (last_said config_in (messages_of reply)) last elsewhere) some)
 
   -- so it is where the controller acknowledges the reply

@@ -20,6 +20,7 @@ use Rattle.mdb_late_start.specs.Cuts.{BeginAnew, SplitsAt, joined_with}
 use Rattle.mdb_late_start.specs.Told.{AreToldBy, WereTold, told_later}
 use Rattle.mdb_late_start.proofs.LessTold.{by_profile, less_before, less_told, levels_fit}
 use Rattle.mdb_late_start.proofs.Said.{said_stays}
+use Rattle.mdb_late_start.proofs.JoinedOrder.{CutsLaw}
 
 -- what pieces say of levels fits, where these were told before them
 abbrev AllFit : Beginning → Levels → List Piece → Type 0
@@ -35,26 +36,6 @@ foreign_fit begins levels [] pieces fit = fit
 foreign_fit begins levels (word ∷ words) pieces fit =
     foreign_fit begins levels words (Whole acts.Foreign (word ∷ []) ∷ pieces) (tt, fit)
 
--- what pieces of an end say fits, where less is told than in front of it
-later_fit : (scope : Scope) (setups : Setups) (levels : Levels) (words : List Event)
-    (before : List Piece) → profile_of scope.begins ≡ Base → AreToldBy scope before levels
-    → (later : List Piece) → ArePieces scope (later ++ before)
-    → AllFit (Joined setups (profile_of scope.begins)) levels (later ++ with_foreign words [])
-later_fit scope setups levels words before base less [] are =
-    foreign_fit (Joined setups (profile_of scope.begins)) levels words [] tt
-later_fit scope setups levels words before base less (piece ∷ later) are =
-    let profile = profile_of scope.begins in
-    let here : Levels = first_levels (Joined setups profile) levels in
-    let there : Levels = levels_before scope in (
-      levels_fit scope.begins setups base piece
-          (levels_of profile here (later ++ with_foreign words []))
-          (levels_of profile there (later ++ before))
-          (less_told profile here there later words before
-          (less_before setups profile base levels (levels_of profile there before) less))
-          are.1.levels,
-      later_fit scope setups levels words before base less later are.2,
-    )
-
 -- the bus is where it is, whatever was told
 same_position : (levels : Levels) (scope : Scope) (pieces : List Piece)
     → position_of scope pieces ≡ position_of (told levels scope) pieces
@@ -65,43 +46,53 @@ same_position levels scope (piece ∷ pieces) = refl
 told_order : (levels : Levels) (scope : Scope) (pieces : List Piece) → ArePieces scope pieces
     → AllFit scope.begins levels pieces → ArePieces (told levels scope) pieces
 told_order levels scope [] are fit = tt
-told_order levels scope (piece ∷ pieces) are fit =
-    let stands = are.1 in
-    let Comes : Position → Type 0 =
-    λ position. MayCome (profile_of scope.begins) piece position (last_of (events_of pieces))
-    stands.first in (
-      record {
-        said = said_stays scope.begins levels scope piece refl are.0.said;
-        spaced = are.0.spaced;
-      },
-      record {
-        first = stands.first;
-        others = stands.others;
-        begins = stands.begins;
-        comes = subst Comes (same_position levels scope pieces) stands.comes;
-        levels = fit.0;
-      },
-      told_order levels scope pieces are.2 fit.1,
-    )
+told_order levels scope (piece ∷ pieces) are fit = (
+  record {
+    said = said_stays scope.begins levels scope refl piece are.0.said;
+    spaced = are.0.spaced;
+  },
+  record {
+    first = are.1.first;
+    others = are.1.others;
+    begins = are.1.begins;
+    comes = rw (same_position levels scope pieces) at are.1.comes;
+    levels = fit.0;
+  },
+  told_order levels scope pieces are.2 fit.1,
+)
 
--- by the extended profile the levels that are known as an end begins are those of its setup data
-first_same : (setups : Setups) (profile : Profile) → profile ≡ Extended → (one other : Levels)
-    → first_levels (Joined setups profile) one ≡ first_levels (Joined setups profile) other
-first_same setups Base extended one other = absurd (cc extended)
-first_same setups Extended extended one other = refl
+module _ (setups : Setups) (scope : Scope) where
+  abbrev profile : Profile
+  profile = profile_of scope.begins
 
--- so all fits whatever else is told
-other_fit : (setups : Setups) (levels other : Levels) (scope : Scope) (pieces : List Piece)
-    → profile_of scope.begins ≡ Extended → ArePieces (told_later setups levels scope) pieces
-    → AllFit (Joined setups (profile_of scope.begins)) other pieces
-other_fit setups levels other scope [] extended are = tt
-other_fit setups levels other scope (piece ∷ pieces) extended are =
-    let profile = profile_of scope.begins in
-    let Fits : Levels → Type 0 =
-    λ first. PieceFits (Joined setups profile) (levels_of profile first pieces) piece in (
-      subst Fits (first_same setups profile extended levels other) are.1.levels,
-      other_fit setups levels other scope pieces extended are.2,
-    )
+  -- what pieces of an end say fits, where less is told than in front of it
+  later_fit : (levels : Levels) (words : List Event) (before : List Piece) → profile ≡ Base
+      → AreToldBy scope before levels → (later : List Piece) → ArePieces scope (later ++ before)
+      → AllFit (Joined setups profile) levels (later ++ with_foreign words [])
+  later_fit levels words before base less [] are =
+      foreign_fit (Joined setups profile) levels words [] tt
+  later_fit levels words before base less (piece ∷ later) are =
+      let here : Levels = first_levels (Joined setups profile) levels in
+      let there : Levels = levels_before scope in (
+        levels_fit scope.begins setups base piece
+            (levels_of profile here (later ++ with_foreign words []))
+            (levels_of profile there (later ++ before))
+            (less_told profile here there later words before
+            (less_before setups profile base levels (levels_of profile there before) less))
+            are.1.levels,
+        later_fit levels words before base less later are.2,
+      )
+
+  -- by the extended profile the levels that are known as an end begins are those of its setup data,
+  -- so all fits whatever else is told
+  other_fit : (levels other : Levels) (pieces : List Piece) → profile ≡ Extended
+      → ArePieces (told_later setups levels scope) pieces
+      → AllFit (Joined setups profile) other pieces
+  other_fit levels other [] extended are = tt
+  other_fit levels other (piece ∷ pieces) extended are =
+      let same : first_levels (Joined setups profile) levels
+      ≡ first_levels (Joined setups profile) other = rw extended in
+      (rw same at are.1.levels, other_fit levels other pieces extended are.2)
 
 -- and an act list is one
 pub other_levels : (setups : Setups) (levels other : Levels) (scope : Scope)
@@ -110,7 +101,7 @@ pub other_levels : (setups : Setups) (levels other : Levels) (scope : Scope)
     → IsActList (told_later setups other scope) pieces rows
 other_levels setups levels other scope pieces rows extended list = record {
   in_order = told_order other (told_later setups levels scope) pieces list.in_order
-      (other_fit setups levels other scope pieces extended list.in_order);
+      (other_fit setups scope levels other pieces extended list.in_order);
   whole = list.whole;
 }
 
@@ -126,8 +117,8 @@ told_list scope setups levels front end pieces list cut less =
       | inl base ↦ record {
         in_order = told_order levels (joined_with setups scope)
             (cut.later ++ with_foreign cut.words []) cut.act_list.in_order
-            (later_fit scope setups levels cut.words cut.before base less cut.later
-            (subst (ArePieces scope) cut.order list.in_order));
+            (later_fit setups scope levels cut.words cut.before base less cut.later
+            (rw cut.order at list.in_order));
         whole = cut.act_list.whole;
       }
       | inr extended ↦ other_levels setups no_levels levels scope
@@ -136,9 +127,7 @@ told_list scope setups levels front end pieces list cut less =
 
 -- Where an end begins anew, levels were told in front of it that the act list of the rows there
 -- tells.
-pub told_anew : ((scope : Scope) (setups : Setups) (front end : List Event) (pieces : List Piece)
-    → MayBeReadAlone scope setups front end → IsActList scope pieces (front ++ end)
-    → SplitsAt scope setups front end pieces)
+pub told_anew : CutsLaw
     → ((scope : Scope) (rows : List Event) (one other : List Piece)
     → IsActList scope one rows → IsActList scope other rows → one ≡ other)
     → (scope : Scope) (setups : Setups) (levels : Levels) (front end : List Event)
@@ -152,10 +141,9 @@ told_anew cuts one scope setups levels front end before may has anew list less =
       in_order = cut.in_front;
       whole = cut.rows ∙ ap (λ ws. front ++ ws) (cut.clean anew) ∙ append-nil front;
     } in
-    let same : before ≡ cut.before = one scope front before cut.before list there in
     record {
       pieces = has.0;
       act_list = has.1;
       cut = cut;
-      in_front = subst (λ ps. AreToldBy scope ps levels) same less;
+      in_front = rw (one scope front before cut.before list there) at less;
     }

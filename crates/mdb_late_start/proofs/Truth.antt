@@ -42,109 +42,11 @@ pub record ReportLaws : Type 0 where
       → IsReport scope rows report → IsActList scope pieces rows → (device : Device)
       → device_unvalued device report ≡ unvalued_of scope.begins device (acts_of pieces)
 
--- an account of both sums is both of the account
-of_both : (account : AccountName) (whole before gained : AllSums)
-    → whole (account_device account)
-    ≡ both_sums (before (account_device account)) (gained (account_device account))
-    → sums_of account whole ≡ both_accounts (sums_of account before) (sums_of account gained)
-of_both account whole before gained both = ap (λ s. s (account_slot account)) both
-
--- the value of some run lies within a range
-inside : {S : Type 0} (Kind : S → Type 0) (value : S → ℤ) (range : Range) (sums : S)
-    → IsRange Kind value range → Kind sums → IsInside range (value sums)
-inside Kind value range sums is run = record {
-  low = is.low sums run;
-  high = is.high sums run;
-}
-
--- what came to an account in sums of a kind lies within its ranges
-lies_within : (Kind : AllSums → Type 0) (account : AccountName) (ranges : Account)
-    → IsAccount Kind (sums_of account) ranges → (whole before gained : AllSums)
-    → whole (account_device account)
-    ≡ both_sums (before (account_device account)) (gained (account_device account))
-    → (within : AllSums) → Kind within
-    → within (account_device account) ≡ gained (account_device account)
-    → CameToWithin ranges (sums_of account before) (sums_of account whole)
-lies_within Kind account ranges is whole before gained both within kind same = record {
-  gained = sums_of account within;
-  adds = of_both account whole before within
-      (both ∙ ap (both_sums (before (account_device account))) (sym same));
-  device = inside Kind (λ s. pos (sums_of account s).device) ranges.device within is.device kind;
-  controller = inside Kind (λ s. pos (sums_of account s).controller) ranges.controller within
-      is.controller kind;
-  difference = inside Kind
-      (λ s. pos (sums_of account s).device -ℤ pos (sums_of account s).controller)
-      ranges.difference within is.difference kind;
-}
-
-pub came_within : EndLaws → ReportLaws → (scope : Scope) (setups : Setups) (levels : Levels)
-    (front end : List Event) (sums : AllSums) (run : Run scope (front ++ end) sums)
-    (report : Report)
-    → MayBeReadAlone scope setups front end → BeginAnew end
-    → (passes : Passes scope (front ++ end) sums run front)
-    → AreToldBy scope passes.before levels
-    → IsReport (told_later setups levels scope) end report → (account : AccountName)
-    → TellsOnlyWhatIsSo setups scope.begins (account_device account) (acts_of passes.before)
-    → device_unvalued (account_device account) report ≡ 0
-    → CameToWithin (account_of account report) (sums_of account passes.sums_then)
-    (sums_of account sums)
-came_within laws reports scope setups levels front end sums run report may anew passes levels_told
-    is account told none =
-    let end_scope = told_later setups levels scope in
-    let list =
-    later_pieces laws scope setups levels front end sums run may anew passes levels_told in
-    let there =
-    gained_there laws scope setups levels front end sums run may anew passes levels_told in
-    let device = account_device account in
-    let valued : unvalued_of (Joined setups (profile_of scope.begins)) device (acts_of passes.later)
-    ≡ 0 =
-    sym (reports.unvalued end_scope end report passes.later is list device) ∙ none in
-    lies_within (Run end_scope end) account (account_of account report)
-    (reports.accounts end_scope end report is account) sums passes.sums_then there.0
-    (there.2 device told valued) there.0 there.1 refl
-
 -- the amounts without a value are of a device's own acts
 abbrev pub UnvaluedAlike : Type 0
 UnvaluedAlike = (begins : Beginning) (device : Device) (one other : List Act)
     → own_acts device one ≡ own_acts device other
     → unvalued_of begins device one ≡ unvalued_of begins device other
-
--- where the end is the middle of rows, what came in it lies within the bounds of the rows
-pub came_in_middle : EndLaws → ReportLaws → UnvaluedAlike → (scope : Scope) (setups : Setups)
-    (levels : Levels) (front middle rows : List Event) (sums : AllSums)
-    (run : Run scope (front ++ middle) sums) (report : Report)
-    → MayBeReadAlone scope setups front middle
-    → HasMiddle (told_later setups levels scope) rows middle
-    → IsReport (told_later setups levels scope) rows report
-    → (passes : Passes scope (front ++ middle) sums run front)
-    → AreToldBy scope passes.before levels → (account : AccountName)
-    → TellsOnlyWhatIsSo setups scope.begins (account_device account) (acts_of passes.before)
-    → device_unvalued (account_device account) report ≡ 0
-    → CameToWithin (account_of account report) (sums_of account passes.sums_then)
-    (sums_of account sums)
-came_in_middle laws reports alike scope setups levels front middle rows sums run report may has is
-    passes levels_told account told none =
-    let mine = told_later setups levels scope in
-    let list =
-    later_pieces laws scope setups levels front middle sums run may has.anew passes levels_told in
-    let there =
-    gained_there laws scope setups levels front middle sums run may has.anew passes levels_told in
-    let linked = middle_linked setups levels scope has.words middle passes.later has.foreign list in
-    let parted = parts laws setups levels scope rows middle has linked in
-    let device = account_device account in
-    let same : passes.later ≡ parted.later =
-    laws.one mine middle passes.later parted.later list parted.list in
-    let valued : unvalued_of (Joined setups (profile_of scope.begins)) device (acts_of passes.later)
-    ≡ 0 =
-    ap (λ ps. unvalued_of (Joined setups (profile_of scope.begins)) device (acts_of ps)) same
-    ∙ sym (alike (Joined setups (profile_of scope.begins)) device (acts_of (has.tail ++ has.whole))
-    (acts_of parted.later) (own_in_middle mine rows middle has parted device))
-    ∙ sym (reports.unvalued mine rows report (has.tail ++ has.whole) is has.act_list device)
-    ∙ none in
-    lies_within (Run mine rows) account (account_of account report)
-    (reports.accounts mine rows report is account) sums passes.sums_then there.0
-    (there.2 device told valued) there.0
-    (run_of_rows laws setups levels scope rows middle has there.0 linked there.1) refl
 
 -- what the crates below say of leaving out further devices
 pub record FewerLaws : Type 0 where
@@ -158,88 +60,126 @@ pub record FewerLaws : Type 0 where
       → IsFollowed scope device
       → own_acts device (acts_of (leave_out scope pieces)) ≡ own_acts device (acts_of pieces)
 
+-- the value of some run lies within a range
+inside : {S : Type 0} {Kind : S → Type 0} {value : S → ℤ} {range : Range} (sums : S)
+    → IsRange Kind value range → Kind sums → IsInside range (value sums)
+inside sums is run = record { low = is.low sums run; high = is.high sums run }
+
+-- what came to an account in sums of a kind lies within its ranges
+lies_within : (Kind : AllSums → Type 0) (account : AccountName) (ranges : Account)
+    → IsAccount Kind (sums_of account) ranges → (whole before gained : AllSums)
+    → whole (account_device account)
+    ≡ both_sums (before (account_device account)) (gained (account_device account))
+    → (within : AllSums) → Kind within
+    → within (account_device account) ≡ gained (account_device account)
+    → CameToWithin ranges (sums_of account before) (sums_of account whole)
+lies_within Kind account ranges is whole before gained both within kind same = record {
+  gained = sums_of account within;
+  adds = ap (λ s. s (account_slot account))
+      (both ∙ ap (both_sums (before (account_device account))) (sym same));
+  device = inside within is.device kind;
+  controller = inside within is.controller kind;
+  difference = inside within is.difference kind;
+}
+
 -- a scope that leaves out more is of the same beginning, and of the same levels
-is_told : (setups : Setups) (profile : Profile) (levels : Levels) (more : Scope) → Joined setups
-    profile ≡ more.begins
-    → levels ≡ more.levels → told_later setups levels more ≡ more
+is_told : (setups : Setups) (profile : Profile) (levels : Levels) (more : Scope)
+    → Joined setups profile ≡ more.begins → levels ≡ more.levels
+    → more ≡ told_later setups levels more
 is_told setups profile levels more begins same =
-    ap (λ (b : Beginning). record {
-      begins = b;
-      without = more.without;
-      levels = levels;
-    }) (subst (λ (b : Beginning). Joined setups (profile_of b) ≡ b) begins refl)
-    ∙ ap (λ (l : Levels). record {
-      begins = more.begins;
-      without = more.without;
-      levels = l;
-    }) same
+    ap (λ (l : Levels). record more { levels = l }) (sym same)
+    ∙ ap (λ (b : Beginning). record more { begins = b; levels = levels })
+    (subst (λ (b : Beginning). b ≡ Joined setups (profile_of b)) begins refl)
 
--- so too where further devices are left out, in the accounts of those that are followed
-came_in_fewer : EndLaws → ReportLaws → UnvaluedAlike → FewerLaws → (scope more : Scope)
-    (setups : Setups) (levels : Levels) (front middle rows : List Event) (sums : AllSums)
-    (run : Run scope (front ++ middle) sums) (report : Report)
-    → MayBeReadAlone scope setups front middle
-    → LeavesOutMore (told_later setups levels scope) (told_later setups levels more)
-    → HasMiddle (told_later setups levels more) rows middle
-    → IsReport (told_later setups levels more) rows report
-    → (passes : Passes scope (front ++ middle) sums run front)
-    → AreToldBy scope passes.before levels → (account : AccountName)
-    → IsFollowed more (account_device account)
-    → TellsOnlyWhatIsSo setups scope.begins (account_device account) (acts_of passes.before)
-    → device_unvalued (account_device account) report ≡ 0
-    → CameToWithin (account_of account report) (sums_of account passes.sums_then)
-    (sums_of account sums)
-came_in_fewer laws reports alike fewer scope more setups levels front middle rows sums run report
-    may leaves has is passes levels_told account followed told none =
-    let less = told_later setups levels scope in
-    let mine = told_later setups levels more in
-    let list =
-    later_pieces laws scope setups levels front middle sums run may has.anew passes levels_told in
-    let there =
-    gained_there laws scope setups levels front middle sums run may has.anew passes levels_told in
-    let other = fewer.runs less mine middle there.0 leaves there.1 in
-    let left = leave_out mine passes.later in
-    let left_list = fewer.stays less mine middle passes.later leaves list in
-    let linked = middle_linked setups levels more has.words middle left has.foreign left_list in
-    let parted = parts laws setups levels more rows middle has linked in
-    let device = account_device account in
-    let same : left ≡ parted.later =
-    laws.one mine middle left parted.later left_list parted.list in
-    let own : own_acts device (acts_of passes.later) ≡ own_acts device (acts_of parted.later) =
-    sym (fewer.followed mine passes.later device followed)
-    ∙ ap (λ ps. own_acts device (acts_of ps)) same in
-    let valued : unvalued_of mine.begins device (acts_of passes.later) ≡ 0 =
-    alike mine.begins device (acts_of passes.later) (acts_of parted.later) own
-    ∙ sym (alike mine.begins device (acts_of (has.tail ++ has.whole)) (acts_of parted.later)
-    (own_in_middle mine rows middle has parted device))
-    ∙ sym (reports.unvalued mine rows report (has.tail ++ has.whole) is has.act_list device)
-    ∙ none in
-    let valued_there : unvalued_of less.begins device (acts_of passes.later) ≡ 0 =
-    subst (λ b. unvalued_of b device (acts_of passes.later) ≡ 0) (sym leaves.begins) valued in
-    lies_within (Run mine rows) account (account_of account report)
-    (reports.accounts mine rows report is account) sums passes.sums_then there.0
-    (there.2 device told valued_there) other.0
-    (run_of_rows laws setups levels more rows middle has other.0 linked other.2)
-    (other.1.followed device followed)
+module _ (laws : EndLaws) (reports : ReportLaws) (scope : Scope) (setups : Setups)
+    (levels : Levels) (front end : List Event) (sums : AllSums)
+    (run : Run scope (front ++ end) sums) (may : MayBeReadAlone scope setups front end)
+    (anew : BeginAnew end) (passes : Passes scope (front ++ end) sums run front)
+    (levels_told : AreToldBy scope passes.before levels) where
+  -- the recording from the end on, with the levels told before, and what is known as it begins
+  abbrev mine : Scope
+  mine = told_later setups levels scope
 
-pub came_in_less : EndLaws → ReportLaws → UnvaluedAlike → FewerLaws → (scope more : Scope)
-    (setups : Setups) (levels : Levels) (front middle rows : List Event) (sums : AllSums)
-    (run : Run scope (front ++ middle) sums) (report : Report)
-    → MayBeReadAlone scope setups front middle
-    → LeavesOutMore (told_later setups levels scope) more
-    → HasMiddle more rows middle → IsReport more rows report
-    → (passes : Passes scope (front ++ middle) sums run front)
-    → AreToldBy scope passes.before levels → (account : AccountName)
-    → IsFollowed more (account_device account)
-    → TellsOnlyWhatIsSo setups scope.begins (account_device account) (acts_of passes.before)
-    → device_unvalued (account_device account) report ≡ 0
-    → CameToWithin (account_of account report) (sums_of account passes.sums_then)
-    (sums_of account sums)
-came_in_less laws reports alike fewer scope more setups levels front middle rows sums run report
-    may leaves has is =
-    let back : more ≡ told_later setups levels more =
-    sym (is_told setups (profile_of scope.begins) levels more leaves.begins leaves.levels) in
-    came_in_fewer laws reports alike fewer scope more setups levels front middle rows sums run
-    report may (subst (λ s. LeavesOutMore (told_later setups levels scope) s) back leaves)
-    (subst (λ s. HasMiddle s rows middle) back has)
-    (subst (λ s. IsReport s rows report) back is)
+  abbrev begins : Beginning
+  begins = Joined setups (profile_of scope.begins)
+
+  list : IsActList mine passes.later end
+  list = later_pieces laws scope setups levels front end sums run may anew passes levels_told
+
+  -- what came to an account in the end, and what has to be so of its device
+  abbrev LiesWithin : AccountName → Report → Type 0
+  LiesWithin account report = CameToWithin (account_of account report)
+      (sums_of account passes.sums_then) (sums_of account sums)
+
+  abbrev IsKnown : AccountName → Report → Type 0
+  IsKnown account report =
+      TellsOnlyWhatIsSo setups scope.begins (account_device account) (acts_of passes.before)
+      × (device_unvalued (account_device account) report ≡ 0)
+
+  pub came_within : (report : Report) → IsReport mine end report → (account : AccountName)
+      → IsKnown account report → LiesWithin account report
+  came_within report is account known =
+      let there = gained_there laws scope setups levels front end sums run may anew passes
+      levels_told in
+      let device = account_device account in
+      lies_within (Run mine end) account (account_of account report)
+      (reports.accounts mine end report is account) sums passes.sums_then there.0
+      (there.2 device known.0
+      (sym (reports.unvalued mine end report passes.later is list device) ∙ known.1)) there.0
+      there.1 refl
+
+  module _ (alike : UnvaluedAlike) (rows : List Event) (report : Report) (account : AccountName)
+      (known : IsKnown account report) where
+    abbrev device : Device
+    device = account_device account
+
+    -- where the end is the middle of rows, of which perhaps less is followed (`more`)
+    came_in_rows : (more : Scope) → begins ≡ Joined setups (profile_of more.begins)
+        → HasMiddle (told_later setups levels more) rows end
+        → IsReport (told_later setups levels more) rows report → (left : List Piece)
+        → IsActList (told_later setups levels more) left end
+        → own_acts device (acts_of left) ≡ own_acts device (acts_of passes.later)
+        → ((gained : AllSums) → Run mine end gained
+        → (other : AllSums) × Run (told_later setups levels more) end other
+        × (other device ≡ gained device)) → LiesWithin account report
+    came_in_rows more same_begins has is left left_list own runs =
+        let its = told_later setups levels more in
+        let there = gained_there laws scope setups levels front end sums run may anew passes
+        levels_told in
+        let linked = middle_linked setups levels more has.words end left has.foreign left_list in
+        let parted = parts setups levels more laws rows end has linked in
+        let same : left ≡ parted.later = laws.one its end left parted.later left_list parted.list in
+        let all = acts_of (has.tail ++ has.whole) in
+        let valued : unvalued_of its.begins device (acts_of passes.later) ≡ 0 =
+        alike its.begins device (acts_of passes.later) all
+        (sym own ∙ ap (λ ps. own_acts device (acts_of ps)) same
+        ∙ sym (own_in_middle setups levels more laws rows end has linked device))
+        ∙ sym (reports.unvalued its rows report (has.tail ++ has.whole) is has.act_list device)
+        ∙ known.1 in
+        let other = runs there.0 there.1 in
+        lies_within (Run its rows) account (account_of account report)
+        (reports.accounts its rows report is account) sums passes.sums_then there.0
+        (there.2 device known.0 (rw same_begins valued)) other.0
+        (run_of_rows setups levels more laws rows end has linked other.0 other.1) other.2
+
+    -- what came in it lies within the bounds of the rows
+    pub came_in_middle : HasMiddle mine rows end → IsReport mine rows report
+        → LiesWithin account report
+    came_in_middle has is = came_in_rows scope refl has is passes.later list refl
+        (λ gained there. (gained, there, refl))
+
+    -- so too where further devices are left out, in the accounts of those that are followed
+    pub came_in_less : FewerLaws → (more : Scope) → LeavesOutMore mine more
+        → HasMiddle more rows end → IsReport more rows report → IsFollowed more device
+        → LiesWithin account report
+    came_in_less fewer more leaves has is followed =
+        let its = told_later setups levels more in
+        let back : more ≡ its = is_told setups (profile_of scope.begins) levels more leaves.begins
+        leaves.levels in
+        let out : LeavesOutMore mine its = subst (λ s. LeavesOutMore mine s) back leaves in
+        came_in_rows more out.begins (subst (λ s. HasMiddle s rows end) back has)
+        (subst (λ s. IsReport s rows report) back is) (leave_out its passes.later)
+        (fewer.stays mine its end passes.later out list)
+        (fewer.followed its passes.later device followed)
+        (λ gained there. let other = fewer.runs mine its end gained out there in
+        (other.0, other.2, other.1.followed device followed))

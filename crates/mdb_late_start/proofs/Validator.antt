@@ -9,7 +9,7 @@ use Rattle.mdb_machine.specs.declared.gains.Gains.{Gains}
 use Rattle.mdb_machine.specs.Gains.{in_slots}
 use Rattle.mdb_machine.specs.Kept.{kept_of}
 use Rattle.mdb_late_start.specs.MidSession.{MayJoinLate}
-use Rattle.mdb_late_start.proofs.Keepers.{IsEnabledIn, IsSteady, in_end, step_in_end, told_first, told_on}
+use Rattle.mdb_late_start.proofs.Keepers.{IsEnabledIn, IsSteady, as_it_is, in_end, recorded, step_in_end, told_first, told_on}
 use Rattle.mdb_msgs.specs.declared.command.BillCommand.{BillCommand}
 use Rattle.mdb_msgs.specs.declared.command.BillCommand.TheVariants as bill
 use Rattle.mdb_cash.specs.declared.bill.activity.BillActivity.{BillActivity}
@@ -34,34 +34,20 @@ type_enabled : (known : KnownFacts) (facts : Facts) (type : BillType) (number : 
     → IsEnabledIn known facts → type.number ≡ number → facts.enabled number ≡ true
     → known.enabled number ≡ true
 type_enabled known facts type number enabled is on =
-    enabled number (subst (λ n. n < 16) is type.few) on
+    enabled number (rw is at type.few) on
 
 -- bills may move in the end
 moves_in_end : (known : KnownFacts) (facts : Facts) (message : BillActivity)
     (before after : Escrow) → IsEnabledIn known facts → MovesBill facts message before after
     → MovesBill (in_end known facts) message before after
-moves_in_end known facts (activity.Stacked number) before after enabled moves = (
-  moves.0,
-  moves.1,
-  type_enabled known facts moves.0 number enabled moves.1 moves.2,
-  moves.3,
-  moves.4,
-)
-moves_in_end known facts (activity.Recycled number) before after enabled moves = (
-  moves.0,
-  moves.1,
-  type_enabled known facts moves.0 number enabled moves.1 moves.2,
-  moves.3,
-  moves.4,
-)
-moves_in_end known facts (activity.Escrow number) before after enabled moves = (
-  moves.0,
-  moves.1,
-  type_enabled known facts moves.0 number enabled moves.1 moves.2,
-  moves.3,
-  moves.4,
-)
 moves_in_end known facts (activity.Returned number) before after enabled moves = moves
+moves_in_end known facts message before after enabled moves = (
+  moves.0,
+  moves.1,
+  type_enabled known facts moves.0 _ enabled moves.1 moves.2,
+  moves.3,
+  moves.4,
+)
 
 -- and so with bills in order
 all_move : (known : KnownFacts) (facts : Facts) (news : List BillActivity)
@@ -88,10 +74,7 @@ ack_holds : (facts : Facts) (command : BillCommand) (choice : Choice)
     (before after : BillState) (gains : Gains) → TakeStep command before after gains
     → after.holds ≡ true → before.holds ≡ true
 ack_holds facts bill.Reset choice before after gains step is =
-    absurd (no_truth (sym (ap (λ (s : BillState). s.holds) step.0) ∙ is))
-  where
-    no_truth : false ≡ true → ⊥
-    no_truth same = cc
+    let clash : false ≡ true = sym (ap (λ (s : BillState). s.holds) step.0) ∙ is in cc clash
 ack_holds facts (bill.Escrow order) choice before after gains step is =
     sym (ap (λ (s : BillState). s.holds) step.0) ∙ is
 ack_holds facts _ choice before after gains step is =
@@ -100,10 +83,8 @@ ack_holds facts _ choice before after gains step is =
 -- all that is so of its conduct
 steady : IsSteady tables conduct Fits
 steady = record {
-  asks = λ known facts command before after gains step.
-      record { other = gains; step = step; same = λ is. refl };
-  acks = λ known facts command choice before after gains step.
-      record { other = gains; step = step; same = λ is. refl };
+  asks = λ known facts command before after gains step. as_it_is step;
+  acks = λ known facts command choice before after gains step. as_it_is step;
   fits = λ command reply is. all_fit (kept_of (tables.parts_of reply));
   tells_news = λ known facts choice news before after enabled fit step.
       (all_move known facts news _ after.escrow enabled step.0, step.1);
@@ -124,14 +105,10 @@ pub validator_stays : (begins : Beginning) (setups : Setups)
 validator_stays begins setups = record {
   starts = told_first tables conduct Fits steady begins;
   starts_anew = λ so_far state told. tt;
-  goes_on = told_on tables conduct Fits steady begins;
+  goes_on = λ so_far act choice before after gains told step. told_on tables conduct Fits steady
+      step.facts choice before after gains begins so_far act told step.step;
   step = λ later front act choice before after gains names told step.
-      let goes = step_in_end tables conduct Fits steady begins setups later front act choice before
-      after gains names told step in
-      record {
-        other = goes.other;
-        step = goes.step;
-        valued = λ are answers none. goes.same (inl (are, answers, none));
-        alike = λ power_on empty none. goes.same (inr (power_on, empty, none));
-      };
+      recorded begins setups devices.Bill later front act choice before after gains
+      (step_in_end tables conduct Fits steady begins setups later front act choice before after
+      gains names told step);
 }

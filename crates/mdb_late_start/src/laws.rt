@@ -185,21 +185,8 @@ pub fn runs_pass_where_an_end_begins_anew()
 /// If an end begins anew, and may be read by itself, each run of the whole rows has a run of the
 /// end that gains the same there. It does so in both accounts of each device that leaves no amount
 /// without a value in the end. What is known of that device from elsewhere must be how it was set
-/// up before the end.
-pub fn runs_of_ends_gain_what_whole_runs_gain_there()
-    ensures { (scope : Scope) (setups : Setups) (front end : List Event) (sums : AllSums)
-        (run : Run scope (front ++ end) sums) → MayBeReadAlone scope setups front end
-        → BeginAnew end → (passes : Passes scope (front ++ end) sums run front) → (gained : AllSums)
-        × Run (joined_with setups scope) end gained
-        × ((device : Device) → TellsOnlyWhatIsSo setups scope.begins device (acts_of passes.before)
-        → unvalued_of (Joined setups (profile_of scope.begins)) device (acts_of passes.later) ≡ 0
-        → sums device ≡ both_sums (passes.sums_then device) (gained device)) }
-{
-    end_laws();
-}
-
-/// So it is where feature levels are told that the controller had told the readers in front of the
-/// end: of each reader none, or the last one.
+/// up before the end. The end may be taken with feature levels told that the controller had told
+/// the readers in front of it: of each reader none, or the last one.
 pub fn runs_of_ends_gain_it_with_the_levels_told_in_front()
     ensures { (scope : Scope) (setups : Setups) (levels : Levels) (front end : List Event)
         (sums : AllSums) (run : Run scope (front ++ end) sums)
@@ -218,25 +205,8 @@ pub fn runs_of_ends_gain_it_with_the_levels_told_in_front()
 /// what an account gained in it, in any run of the whole rows. It lies within the bounds of the
 /// end's report: the device's count, the controller's count, and the difference. This holds for
 /// each device that leaves no amount without a value in the end. What is known of that device from
-/// elsewhere must be how it was set up before the end.
-pub fn what_came_in_an_end_lies_within_its_bounds()
-    ensures { (scope : Scope) (setups : Setups) (front end : List Event) (sums : AllSums)
-        (run : Run scope (front ++ end) sums) (report : Report)
-        → MayBeReadAlone scope setups front end → BeginAnew end
-        → (passes : Passes scope (front ++ end) sums run front)
-        → IsReport (joined_with setups scope) end report → (account : AccountName)
-        → TellsOnlyWhatIsSo setups scope.begins (account_device account) (acts_of passes.before)
-        → device_unvalued (account_device account) report ≡ 0
-        → CameToWithin (account_of account report) (sums_of account passes.sums_then)
-        (sums_of account sums) }
-{
-    end_laws();
-    follow::reports_name_the_accounts_of_runs();
-    follow::reports_name_the_decimals_and_silences_of_devices();
-}
-
-/// So they lie where feature levels are told that the controller had told the readers in front of
-/// the end: of each reader none, or the last one.
+/// elsewhere must be how it was set up before the end. Of the feature levels that the controller
+/// had told the readers in front of the end, each reader's last one may be told of it, or none.
 pub fn what_came_lies_within_its_bounds_with_the_levels_told_in_front()
     ensures { (scope : Scope) (setups : Setups) (levels : Levels) (front end : List Event)
         (sums : AllSums) (run : Run scope (front ++ end) sums) (report : Report)

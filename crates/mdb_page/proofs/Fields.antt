@@ -4,6 +4,7 @@ use Rattle.std.specs.Option.{is_some}
 use Rattle.std.proofs.lemmas.Bool.{cases_Bool, eqb-true}
 use Rattle.mdb_words.specs.declared.row.RowFault.TheVariants.{FieldCount}
 use Rattle.mdb_page.specs.Lines.{AreAllFields, AreNoRow, IsCut}
+use Rattle.mdb_words.specs.RowsWritten.{joined_by_commas}
 
 none_of : {X : Type 0} (P : X → Type 0) → All P []
 none_of P k d low = absurd (omega (arith, low))
@@ -48,28 +49,22 @@ pub record HasFields (line : List ℕ) : Type 0 where
 longer : (byte : ℕ) (bytes : List ℕ) (fields : List (List ℕ)) → byte ≢ 44 → 0 < length fields
     → AreAllFields bytes fields → HasFields (byte ∷ bytes)
 longer byte bytes [] other some all = absurd (omega (arith, some))
-longer byte bytes (field ∷ []) other some all = record {
-  fields = (byte ∷ field) ∷ [];
+longer byte bytes (field ∷ fields) other some all = record {
+  fields = (byte ∷ field) ∷ fields;
   some = omega arith;
   all = record {
-    whole = ap (λ l. byte ∷ l) all.whole;
+    whole = whole fields all.whole;
     parted =
-        all_from Field (byte ∷ field) []
-        (all_from Other byte field other (first_of_all Field field [] all.parted))
-        (none_of Field);
+        all_from Field (byte ∷ field) fields
+        (all_from Other byte field other (first_of_all Field field fields all.parted))
+        (all_after Field field fields all.parted);
   };
 }
-longer byte bytes (field ∷ next ∷ fields) other some all = record {
-  fields = (byte ∷ field) ∷ next ∷ fields;
-  some = omega arith;
-  all = record {
-    whole = ap (λ l. byte ∷ l) all.whole;
-    parted =
-        all_from Field (byte ∷ field) (next ∷ fields)
-        (all_from Other byte field other (first_of_all Field field (next ∷ fields) all.parted))
-        (all_after Field field (next ∷ fields) all.parted);
-  };
-}
+  where
+    whole : (fields : List (List ℕ)) → bytes ≡ joined_by_commas (field ∷ fields)
+        → byte ∷ bytes ≡ joined_by_commas ((byte ∷ field) ∷ fields)
+    whole [] is = ap (λ l. byte ∷ l) is
+    whole (next ∷ fields) is = ap (λ l. byte ∷ l) is
 
 is_it : (a b : ℕ) → a ≡ b → (a == b) ≡ true
 is_it a b same = grind arith

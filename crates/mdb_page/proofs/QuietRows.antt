@@ -30,11 +30,11 @@ pub record Laws : Type 0 where
       → (loss : Loss) × LossFits loss pieces × IsWay scope.begins loss pieces states sums
 
 -- a run of rows is one of others with the same acts
-run_of_same : (scope : Scope) → Laws → (rows others : List Event) (pieces more : List Piece)
+run_of_same : {scope : Scope} {rows others : List Event} {pieces more : List Piece} → Laws
     → IsActList scope pieces rows → IsActList scope more others
     → acts_of pieces ≡ acts_of more → (sums : AllSums) → Run scope rows sums
     → Run scope others sums
-run_of_same scope laws rows others pieces more list other same sums run =
+run_of_same {scope} {rows} {pieces = pieces} {more = more} laws list other same sums run =
     let Arrive : List Act → Type 0 = λ acts. EachArrives scope.begins acts run.states sums in
     let acts : acts_of run.pieces ≡ acts_of more =
     ap acts_of (laws.one scope rows run.pieces pieces run.act_list list) ∙ same in
@@ -54,22 +54,22 @@ abbrev AreSame : (AllSums → Type 0) → (AllSums → Type 0) → Type 0
 AreSame Kind Other =
     ((sums : AllSums) → Kind sums → Other sums) × ((sums : AllSums) → Other sums → Kind sums)
 
-same_range : (Kind Other : AllSums → Type 0) → AreSame Kind Other → (value : AllSums → ℤ)
-    (range : Range) → IsRange Kind value range → IsRange Other value range
-same_range Kind Other same value range is = record {
+same_range : {Kind Other : AllSums → Type 0} {value : AllSums → ℤ} {range : Range}
+    → AreSame Kind Other → IsRange Kind value range → IsRange Other value range
+same_range same is = record {
   least = (is.least.0, same.0 is.least.0 is.least.1, is.least.2);
   greatest = (is.greatest.0, same.0 is.greatest.0 is.greatest.1, is.greatest.2);
   low = λ sums other. is.low sums (same.1 sums other);
   high = λ sums other. is.high sums (same.1 sums other);
 }
 
-same_account : (Kind Other : AllSums → Type 0) → AreSame Kind Other
-    → (account : AllSums → AccountSums) (ranges : Account) → IsAccount Kind account ranges
+same_account : {Kind Other : AllSums → Type 0} {account : AllSums → AccountSums}
+    {ranges : Account} → AreSame Kind Other → IsAccount Kind account ranges
     → IsAccount Other account ranges
-same_account Kind Other same account ranges is = record {
-  device = same_range Kind Other same _ ranges.device is.device;
-  controller = same_range Kind Other same _ ranges.controller is.controller;
-  difference = same_range Kind Other same _ ranges.difference is.difference;
+same_account same is = record {
+  device = same_range same is.device;
+  controller = same_range same is.controller;
+  difference = same_range same is.difference;
 }
 
 -- a row that ends no act: the report of the rows with it has the same accounts
@@ -81,21 +81,17 @@ stays scope laws rows row report is ended =
     let pieces = ended.newest ∷ ended.earlier in
     let acts : acts_of ended.before ≡ acts_of pieces = sym ended.acts in
     let same : AreSame (Run scope rows) (Run scope (rows ++ row ∷ [])) = (
-      run_of_same scope laws rows (rows ++ row ∷ []) ended.before pieces ended.shorter
-          ended.act_list acts,
-      run_of_same scope laws (rows ++ row ∷ []) rows pieces ended.before ended.act_list
-          ended.shorter (sym acts),
+      run_of_same laws ended.shorter ended.act_list acts,
+      run_of_same laws ended.act_list ended.shorter (sym acts),
     ) in
-    let after : Report =
-    report_of scope (length (rows ++ row ∷ [])) pieces is.accounts in (
+    let after : Report = report_of scope (length (rows ++ row ∷ [])) pieces is.accounts in (
       after,
       record {
         reached = (is.reached.0, same.0 is.reached.0 is.reached.1);
         pieces = pieces;
         act_list = ended.act_list;
         accounts = is.accounts;
-        of_runs = λ account. same_account (Run scope rows) (Run scope (rows ++ row ∷ [])) same
-            (sums_of account) (is.accounts account) (is.of_runs account);
+        of_runs = λ account. same_account same (is.of_runs account);
         telling = refl;
       },
       sym (ap (λ it. it.accounts) is.telling),

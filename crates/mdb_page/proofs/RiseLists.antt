@@ -1,5 +1,5 @@
 -- How entries of rises are listed.
-use Rattle.std.proofs.Common.{◌≡◌, ◌+◌, ◌<◌, ◌≤◌, ◌⊎◌, ℕ, List, [], ◌∷◌, ◌++◌, length, refl, sym, subst, ap, ◌∙◌, arith, inl, inr, get_or, set, get_or-set_same, get_or-set_other, length-set, length-append, ◌^◌, ◌-ℤ◌, ◌≤ℤ◌, ℤ, pos, negsuc, neg_ℤ, SFits, of_z, to_z, w64, Bool, true, false, cond, append-nil, append_assoc, flat_map, take}
+use Rattle.std.proofs.Common.{◌≡◌, ◌+◌, ◌<◌, ◌≤◌, ◌⊎◌, ℕ, List, [], ◌∷◌, ◌++◌, length, refl, sym, subst, ap, ◌∙◌, arith, inl, inr, get_or, set, get_or-set_same, get_or-set_other, length-set, length-append, ◌^◌, ◌-ℤ◌, ◌≤ℤ◌, ℤ, pos, negsuc, neg_ℤ, SFits, of_z, to_z, w64, Bool, true, false, cond, append-nil, append_assoc, flat_map, take, Option, Some, None}
 use Rattle.std.proofs.Math.Seq.{get_or-append_seam}
 use Rattle.std.proofs.lemmas.Int.{ints, to_z-of_z}
 use Rattle.std.proofs.lemmas.List.{flat_map_more, get_or_append_left, take_all, take_more}
@@ -11,7 +11,7 @@ use Rattle.mdb_follow.specs.declared.report.Report.{Report}
 use Rattle.mdb_follow.specs.AccountNames.{account_of, account_place}
 use Rattle.mdb_follow.specs.Limits.{IsRangeWithin}
 use Rattle.mdb_page.specs.Rises.{AreListed, rise, rise_of, rises_in}
-use Rattle.mdb_page.specs.inner.Rising.{HasListed}
+use Rattle.mdb_page.specs.inner.Rising.{HasListed, Moves}
 use Rattle.mdb_page.specs.declared.rises.PageRise.{PageRise}
 use Rattle.mdb_page.specs.declared.rises.RiseListing.{RiseListing}
 use Rattle.mdb_page.proofs.Ring.{less_or_not}
@@ -28,85 +28,74 @@ starts_empty skip before = record {
 one_longer : (all : List PageRise) (rise : PageRise) → length (all ++ rise ∷ []) ≡ length all + 1
 one_longer all rise = length-append all (rise ∷ [])
 
--- one entry more is put at its place
-pub listed_at : (skip place : ℕ) (all before after : List PageRise) (rise : PageRise)
-    → AreListed skip all before after → skip + place ≡ length all → place < length after
-    → AreListed skip (all ++ rise ∷ []) before (set after place rise)
-listed_at skip place all before after rise are here inside = record {
-  room = length-set after place rise ∙ are.room;
-  put = λ at other within room. elim (less_or_not at place) [
-    | inl less ↦
-        get_or-set_other after place at rise other (λ same. omega (arith, same, less))
-        ∙ (are.put at other (omega (arith, less, here)) room
-        ∙ sym (get_or_append_left all (rise ∷ []) other (skip + at) (omega (arith, less, here))))
-    | inr not ↦ put_here at other (omega (arith, not, within, here, one_longer all rise))
-  ];
-  kept = λ at other past.
-      get_or-set_other after place at rise other
-      (λ same. omega (arith, same, past, here, one_longer all rise))
-      ∙ are.kept at other (omega (arith, past, one_longer all rise));
-}
-  where
-    put_here : (at : ℕ) (other : PageRise) → at ≡ place
-        → get_or (set after place rise) at other
-        ≡ get_or (all ++ rise ∷ []) (skip + at) other
-    put_here at other same =
-        ap (λ n. get_or (set after place rise) n other) same
-        ∙ (get_or-set_same after place rise other inside
-        ∙ (sym (get_or-append_seam all rise [] other)
-        ∙ ap (λ n. get_or (all ++ rise ∷ []) n other)
-        (omega (arith, here, same))))
+module _ {skip : ℕ} {all before after : List PageRise} (rise : PageRise)
+    (are : AreListed skip all before after) where
+  -- one entry more is put at its place
+  listed_at : (place : ℕ) → skip + place ≡ length all → place < length after
+      → AreListed skip (all ++ rise ∷ []) before (set after place rise)
+  listed_at place here inside = record {
+    room = length-set after place rise ∙ are.room;
+    put = λ at other within room. elim (less_or_not at place) [
+      | inl less ↦
+          get_or-set_other after place at rise other (λ same. omega (arith, same, less))
+          ∙ (are.put at other (omega (arith, less, here)) room
+          ∙ sym (get_or_append_left all (rise ∷ []) other (skip + at) (omega (arith, less, here))))
+      | inr not ↦ put_here at other (omega (arith, not, within, here, one_longer all rise))
+    ];
+    kept = λ at other past.
+        get_or-set_other after place at rise other
+        (λ same. omega (arith, same, past, here, one_longer all rise))
+        ∙ are.kept at other (omega (arith, past, one_longer all rise));
+  }
+    where
+      put_here : (at : ℕ) (other : PageRise) → at ≡ place
+          → get_or (set after place rise) at other
+          ≡ get_or (all ++ rise ∷ []) (skip + at) other
+      put_here at other same =
+          rw same (get_or-set_same after place rise other inside
+          ∙ (sym (get_or-append_seam all rise [] other)
+          ∙ ap (λ n. get_or (all ++ rise ∷ []) n other) (sym here)))
 
--- one entry more has no place: it is passed over, or there is no room
-pub listed_not : (skip : ℕ) (all before after : List PageRise) (rise : PageRise)
-    → AreListed skip all before after
-    → (length all < skip) ⊎ (skip + length after ≤ length all)
-    → AreListed skip (all ++ rise ∷ []) before after
-listed_not skip all before after rise are out = record {
-  room = are.room;
-  put = λ at other within room.
-      let earlier = older out at within room in
-      are.put at other earlier room
-      ∙ sym (get_or_append_left all (rise ∷ []) other (skip + at) earlier);
-  kept = λ at other past. are.kept at other (omega (arith, past, one_longer all rise));
-}
-  where
-    older : (length all < skip) ⊎ (skip + length after ≤ length all) → (at : ℕ)
-        → skip + at < length (all ++ rise ∷ []) → at < length before
-        → skip + at < length all
-    older (inl passed) at within room =
-        omega (arith, passed, within, one_longer all rise)
-    older (inr full) at within room =
-        omega (arith, full, within, room, are.room, one_longer all rise)
+  -- one entry more has no place: it is passed over, or there is no room
+  listed_not : (length all < skip) ⊎ (skip + length after ≤ length all)
+      → AreListed skip (all ++ rise ∷ []) before after
+  listed_not out = record {
+    room = are.room;
+    put = λ at other within room.
+        let earlier = older out at within room in
+        are.put at other earlier room
+        ∙ sym (get_or_append_left all (rise ∷ []) other (skip + at) earlier);
+    kept = λ at other past. are.kept at other (omega (arith, past, one_longer all rise));
+  }
+    where
+      older : (length all < skip) ⊎ (skip + length after ≤ length all) → (at : ℕ)
+          → skip + at < length (all ++ rise ∷ []) → at < length before
+          → skip + at < length all
+      older (inl passed) at within room = omega (arith, one_longer all rise)
+      older (inr full) at within room = omega (arith, are.room, one_longer all rise)
 
 -- a listing puts one entry more, or not
-pub puts : (skip place : ℕ) (all before after : List PageRise) (rise : PageRise)
-    (listing next : RiseListing) → HasListed skip all listing before after
-    → next.skip ≡ listing.skip → next.count ≡ listing.count + 1
-    → listing.skip + place ≡ listing.count → place < length after
-    → HasListed skip (all ++ rise ∷ []) next before (set after place rise)
-puts skip place all before after rise listing next has skips counts here inside = record {
-  same = skips ∙ has.same;
-  number = counts ∙ (ap (λ n. n + 1) has.number ∙ sym (one_longer all rise));
-  entries = listed_at skip place all before after rise has.entries
-      (omega (arith, here, has.same, has.number)) inside;
-}
+module _ {skip : ℕ} {all before after : List PageRise} {listing next : RiseListing}
+    (rise : PageRise) (has : HasListed skip all listing before after) where
+  pub puts : (place : ℕ) → Moves (length after) listing next (Some place)
+      → HasListed skip (all ++ rise ∷ []) next before (set after place rise)
+  puts place moves = record {
+    same = moves.same ∙ has.same;
+    number = moves.counted ∙ (ap (λ n. n + 1) has.number ∙ sym (one_longer all rise));
+    entries = listed_at rise has.entries place
+        (omega (arith, moves.at.0, has.same, has.number)) moves.at.1;
+  }
 
-pub puts_not : (skip : ℕ) (all before after : List PageRise) (rise : PageRise)
-    (listing next : RiseListing) → HasListed skip all listing before after
-    → next.skip ≡ listing.skip → next.count ≡ listing.count + 1
-    → (listing.count < listing.skip) ⊎ (listing.skip + length after ≤ listing.count)
-    → HasListed skip (all ++ rise ∷ []) next before after
-puts_not skip all before after rise listing next has skips counts out = record {
-  same = skips ∙ has.same;
-  number = counts ∙ (ap (λ n. n + 1) has.number ∙ sym (one_longer all rise));
-  entries = listed_not skip all before after rise has.entries (here out);
-}
-  where
-    here : (listing.count < listing.skip) ⊎ (listing.skip + length after ≤ listing.count)
-        → (length all < skip) ⊎ (skip + length after ≤ length all)
-    here (inl passed) = inl (omega (arith, passed, has.same, has.number))
-    here (inr full) = inr (omega (arith, full, has.same, has.number))
+  pub puts_not : Moves (length after) listing next None
+      → HasListed skip (all ++ rise ∷ []) next before after
+  puts_not moves = record {
+    same = moves.same ∙ has.same;
+    number = moves.counted ∙ (ap (λ n. n + 1) has.number ∙ sym (one_longer all rise));
+    entries = listed_not rise has.entries (elim moves.at [
+      | inl passed ↦ inl (omega (arith, passed, has.same, has.number))
+      | inr full ↦ inr (omega (arith, full, has.same, has.number))
+    ]);
+  }
 
 -- What a row lists of a range.
 
@@ -166,49 +155,48 @@ entry_of number account side least greatest = record {
   side = side;
 }
 
-abbrev chosen : Bool → PageRise → List PageRise
-chosen same entry = cond same [] (entry ∷ [])
+-- what is listed of a range that rose so
+abbrev chosen : ℕ → ℕ → ℕ → Range → List PageRise
+chosen number account side risen = cond (int_eq risen.least risen.greatest) []
+    (entry_of number account side risen.least risen.greatest ∷ [])
 
--- its ends rose differently
-pub lists_range : (skip number account side : ℕ) (was is risen : Range) (least greatest : ℤ)
-    (all before now : List PageRise) (listing : RiseListing) → risen ≡ rise was is
-    → (least ≡ risen.least) × (greatest ≡ risen.greatest)
-    → int_eq risen.least risen.greatest ≡ false
-    → HasListed skip (all ++ entry_of number account side least greatest ∷ []) listing before now
-    → HasListed skip (all ++ rise_of number account side was is) listing before now
-lists_range skip number account side was is risen least greatest all before now listing so ends
-    differ has =
-    let Made : List PageRise → Type 0 = λ its. HasListed skip (all ++ its) listing before now in
-    let entry = entry_of number account side risen.least risen.greatest in
-    subst (λ range. Made (chosen (int_eq range.least range.greatest)
-    (entry_of number account side range.least range.greatest))) so
-    (subst (λ same. Made (chosen same entry)) (sym differ)
-    (subst (λ l. Made (entry_of number account side l risen.greatest ∷ [])) ends.0
-    (subst (λ g. Made (entry_of number account side least g ∷ [])) ends.1 has)))
+-- what is listed of a range that rose so, or alike
+abbrev IsListed : ℕ → List PageRise → RiseListing → List PageRise → List PageRise
+    → List PageRise → Type 0
+IsListed skip all listing before now its = HasListed skip (all ++ its) listing before now
 
--- they rose alike
-pub lists_no_range : (skip number account side : ℕ) (was is risen : Range)
-    (all before now : List PageRise) (listing : RiseListing) → risen ≡ rise was is
-    → int_eq risen.least risen.greatest ≡ true → HasListed skip all listing before now
-    → HasListed skip (all ++ rise_of number account side was is) listing before now
-lists_no_range skip number account side was is risen all before now listing so alike has =
-    let Made : List PageRise → Type 0 = λ its. HasListed skip its listing before now in
-    let entry = entry_of number account side risen.least risen.greatest in
-    subst (λ range. Made (all ++ chosen (int_eq range.least range.greatest)
-    (entry_of number account side range.least range.greatest))) so
-    (subst (λ same. Made (all ++ chosen same entry)) (sym alike)
-    (subst Made (sym (append-nil all)) has))
+module _ (number account side : ℕ) (was is risen : Range) (so : risen ≡ rise was is) where
+  -- its ends rose differently
+  pub lists_range : {skip : ℕ} {before now : List PageRise} {listing : RiseListing}
+      {least greatest : ℤ} (all : List PageRise)
+      → (least ≡ risen.least) × (greatest ≡ risen.greatest)
+      → int_eq risen.least risen.greatest ≡ false
+      → HasListed skip (all ++ entry_of number account side least greatest ∷ []) listing before now
+      → HasListed skip (all ++ rise_of number account side was is) listing before now
+  lists_range {skip} {before} {now} {listing} all ends differ has =
+      let its = rw (ends.0, ends.1) at has in
+      subst (λ range. IsListed skip all listing before now (chosen number account side range)) so
+      (rw differ its)
+
+  -- they rose alike
+  pub lists_no_range : {skip : ℕ} {before now : List PageRise} {listing : RiseListing}
+      (all : List PageRise) → int_eq risen.least risen.greatest ≡ true
+      → HasListed skip all listing before now
+      → HasListed skip (all ++ rise_of number account side was is) listing before now
+  lists_no_range {skip} {before} {now} {listing} all alike has =
+      subst (λ range. IsListed skip all listing before now (chosen number account side range)) so
+      (rw (alike, append-nil all) has)
 
 -- what is listed of both sides of an account is what a row lists of it
-pub lists_account : (skip row place : ℕ) (last report : Report) (name : AccountName)
-    (was is : Account) (all before now : List PageRise) (listing : RiseListing)
+pub lists_account : {skip : ℕ} (all : List PageRise) {before now : List PageRise}
+    {listing : RiseListing} (row place : ℕ) (last report : Report) (name : AccountName) (was is : Account)
     → was ≡ account_of name last → is ≡ account_of name report → row ≡ report.rows
     → place ≡ account_place name
     → HasListed skip ((all ++ rise_of row place 0 was.device is.device)
     ++ rise_of row place 1 was.controller is.controller) listing before now
     → HasListed skip (all ++ rises_in last report name) listing before now
-lists_account skip row place last report name was is all before now listing was_so is_so row_so
-    place_so has =
+lists_account {skip} all {before} {now} {listing} row place last report name was is was_so is_so
+    row_so place_so has =
     let Made : ℕ → ℕ → Account → Account → List PageRise =
     λ n p a b. rise_of n p 0 a.device b.device ++ rise_of n p 1 a.controller b.controller in
     let same : Made row place was is ≡ rises_in last report name =
@@ -221,27 +209,25 @@ lists_account skip row place last report name was is all before now listing was_
     (rise_of row place 1 was.controller is.controller) ∙ ap (λ its. all ++ its) same) has
 
 -- one account more
-pub one_name_more : (made : AccountName → List PageRise) (skip : ℕ)
-    (all before now : List PageRise) (listing : RiseListing) (names : List AccountName) (i : ℕ)
-    (d : AccountName) (its : List PageRise) → i < length names → its ≡ made (get_or names i d)
+pub one_name_more : {skip : ℕ} (all : List PageRise) {before now : List PageRise}
+    {listing : RiseListing} (made : AccountName → List PageRise) (names : List AccountName) (i : ℕ) (d : AccountName)
+    (its : List PageRise) → i < length names → its ≡ made (get_or names i d)
     → HasListed skip ((all ++ flat_map made (take i names)) ++ its) listing before now
     → HasListed skip (all ++ flat_map made (take (i + 1) names)) listing before now
-one_name_more made skip all before now listing names i d its below same has =
+one_name_more {skip} all {before} {now} {listing} made names i d its below same has =
     subst (λ l. HasListed skip l listing before now)
     (ap (λ l. (all ++ flat_map made (take i names)) ++ l) same
     ∙ (flat_map_more made all (take i names) (get_or names i d)
     ∙ ap (λ l. all ++ flat_map made l) (sym (take_more names i d below)))) has
 
 -- all accounts
-pub all_names : (made : AccountName → List PageRise) (skip : ℕ) (all before now : List PageRise)
-    (listing next : RiseListing) (names : List AccountName) (i : ℕ) → length names ≤ i
+pub all_names : {skip : ℕ} (all : List PageRise) {before now : List PageRise}
+    {listing next : RiseListing} (made : AccountName → List PageRise) (names : List AccountName) (i : ℕ) → length names ≤ i
     → next.skip ≡ listing.skip → next.count ≡ listing.count
     → HasListed skip (all ++ flat_map made (take i names)) listing before now
     → HasListed skip (all ++ flat_map made names) next before now
-all_names made skip all before now listing next names i past skips counts has =
-    let whole : HasListed skip (all ++ flat_map made names) listing before now =
-    subst (λ l. HasListed skip (all ++ flat_map made l) listing before now)
-    (take_all i names past) has in
+all_names all made names i past skips counts has =
+    let whole = rw (take_all i names past) at has in
     record {
       same = skips ∙ whole.same;
       number = counts ∙ whole.number;

@@ -59,13 +59,17 @@ near rows report few is name =
 
 -- Entries between reports with the same accounts.
 
+-- what a row lists of an account, between two lists of accounts
+abbrev row_of : ℕ → List Account → List Account → AccountName → List PageRise
+row_of number before after name =
+    rise_of number (account_place name) 0 (account_in name before).device
+    (account_in name after).device
+    ++ rise_of number (account_place name) 1 (account_in name before).controller
+    (account_in name after).controller
+
 -- what `rises_between` takes of a report before
 abbrev between : List Account → Report → List PageRise
-between accounts after =
-    flat_map (λ name. rise_of after.rows (account_place name) 0 (account_in name accounts).device
-    (account_of name after).device
-    ++ rise_of after.rows (account_place name) 1 (account_in name accounts).controller
-    (account_of name after).controller) ALL
+between accounts after = flat_map (row_of after.rows accounts after.accounts) ALL
 
 between_alike : (one other after : Report) → one.accounts ≡ other.accounts
     → rises_between one after ≡ rises_between other after
@@ -87,23 +91,12 @@ none_of number account side range =
     ap Chosen ((Decides-int_eq least greatest).1 same)
 
 none_of_all : (number : ℕ) (accounts : List Account) (names : List AccountName)
-    → flat_map (λ name. rise_of number (account_place name) 0 (account_in name accounts).device
-    (account_in name accounts).device
-    ++ rise_of number (account_place name) 1 (account_in name accounts).controller
-    (account_in name accounts).controller) names ≡ []
+    → flat_map (row_of number accounts accounts) names ≡ []
 none_of_all number accounts [] = refl
 none_of_all number accounts (name ∷ names) =
-    let account = account_in name accounts in
-    let rest = none_of_all number accounts names in
-    let first : rise_of number (account_place name) 0 account.device account.device
-    ++ rise_of number (account_place name) 1 account.controller account.controller ≡ [] =
-    ap (λ it. it ++ rise_of number (account_place name) 1 account.controller account.controller)
-    (none_of number (account_place name) 0 account.device)
-    ∙ none_of number (account_place name) 1 account.controller in
-    ap (λ it. it ++ flat_map (λ name. rise_of number (account_place name) 0
-    (account_in name accounts).device (account_in name accounts).device
-    ++ rise_of number (account_place name) 1 (account_in name accounts).controller
-    (account_in name accounts).controller) names) first ∙ rest
+    rw (none_of number (account_place name) 0 (account_in name accounts).device,
+    none_of number (account_place name) 1 (account_in name accounts).controller)
+    (none_of_all number accounts names)
 
 none_between : (before after : Report) → after.accounts ≡ before.accounts
     → rises_between before after ≡ []
@@ -125,6 +118,31 @@ pub record Follows (scope : Scope) (lines rest : List ℕ) (follower : Follower)
   pub all : List PageRise
   pub rises : AreRises scope rows all
   pub listed : HasListed skip all listing before now
+
+-- what a follower says that has taken a row
+abbrev pub Stands : Follower → Follower → Event → Type 0
+Stands follower next event =
+    (events : List Event) → StandsFor follower events → StandsFor next (events ++ event ∷ [])
+
+-- the offence by which a row is refused
+pub refused_by : {Refuses : Offence → Type 0} (met : Option Offence) → IsSomeAnd met Refuses
+    → (offence : Offence) × Refuses offence
+refused_by None refuses = absurd refuses
+refused_by (Some offence) refuses = (offence, refuses)
+
+-- why the next line is no row
+no_row_so : (scope : Scope) (rest bare after : List ℕ) (rows : List Event) (fault : LineFault)
+    (told : PageTold) (answer : ℕ) → IsLine rest bare after → bare ≢ [] → IsFaultOf bare fault
+    → IsLineAnswer fault told answer → EndsSo scope rows rest told.fault answer
+no_row_so scope rest bare after rows (faults.BadRow why) told answer line some is told_so =
+    let two = told_so.row_fault why refl in
+    let bad = told_so.bad_row two in
+    rw two (no_row bad.0
+    (record { bare = bare; after = after; line = line; some = some; is = is.0 bad.0 bad.1 })
+    bad.2)
+no_row_so scope rest bare after rows faults.Unread told answer line some is told_so =
+    rw (told_so.unread refl)
+    (unread (record { after = after; line = line; some = some }) (is.1 refl))
 
 -- before the first line
 pub starts : (lines : List ℕ) (follower : Follower) (before : List PageRise)
@@ -148,185 +166,126 @@ starts lines follower before listing stands report empty = record {
   };
 }
 
--- a line without bytes
-pub goes_on_blank : (scope : Scope) (lines rest after : List ℕ) (follower : Follower) (skip : ℕ)
-    (before now : List PageRise) (listing : RiseListing)
-    → Follows scope lines rest follower skip before now listing → IsLine rest [] after
-    → Follows scope lines after follower skip before now listing
-goes_on_blank scope lines rest after follower skip before now listing so line = record {
-  rows = so.rows;
-  read = blank so.read line;
-  stands = so.stands;
-  in_scope = so.in_scope;
-  report = so.report;
-  is = so.is;
-  last = so.last;
-  all = so.all;
-  rises = so.rises;
-  listed = so.listed;
-}
+-- The text goes on after some lines, or ends there.
+module _ {scope : Scope} {lines rest : List ℕ} {follower : Follower} {skip : ℕ}
+    {before now : List PageRise} {listing : RiseListing}
+    (so : Follows scope lines rest follower skip before now listing) where
+  -- a line without bytes
+  pub goes_on_blank : {after : List ℕ} → IsLine rest [] after
+      → Follows scope lines after follower skip before now listing
+  goes_on_blank line = record {
+    rows = so.rows;
+    read = blank so.read line;
+    stands = so.stands;
+    in_scope = so.in_scope;
+    report = so.report;
+    is = so.is;
+    last = so.last;
+    all = so.all;
+    rises = so.rises;
+    listed = so.listed;
+  }
 
--- what a follower says that has taken a row
-abbrev pub Stands : Follower → Follower → Event → Type 0
-Stands follower next event =
-    (events : List Event) → StandsFor follower events → StandsFor next (events ++ event ∷ [])
+  -- where this ends, by what ends it
+  ends : (told : PageTold) (answer : ℕ) → EndsSo scope so.rows rest told.fault answer
+      → HasFollowed scope lines rest skip before now listing told answer
+  ends told answer why = record {
+    rows = so.rows;
+    read = so.read;
+    ends = why;
+    all = so.all;
+    rises = so.rises;
+    listed = so.listed;
+  }
 
--- a row that ends no act
-goes_on_quiet : (scope : Scope) (lines rest bare after : List ℕ) (follower next : Follower)
-    (skip : ℕ) (before now : List PageRise) (listing : RiseListing) (event : Event) → Laws
-    → Follows scope lines rest follower skip before now listing → IsLine rest bare after
-    → TellsRow bare event → Stands follower next event → scope_of next ≡ scope_of follower
-    → ((events : List Event) → StandsFor follower events
-    → IsEndedAct (scope_of follower) events event None)
-    → Follows scope lines after next skip before now listing
-goes_on_quiet scope lines rest bare after follower next skip before now listing event laws so line
-    tells stands same ended =
-    let none_ended : IsEndedAct scope so.rows event None =
-    subst (λ s. IsEndedAct s so.rows event None) so.in_scope (ended so.rows so.stands) in
-    let new = stays scope laws so.rows event so.report so.is none_ended in
-    let all : so.all ++ rises_between so.report new.0 ≡ so.all =
-    ap (λ more. so.all ++ more) (none_between so.report new.0 new.2) ∙ append-nil so.all in
-    record {
-      rows = so.rows ++ event ∷ [];
-      read = row event so.read line tells;
-      stands = stands so.rows so.stands;
-      in_scope = same ∙ so.in_scope;
-      report = new.0;
-      is = new.1;
-      last = so.last ∙ sym new.2;
-      all = so.all;
-      rises = subst (AreRises scope (so.rows ++ event ∷ [])) all
-          (rises.row event so.report new.0 so.rises so.is new.1);
-      listed = so.listed;
-    }
+  -- all lines were read
+  pub ends_whole : (told : PageTold) → rest ≡ []
+      → HasFollowed scope lines rest skip before now listing told 0
+  ends_whole told empty = ends told 0 (whole empty)
 
--- a row that ends an act
-goes_on_act : (scope : Scope) (lines rest bare after : List ℕ) (follower next : Follower)
-    (skip : ℕ) (before now later : List PageRise) (listing more : RiseListing) (event : Event)
-    → Follows scope lines rest follower skip before now listing → IsLine rest bare after
-    → TellsRow bare event → Stands follower next event → scope_of next ≡ scope_of follower
-    → HasTakenRow true next listing more now later
-    → Follows scope lines after next skip before later more
-goes_on_act scope lines rest bare after follower next skip before now later listing more event so
-    line tells stands same taken =
-    let rows = so.rows ++ event ∷ [] in
-    let is : IsReport scope rows more.last =
-    subst (λ s. IsReport s rows more.last) (same ∙ so.in_scope)
-    (taken.0 rows (stands so.rows so.stands)) in
-    record {
-      rows = rows;
-      read = row event so.read line tells;
-      stands = stands so.rows so.stands;
-      in_scope = same ∙ so.in_scope;
-      report = more.last;
-      is = is;
-      last = refl;
-      all = so.all ++ rises_between so.report more.last;
-      rises = rises.row event so.report more.last so.rises so.is is;
-      listed = subst (λ made. HasListed skip (so.all ++ made) more before later)
-          (between_alike listing.last so.report more.last so.last)
-          (taken.1 skip so.all before so.listed);
-    }
+  module _ {bare after : List ℕ} (line : IsLine rest bare after) where
+    -- there are too many rows
+    pub ends_too_long : (told : PageTold) → bare ≢ [] → rows_of follower ≡ ROWS_MAX
+        → HasFollowed scope lines rest skip before now listing told 3
+    ends_too_long told some full = ends told 3
+        (too_long (record { after = after; line = line; some = some })
+        (sym so.stands.rows ∙ full))
 
--- a row
-pub goes_on_row : (scope : Scope) (lines rest bare after : List ℕ) (follower next : Follower)
-    (skip : ℕ) (before now later : List PageRise) (listing more : RiseListing) (event : Event)
-    (ended : Bool) (act : Act) → Laws
-    → Follows scope lines rest follower skip before now listing → IsLine rest bare after
-    → TellsRow bare event → Stands follower next event → scope_of next ≡ scope_of follower
-    → ((events : List Event) → StandsFor follower events
-    → IsEndedAct (scope_of follower) events event (ended_act ended act))
-    → HasTakenRow ended next listing more now later
-    → Follows scope lines after next skip before later more
-goes_on_row scope lines rest bare after follower next skip before now later listing more event
-    true act laws so line tells stands same ended taken =
-    goes_on_act scope lines rest bare after follower next skip before now later listing more event
-    so line tells stands same taken
-goes_on_row scope lines rest bare after follower next skip before now later listing more event
-    false act laws so line tells stands same ended taken =
-    subst (λ l. Follows scope lines after next skip before later l) (sym taken.0)
-    (subst (λ r. Follows scope lines after next skip before r listing) (sym taken.1)
-    (goes_on_quiet scope lines rest bare after follower next skip before now listing event laws so
-    line tells stands same ended))
+    -- the next line is no row
+    pub ends_no_row : (told : PageTold) (fault : LineFault) (answer : ℕ) → bare ≢ []
+        → IsFaultOf bare fault → IsLineAnswer fault told answer
+        → HasFollowed scope lines rest skip before now listing told answer
+    ends_no_row told fault answer some is told_so = ends told answer
+        (no_row_so scope rest bare after so.rows fault told answer line some is told_so)
 
--- Where this ends, by what ends it.
+    -- A row comes next.
+    module _ {event : Event} (tells : TellsRow bare event) where
+      -- it can't be
+      pub ends_broken : (told : PageTold) (offence : Offence)
+          → ((events : List Event) → StandsFor follower events
+          → IsOffence (scope_of follower) events event offence)
+          → HasFollowed scope lines rest skip before now listing told 1
+      ends_broken told offence refused = ends told 1
+          (broken event offence (row event start line tells)
+          (rw so.in_scope at (refused so.rows so.stands)))
 
--- the offence by which a row is refused
-pub refused_by : {Refuses : Offence → Type 0} (met : Option Offence) → IsSomeAnd met Refuses
-    → (offence : Offence) × Refuses offence
-refused_by None refuses = absurd refuses
-refused_by (Some offence) refuses = (offence, refuses)
+      module _ {next : Follower} (stands : Stands follower next event)
+          (same : scope_of next ≡ scope_of follower) where
+        -- it ends no act
+        goes_on_quiet : Laws
+            → ((events : List Event) → StandsFor follower events
+            → IsEndedAct (scope_of follower) events event None)
+            → Follows scope lines after next skip before now listing
+        goes_on_quiet laws ended =
+            let none_ended : IsEndedAct scope so.rows event None =
+            rw so.in_scope at (ended so.rows so.stands) in
+            let new = stays scope laws so.rows event so.report so.is none_ended in
+            let all : so.all ++ rises_between so.report new.0 ≡ so.all =
+            ap (λ more. so.all ++ more) (none_between so.report new.0 new.2)
+            ∙ append-nil so.all in
+            record {
+              rows = so.rows ++ event ∷ [];
+              read = row event so.read line tells;
+              stands = stands so.rows so.stands;
+              in_scope = same ∙ so.in_scope;
+              report = new.0;
+              is = new.1;
+              last = so.last ∙ sym new.2;
+              all = so.all;
+              rises = rw all at (rises.row event so.report new.0 so.rises so.is new.1);
+              listed = so.listed;
+            }
 
-ends : (scope : Scope) (lines rest : List ℕ) (follower : Follower) (skip : ℕ)
-    (before now : List PageRise) (listing : RiseListing) (told : PageTold) (answer : ℕ)
-    → (so : Follows scope lines rest follower skip before now listing)
-    → EndsSo scope so.rows rest told.fault answer
-    → HasFollowed scope lines rest skip before now listing told answer
-ends scope lines rest follower skip before now listing told answer so why = record {
-  rows = so.rows;
-  read = so.read;
-  ends = why;
-  all = so.all;
-  rises = so.rises;
-  listed = so.listed;
-}
+        -- it ends an act
+        goes_on_act : {later : List PageRise} {more : RiseListing}
+            → HasTakenRow true next listing more now later
+            → Follows scope lines after next skip before later more
+        goes_on_act {later = later} {more = more} taken =
+            let rows = so.rows ++ event ∷ [] in
+            let is : IsReport scope rows more.last =
+            rw (same ∙ so.in_scope) at (taken.0 rows (stands so.rows so.stands)) in
+            record {
+              rows = rows;
+              read = row event so.read line tells;
+              stands = stands so.rows so.stands;
+              in_scope = same ∙ so.in_scope;
+              report = more.last;
+              is = is;
+              last = refl;
+              all = so.all ++ rises_between so.report more.last;
+              rises = rises.row event so.report more.last so.rises so.is is;
+              listed = subst (λ made. HasListed skip (so.all ++ made) more before later)
+                  (between_alike listing.last so.report more.last so.last)
+                  (taken.1 skip so.all before so.listed);
+            }
 
--- all lines were read
-pub ends_whole : (scope : Scope) (lines rest : List ℕ) (follower : Follower) (skip : ℕ)
-    (before now : List PageRise) (listing : RiseListing) (told : PageTold)
-    → Follows scope lines rest follower skip before now listing → rest ≡ []
-    → HasFollowed scope lines rest skip before now listing told 0
-ends_whole scope lines rest follower skip before now listing told so empty =
-    ends scope lines rest follower skip before now listing told 0 so (whole empty)
-
--- the next row can't be
-pub ends_broken : (scope : Scope) (lines rest bare after : List ℕ) (follower : Follower)
-    (skip : ℕ) (before now : List PageRise) (listing : RiseListing) (told : PageTold)
-    (event : Event) (offence : Offence)
-    → Follows scope lines rest follower skip before now listing → IsLine rest bare after
-    → TellsRow bare event
-    → ((events : List Event) → StandsFor follower events
-    → IsOffence (scope_of follower) events event offence)
-    → HasFollowed scope lines rest skip before now listing told 1
-ends_broken scope lines rest bare after follower skip before now listing told event offence so
-    line tells refused =
-    ends scope lines rest follower skip before now listing told 1 so
-    (broken event offence (row event start line tells)
-    (subst (λ s. IsOffence s so.rows event offence) so.in_scope (refused so.rows so.stands)))
-
--- there are too many rows
-pub ends_too_long : (scope : Scope) (lines rest bare after : List ℕ) (follower : Follower)
-    (skip : ℕ) (before now : List PageRise) (listing : RiseListing) (told : PageTold)
-    → Follows scope lines rest follower skip before now listing → IsLine rest bare after
-    → bare ≢ [] → rows_of follower ≡ ROWS_MAX
-    → HasFollowed scope lines rest skip before now listing told 3
-ends_too_long scope lines rest bare after follower skip before now listing told so line some full =
-    ends scope lines rest follower skip before now listing told 3 so
-    (too_long (record { after = after; line = line; some = some })
-    (sym so.stands.rows ∙ full))
-
--- the next line is no row
-no_row_so : (scope : Scope) (rest bare after : List ℕ) (rows : List Event) (fault : LineFault)
-    (told : PageTold) (answer : ℕ) → IsLine rest bare after → bare ≢ [] → IsFaultOf bare fault
-    → IsLineAnswer fault told answer → EndsSo scope rows rest told.fault answer
-no_row_so scope rest bare after rows (faults.BadRow why) told answer line some is told_so =
-    let two : answer ≡ 2 = told_so.row_fault why refl in
-    let bad = told_so.bad_row two in
-    subst (EndsSo scope rows rest told.fault) (sym two)
-    (no_row bad.0
-    (record { bare = bare; after = after; line = line; some = some; is = is.0 bad.0 bad.1 })
-    bad.2)
-no_row_so scope rest bare after rows faults.Unread told answer line some is told_so =
-    subst (EndsSo scope rows rest told.fault) (sym (told_so.unread refl))
-    (unread (record { after = after; line = line; some = some }) (is.1 refl))
-
-pub ends_no_row : (scope : Scope) (lines rest bare after : List ℕ) (follower : Follower)
-    (skip : ℕ) (before now : List PageRise) (listing : RiseListing) (told : PageTold)
-    (fault : LineFault) (answer : ℕ)
-    → Follows scope lines rest follower skip before now listing → IsLine rest bare after
-    → bare ≢ [] → IsFaultOf bare fault → IsLineAnswer fault told answer
-    → HasFollowed scope lines rest skip before now listing told answer
-ends_no_row scope lines rest bare after follower skip before now listing told fault answer so line
-    some is told_so =
-    ends scope lines rest follower skip before now listing told answer so
-    (no_row_so scope rest bare after so.rows fault told answer line some is told_so)
+        -- whether it ends one, or none
+        pub goes_on_row : {later : List PageRise} {more : RiseListing} (ended : Bool) (act : Act)
+            → Laws
+            → ((events : List Event) → StandsFor follower events
+            → IsEndedAct (scope_of follower) events event (ended_act ended act))
+            → HasTakenRow ended next listing more now later
+            → Follows scope lines after next skip before later more
+        goes_on_row true act laws is_ended taken = goes_on_act taken
+        goes_on_row false act laws is_ended taken =
+            rw (taken.0, taken.1) (goes_on_quiet laws is_ended)

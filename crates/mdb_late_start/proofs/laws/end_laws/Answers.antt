@@ -1,4 +1,5 @@
-use Rattle.mdb_late_start.proofs.EachStays.{each_stays}
+-- What the laws of runs rest on.
+use Rattle.mdb_late_start.proofs.Readers.{each_stays}
 use Rattle.mdb_late_start.proofs.laws.end_laws.Goals as goal
 
 pub returns : goal.returns

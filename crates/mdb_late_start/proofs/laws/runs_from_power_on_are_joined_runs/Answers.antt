@@ -1,5 +1,7 @@
+-- Each run from power-on is one in mid-session.
 use Rattle.mdb_late_start.proofs.FromPowerOn.{run_joined}
 use Rattle.mdb_late_start.proofs.laws.runs_from_power_on_are_joined_runs.Goals as goal
 
 pub returns : goal.returns
-returns c = run_joined c.end_laws.ensures c.act_lists_from_power_on_are_joined_ones.ensures
+returns c = λ profile setups. run_joined c.end_laws.ensures profile setups
+    (c.act_lists_from_power_on_are_joined_ones.ensures profile setups)

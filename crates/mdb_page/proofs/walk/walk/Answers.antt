@@ -1,7 +1,6 @@
-use Rattle.std.proofs.Common.{◌≡◌, ◌<◌, ◌≤◌, [], List, ℕ, length, arith, refl, subst}
+-- A walk lists the acts of the lines so far, by what each line is.
+use Rattle.std.proofs.Common.{◌≡◌, ◌<◌, ◌≤◌, [], List, ℕ, length, arith, refl}
 use Rattle.std.proofs.Math.Nat.{le_refl}
-use Rattle.mdb_bus.specs.Bus.{scope_of}
-use Rattle.mdb_page.specs.Lines.{IsBare}
 use Rattle.mdb_page.proofs.Walks as walks
 use Rattle.mdb_page.proofs.walk.walk.Goals as goal
 
@@ -14,25 +13,13 @@ loop-act-init c = record {
 }
 
 pub loop-act-preserved : goal.loop-act-preserved
-loop-act-preserved c =
-    let before = c.loop-act.invariant in
-    let bare = c.without_return-line.result.now in
-    let less : length c.first_line.result.1.now < length c.loop-act.rest.now =
-    c.first_line.ensures.shorter in
-    let few : length c.loop-act.rest.now ≤ length c.args.rest.now.now = before.left in
-    let empty : bare ≡ [] =
-    walks.has_none bare c.if-not-is_empty.ensures in
-    record {
-      left = omega arith;
-      few = before.few;
-      walks = walks.goes_on_blank (scope_of c.args.bus.now) c.args.rest.now.now
-          c.loop-act.rest.now c.first_line.result.1.now c.loop-act.bus
-          c.args.lists.now.acts.first c.args.acts.now c.loop-act.acts c.loop-act.lists.acts
-          c.loop-act.rows before.walks (walks.line_of
-          c.first_line.ensures.line
-          (subst (λ (line : List ℕ). IsBare c.first_line.result.0.now line) empty
-          c.without_return-line.ensures));
-    }
+loop-act-preserved c = record {
+  left = omega (arith, c.first_line.ensures.shorter, c.loop-act.invariant.left);
+  few = c.loop-act.invariant.few;
+  walks = walks.goes_on_blank c.loop-act.invariant.walks (walks.blank_line_of
+      c.without_return-line.result.now c.first_line.ensures.line c.without_return-line.ensures
+      c.if-not-is_empty.ensures);
+}
 
 pub take-requires-clause-names : goal.take-requires-clause-names
 take-requires-clause-names c =
@@ -42,49 +29,30 @@ take-requires-clause-names c =
     c.in-Ok-feed_into.ensures.goes_on
 
 pub loop-act-preserved-in-Ok-feed_into : goal.loop-act-preserved-in-Ok-feed_into
-loop-act-preserved-in-Ok-feed_into c =
-    let before = c.loop-act.invariant in
-    let less : length c.first_line.result.1.now < length c.loop-act.rest.now =
-    c.first_line.ensures.shorter in
-    let few : length c.loop-act.rest.now ≤ length c.args.rest.now.now = before.left in
-    record {
-      left = omega arith;
-      few = omega (arith, c.take.ensures.last, c.if-rows-ge-ROWS_MAX.false);
-      walks = walks.goes_on_row (scope_of c.args.bus.now) c.args.rest.now.now
-          c.loop-act.rest.now c.without_return-line.result.now c.first_line.result.1.now
-          c.loop-act.bus c.feed_into.new.self c.args.lists.now.acts.first c.args.acts.now
-          c.loop-act.acts c.take.new.acts c.loop-act.lists.acts c.take.new.self.acts
-          c.loop-act.rows c.take.new.rows c.in-Ok.event c.in-Ok-feed_into.ended
-          c.feed_into.new.act c.start-at.result before.walks
-          (walks.line_of c.first_line.ensures.line c.without_return-line.ensures)
-          c.in-Ok.ensures.row c.in-Ok-feed_into.ensures.goes_on c.in-Ok-feed_into.ensures.scope
-          c.start-at.ensures c.take.ensures.taken;
-    }
+loop-act-preserved-in-Ok-feed_into c = record {
+  left = omega (arith, c.first_line.ensures.shorter, c.loop-act.invariant.left);
+  few = omega (arith, c.take.ensures.last, c.if-rows-ge-ROWS_MAX.false);
+  walks = walks.goes_on_row c.loop-act.invariant.walks
+      (walks.line_of c.first_line.ensures.line c.without_return-line.ensures)
+      c.in-Ok-feed_into.ended c.feed_into.new.act c.in-Ok.ensures.row
+      c.in-Ok-feed_into.ensures.goes_on c.in-Ok-feed_into.ensures.scope c.start-at.ensures
+      c.take.ensures.taken;
+}
 
 pub returns-then-rows-ge-ROWS_MAX-clause-walked : goal.returns-then-rows-ge-ROWS_MAX-clause-walked
 returns-then-rows-ge-ROWS_MAX-clause-walked c =
-    let before = c.loop-act.invariant in
-    let bare = c.without_return-line.result.now in
-    walks.ends_too_long (scope_of c.args.bus.now) c.args.rest.now.now c.loop-act.rest.now bare
-    c.first_line.result.1.now c.loop-act.bus c.args.lists.now.acts.first c.args.acts.now
-    c.loop-act.acts c.cut.new.acts c.loop-act.lists.acts c.cut.new.self.acts c.loop-act.rows _
-    before.walks
+    walks.ends_too_long c.loop-act.invariant.walks
     (walks.line_of c.first_line.ensures.line c.without_return-line.ensures)
-    (walks.has_bytes bare c.if-not-is_empty.ensures)
-    refl (omega (arith, before.few, c.if-rows-ge-ROWS_MAX.true)) c.cut.ensures
+    (walks.has_bytes c.without_return-line.result.now c.if-not-is_empty.ensures) _ refl
+    (omega (arith, c.loop-act.invariant.few, c.if-rows-ge-ROWS_MAX.true)) c.cut.ensures
 
 pub returns-in-Err-clause-walked : goal.returns-in-Err-clause-walked
 returns-in-Err-clause-walked c =
-    let before = c.loop-act.invariant in
-    let bare = c.without_return-line.result.now in
-    walks.ends_no_row (scope_of c.args.bus.now) c.args.rest.now.now c.loop-act.rest.now bare
-    c.first_line.result.1.now c.loop-act.bus c.args.lists.now.acts.first c.args.acts.now
-    c.loop-act.acts c.cut-in-Err.new.acts c.loop-act.lists.acts c.cut-in-Err.new.self.acts
-    c.loop-act.rows c.line_answer.new.told c.in-Err.fault c.line_answer.result before.walks
+    walks.ends_no_row c.loop-act.invariant.walks
     (walks.line_of c.first_line.ensures.line c.without_return-line.ensures)
-    (walks.has_bytes bare c.if-not-is_empty.ensures)
-    c.line_answer.ensures.row c.if-rows-ge-ROWS_MAX.false
-    (c.in-Err.ensures.none, c.in-Err.ensures.unread)
+    (walks.has_bytes c.without_return-line.result.now c.if-not-is_empty.ensures)
+    c.line_answer.new.told c.line_answer.ensures.row c.in-Err.fault c.line_answer.result
+    c.if-rows-ge-ROWS_MAX.false (c.in-Err.ensures.none, c.in-Err.ensures.unread)
     (record {
       row_fault = c.line_answer.ensures.row_fault;
       bad_row = c.line_answer.ensures.bad_row;
@@ -94,20 +62,14 @@ returns-in-Err-clause-walked c =
 
 pub returns-in-Err-feed_into-clause-walked : goal.returns-in-Err-feed_into-clause-walked
 returns-in-Err-feed_into-clause-walked c =
-    let before = c.loop-act.invariant in
-    let bare = c.without_return-line.result.now in
-    walks.ends_broken (scope_of c.args.bus.now) c.args.rest.now.now c.loop-act.rest.now bare
-    c.first_line.result.1.now c.loop-act.bus c.args.lists.now.acts.first c.args.acts.now
-    c.loop-act.acts c.loop-act.lists.acts c.loop-act.rows _ c.in-Ok.event
-    c.in-Err-feed_into.field-0 before.walks
+    walks.ends_broken c.loop-act.invariant.walks
     (walks.line_of c.first_line.ensures.line c.without_return-line.ensures)
-    (walks.has_bytes bare c.if-not-is_empty.ensures)
-    refl c.if-rows-ge-ROWS_MAX.false c.in-Ok.ensures.row c.in-Err-feed_into.ensures.faults
+    (walks.has_bytes c.without_return-line.result.now c.if-not-is_empty.ensures) _ refl c.in-Ok.event
+    c.in-Err-feed_into.field-0 c.if-rows-ge-ROWS_MAX.false c.in-Ok.ensures.row
+    c.in-Err-feed_into.ensures.faults
 
 pub returns-clause-walked : goal.returns-clause-walked
 returns-clause-walked c =
-    let before = c.loop-act.invariant in
-    walks.ends_whole (scope_of c.args.bus.now) c.args.rest.now.now c.loop-act.rest.now
-    c.loop-act.bus c.args.lists.now.acts.first c.args.acts.now c.loop-act.acts
-    c.cut-2.new.acts c.loop-act.lists.acts c.cut-2.new.self.acts c.loop-act.rows _ before.walks
-    (walks.has_none c.loop-act.rest.now c.loop-act-test.ensures) refl before.few c.cut-2.ensures
+    walks.ends_whole c.loop-act.invariant.walks _
+    (walks.has_none c.loop-act.rest.now c.loop-act-test.ensures) refl c.loop-act.invariant.few
+    c.cut-2.ensures

@@ -1,3 +1,4 @@
+-- The entries of the accounts so far are listed, and so those of all.
 use Rattle.std.proofs.Common.{◌++◌, ◌∙◌, ap, arith, flat_map, get_or, refl, take}
 use Rattle.mdb_follow.specs.declared.account_name.AccountName.TheVariants.{CoinsIn}
 use Rattle.mdb_follow.specs.declared.account_name.TheConstants.AccountName.{ALL}
@@ -13,8 +14,7 @@ loop-name-preserved c =
       last = c.take_account.ensures.last ∙ before.last;
       count = omega (arith, c.take_account.ensures.count, before.count);
       listed = λ skip all first has.
-          one_name_more (rises_in c.args.self.now.last report) skip all first
-          c.take_account.new.rises c.take_account.new.self ALL c.loop-name.name-index CoinsIn _
+          one_name_more all (rises_in c.args.self.now.last report) ALL c.loop-name.name-index CoinsIn _
           c.loop-name-test.true
           (ap (λ last. rises_in last report (get_or ALL c.loop-name.name-index CoinsIn))
           before.last)
@@ -25,6 +25,6 @@ loop-name-preserved c =
 
 pub returns-clause-listed : goal.returns-clause-listed
 returns-clause-listed c skip all before has =
-    all_names (rises_in c.args.self.now.last c.args.report.now) skip all before c.loop-name.rises
-    c.loop-name.self _ ALL c.loop-name.name-index c.loop-name-test.false refl refl
+    all_names all (rises_in c.args.self.now.last c.args.report.now) ALL c.loop-name.name-index
+    c.loop-name-test.false refl refl
     (c.loop-name.invariant.listed skip all before has)

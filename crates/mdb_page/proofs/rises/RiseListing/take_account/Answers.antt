@@ -1,5 +1,6 @@
-use Rattle.mdb_page.specs.Rises.{rise_of}
+-- Both sides of an account are listed.
 use Rattle.std.proofs.Common.{◌++◌, refl}
+use Rattle.mdb_page.specs.Rises.{rise_of}
 use Rattle.mdb_page.proofs.RiseLists.{lists_account}
 use Rattle.mdb_page.proofs.rises.RiseListing.take_account.Goals as goal
 
@@ -7,9 +8,8 @@ pub returns-clause-listed : goal.returns-clause-listed
 returns-clause-listed c skip all before has =
     let was = c.account-before.result in
     let is = c.account-after.result in
-    lists_account skip c.args.report.now.rows c.place-account.result c.args.self.now.last
-    c.args.report.now c.args.name was is all before c.take_range-2.new.rises
-    c.take_range-2.new.self c.account-before.ensures c.account-after.ensures refl
+    lists_account all c.args.report.now.rows c.place-account.result c.args.self.now.last
+    c.args.report.now c.args.name was is c.account-before.ensures c.account-after.ensures refl
     c.place-account.ensures.place
     (c.take_range-2.ensures.listed skip
     (all ++ rise_of c.args.report.now.rows c.place-account.result 0 was.device is.device) before
