@@ -9,9 +9,9 @@ use Rattle.mdb_records.specs.ToCome.{ToCome}
 use Rattle.mdb_verdict.specs.declared.batch.Next.{Next}
 use Rattle.mdb_verdict.specs.declared.batch.Next.TheVariants as next
 use Rattle.mdb_verdict.specs.declared.fault.RunFault.{RunFault}
-use Rattle.mdb_verdict.specs.declared.fault.RunFault.TheVariants.{BadRow, TooLong, Read, Write, Memory}
+use Rattle.mdb_verdict.specs.declared.fault.RunFault.TheVariants.{TooLong, Read, Memory}
 use Rattle.mdb_verdict.specs.Batch.{FindsAtMost, FitsIn, HasRead, IsMet}
-use Rattle.mdb_verdict.specs.Ending.{AreRead, EndsAfter, FindsUpTo, HasEnded, HasFirst, HasTakenOrStopped, IsHeard, IsStop, IsStopped, IsTakenInPart, IsTakenWhole, IsToldEnd, goes_on_by}
+use Rattle.mdb_verdict.specs.Ending.{AreRead, EndsAfter, FindsUpTo, HasEnded, HasFirst, IsHeard, IsStopped, IsTakenInPart, IsTakenWhole, IsToldEnd, goes_on_by}
 use Rattle.mdb_verdict.specs.Verdict.{run_fault_of}
 use Rattle.mdb_verdict.proofs.Rows.{all_append, empty, first_row, no_rows}
 use Rattle.mdb_verdict.proofs.Verdicts.{handed}

@@ -11,7 +11,6 @@ use Rattle.mdb_follow.specs.Ranges.{IsRange}
 use Rattle.mdb_follow.specs.AccountRanges.{IsAccount}
 use Rattle.mdb_follow.specs.Report.{IsReport}
 use Rattle.mdb_follow.specs.Runs.{AllSums, IsReached, Run}
-use Rattle.mdb_follow.specs.Sales.{SalesFollowApprovals}
 use Rattle.mdb_follow.specs.Sums.{AccountSums}
 use Rattle.mdb_text.specs.declared.outcome.Outcome.{Outcome}
 use Rattle.mdb_text.specs.declared.outcome.Outcome.TheVariants.{Yes, No}

@@ -14,7 +14,7 @@ use Rattle.mdb_follow.specs.Runs.{IsReached}
 use Rattle.mdb_text.specs.declared.outcome.Outcome.{Outcome}
 use Rattle.mdb_text.specs.declared.outcome.Outcome.TheVariants.{Yes, No}
 use Rattle.mdb_verdict.specs.declared.fault.RunFault.{RunFault}
-use Rattle.mdb_verdict.specs.declared.fault.RunFault.TheVariants.{BadRow, TooLong, Read, Write, Memory}
+use Rattle.mdb_verdict.specs.declared.fault.RunFault.TheVariants.{BadRow, TooLong}
 use Rattle.mdb_verdict.specs.Verdict.{IsAnswer, IsOwnAnswer, LeadUpTo}
 use Rattle.mdb_verdict.specs.Rows.{AreRows}
 use Rattle.mdb_bus.specs.declared.scope.Scope.{Scope}

@@ -6,13 +6,12 @@ use Rattle.mdb_records.specs.declared.ReadFault.TheVariants as reading
 use Rattle.mdb_records.specs.declared.Records.{Records}
 use Rattle.mdb_records.specs.ToCome.{IsOverLimit, fault_of}
 use Rattle.mdb_verdict.specs.declared.fault.RunFault.{RunFault}
-use Rattle.mdb_verdict.specs.declared.fault.RunFault.TheVariants.{BadRow, TooLong, Read, Write, Memory}
+use Rattle.mdb_verdict.specs.declared.fault.RunFault.TheVariants.{Write, Memory}
 use Rattle.mdb_verdict.specs.Ending.{IsHeard, IsToldEnd}
 use Rattle.mdb_verdict.specs.Telling.{IsFinished, IsMetBy, IsNotTaken, IsOfOutput, Reads, Tells, broken, cut, whole}
 use Rattle.mdb_verdict.specs.Verdict.{HasCause, run_fault_of}
 use Rattle.mdb_writing.specs.Answers.{IsSent}
 use Rattle.mdb_writing.specs.Output.{Output, begun}
-use Rattle.mdb_writing.specs.Written.{HasTaken}
 use Rattle.mdb_writing.proofs.Outputs as outputs
 
 -- what holds of a fault holds of an answer that `?` hands on

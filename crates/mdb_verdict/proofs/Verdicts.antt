@@ -16,7 +16,7 @@ use Rattle.mdb_follow.specs.Sales.{SalesFollowApprovals}
 use Rattle.mdb_text.specs.declared.outcome.Outcome.{Outcome}
 use Rattle.mdb_text.specs.declared.outcome.Outcome.TheVariants.{Yes, No}
 use Rattle.mdb_verdict.specs.declared.fault.RunFault.{RunFault}
-use Rattle.mdb_verdict.specs.declared.fault.RunFault.TheVariants.{BadRow, TooLong, Read, Write, Memory}
+use Rattle.mdb_verdict.specs.declared.fault.RunFault.TheVariants.{BadRow, TooLong}
 use Rattle.mdb_verdict.specs.Ending.{AreRead, HasEnded, HasFollowedRows, HasTakenOrStopped, IsStopped, IsTakenWhole}
 use Rattle.mdb_verdict.specs.Verdict.{IsAnswer, IsImpossible, IsYes, LeadUpTo}
 use Rattle.mdb_verdict.specs.Rows.{AreRows}
