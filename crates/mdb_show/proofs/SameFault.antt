@@ -171,7 +171,8 @@ module _ (scope : Scope) (laws : BusLaws scope) where
         → IsNoUpTo (profile_of scope.begins) (length (events_of shown.pieces) + 1) fault answer
     verdict_up_to (Ok (Yes report)) is own =
         elim (compared records shown.shown.done [] (shown.fields ∷ shown.rest) is.rows
-        (events_of shown.pieces) is.told shown.shown.told (append-nil records ∙ shown.shown.split)) [
+        (events_of shown.pieces) is.told shown.shown.told
+        (append-nil records ∙ shown.shown.split)) [
           | inl same ↦ cc (same.1)
           | inr (inl on) ↦ cc (on.record_is)
           | inr (inr on) ↦ none_beyond is.rows on is.is.reached

@@ -50,7 +50,8 @@ module _ {form : LineForm} {scope : Scope} {before now : Output} where
   row_shown : {old new : Lines} {rows : List Event} {event : Event}
       (has : HasShown form scope old before now rows) → new.rows ≡ old.rows + 1
       → new.shown ≡ old.shown → scope_of new.bus ≡ scope_of old.bus
-      → GoesOn new.bus has.pieces event None → HasShown form scope new before now (rows ++ event ∷ [])
+      → GoesOn new.bus has.pieces event None
+      → HasShown form scope new before now (rows ++ event ∷ [])
   row_shown {new = new} {rows = rows} {event = event} has more same kept gone =
       let closed = goes_on_closed (scope_of new.bus) has.pieces gone.longer event gone.grown
       gone.stands.in_order in
@@ -121,7 +122,8 @@ names bus next event act stands law on =
 -- One of the rows, after the first of them.
 module _ {form : LineForm} {scope : Scope} {old lines : Lines} {was now : Output}
     (events : List Event) (i : ℕ) (event : Event) (within : i < length events)
-    (is : event ≡ get_or events i event) (adds : Adds form scope old lines was now (take i events) i)
+    (is : event ≡ get_or events i event)
+    (adds : Adds form scope old lines was now (take i events) i)
   where
     -- one row more of them
     one_more : (earlier : List Event)

@@ -227,13 +227,16 @@ module _ (form : LineForm) (scope : Scope) (pieces longer : List Piece) (row : E
   -- an act that is no break, whose rows come after those that are shown
   of_other : grown.earlier ≡ closed_pieces pieces → shown + length events ≡ rows + 1
       → (IsBreakAct act → ⊥)
-      → lines_of form longer ≡ lines_of form (closed_pieces pieces) ++ ended_text form shown rows act
+      → lines_of form longer
+      ≡ lines_of form (closed_pieces pieces) ++ ended_text form shown rows act
   of_other earlier last not =
-      rw (lines shown (rows + 1) (rw earlier closed) last, earlier, ended_other form shown rows act not)
+      rw (lines shown (rows + 1) (rw earlier closed) last, earlier,
+          ended_other form shown rows act not)
 
   -- the act is a piece of this row alone
   alone : grown.begun ≡ [] → pieces ≡ grown.earlier → IsBreakAct act ⊎ (IsBreakAct act → ⊥)
-      → lines_of form longer ≡ lines_of form (closed_pieces pieces) ++ ended_text form shown rows act
+      → lines_of form longer
+      ≡ lines_of form (closed_pieces pieces) ++ ended_text form shown rows act
   alone none same (inl is) =
       let here : length (events_of grown.earlier) ≡ rows = rw (sym same) counted in
       let last : rows + length events ≡ rows + 1 = omega (arith, long, ap length none) in
@@ -254,7 +257,8 @@ module _ (form : LineForm) (scope : Scope) (pieces longer : List Piece) (row : E
   -- the act is what a tail has become
   of_tail : (tail : Piece) → IsTail tail → piece_events tail ≡ grown.begun
       → pieces ≡ tail ∷ grown.earlier → IsBreakAct act ⊎ (IsBreakAct act → ⊥)
-      → lines_of form longer ≡ lines_of form (closed_pieces pieces) ++ ended_text form shown rows act
+      → lines_of form longer
+      ≡ lines_of form (closed_pieces pieces) ++ ended_text form shown rows act
   of_tail tail is said same (inl broken) =
       let some = some_events scope grown.earlier tail (subst (ArePieces scope) same before).1 in
       let short = break_short scope act events grown.earlier ordered broken in

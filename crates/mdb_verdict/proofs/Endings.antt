@@ -153,7 +153,8 @@ module _ {R Row : Type 0} {Is : List (List ℕ) → Row → Type 0}
       → Has rows
       → HasRead Is Refuses remaining all records rows after → count ≡ length rows
       → FitsIn room later after → count + room ≡ limit + length later
-      → IfErr (goes_on_by after count) (λ fault. HasEnded Is Refuses Has Stops limit all (Err fault))
+      → IfErr (goes_on_by after count)
+      (λ fault. HasEnded Is Refuses Has Stops limit all (Err fault))
   refused_by Has Stops limit {rows = rows} (next.BadRow refused) count room later has read number
       within total = record {
         rows = rows;
