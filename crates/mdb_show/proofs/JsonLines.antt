@@ -35,38 +35,18 @@ IsPlain word = escape word ≡ word
 
 device_plain : (device : Device) → IsPlain (device_word device)
 unfolding json_on_literals
-device_plain Changer = refl
-device_plain Bill = refl
 device_plain (Reader First) = refl
-device_plain (Reader Second) = refl
+device_plain device = refl
 
 blame_plain : (whom : Blame) → IsPlain (blame_word whom)
 unfolding json_on_literals
 blame_plain blame.Controller = refl
-blame_plain blame.Changer = refl
-blame_plain blame.Bill = refl
-blame_plain blame.Cashless = refl
-blame_plain blame.Cashless2 = refl
-blame_plain blame.Other = refl
+blame_plain whom = refl
 
 rule_plain : (broken : Rule) → IsPlain (rule_word broken)
 unfolding json_on_literals
 rule_plain rule.Order = refl
-rule_plain rule.Speaker = refl
-rule_plain rule.Mode = refl
-rule_plain rule.Early = refl
-rule_plain rule.Late = refl
-rule_plain rule.Spacing = refl
-rule_plain rule.Length = refl
-rule_plain rule.Sum = refl
-rule_plain rule.Break = refl
-rule_plain rule.Answer = refl
-rule_plain rule.Message = refl
-rule_plain rule.Same = refl
-rule_plain rule.Profile = refl
-rule_plain rule.Changer = refl
-rule_plain rule.Bill = refl
-rule_plain rule.Cashless = refl
+rule_plain broken = refl
 
 -- so are the digits of bytes
 glyph_plain : (digit : ℕ) → digit < 16
@@ -189,30 +169,32 @@ deed_is : (word : List ℕ) (command : Command) (first last : ℕ) → IsPlain w
     → compact_text (deed_data word (device_members command first last))
     ≡ deed_json word command first last ++ codes "}"
 deed_is word command first last plain =
-    head_is word (device_members command first last) plain
-    ∙ (ap (λ l. head_json word ++ l) (device_is command (rows_members first last no_members)
-    ∙ ap (λ l. device_json command ++ l) (rows_are first last no_members))
-    ∙ group_4 (head_json word) (device_json command) (rows_json first last) (codes "}"))
+    rw (
+      head_is word (device_members command first last) plain,
+      device_is command (rows_members first last no_members),
+      rows_are first last no_members,
+    )
+    (group_4 (head_json word) (device_json command) (rows_json first last) (codes "}"))
 
 block_is : (word content : List ℕ) (command : Command) (first last : ℕ) → IsPlain word
     → compact_text (deed_data word (block_members content command first last))
     ≡ block_json word (block_of content) command first last ++ codes "}"
 block_is word content command first last plain =
-    let bytes : List ℕ = bytes_json (block_of content) in
-    head_is word (block_members content command first last) plain
-    ∙ (ap (λ l. head_json word ++ l) (bytes_are (block_of content)
-    (device_members command first last)
-    ∙ ap (λ l. bytes ++ l) (device_is command (rows_members first last no_members)
-    ∙ ap (λ l. device_json command ++ l) (rows_are first last no_members)))
-    ∙ group_5 (head_json word) bytes (device_json command) (rows_json first last) (codes "}"))
+    rw (
+      head_is word (block_members content command first last) plain,
+      bytes_are (block_of content) (device_members command first last),
+      device_is command (rows_members first last no_members),
+      rows_are first last no_members,
+    )
+    (group_5 (head_json word) (bytes_json (block_of content)) (device_json command)
+    (rows_json first last) (codes "}"))
 
 rows_only_is : (word : List ℕ) (first last : ℕ) → IsPlain word
     → compact_text (deed_data word (rows_members first last no_members))
     ≡ rows_only_json word first last ++ codes "}"
 rows_only_is word first last plain =
-    head_is word (rows_members first last no_members) plain
-    ∙ (ap (λ l. head_json word ++ l) (rows_are first last no_members)
-    ∙ group_3 (head_json word) (rows_json first last) (codes "}"))
+    rw (head_is word (rows_members first last no_members) plain, rows_are first last no_members)
+    (group_3 (head_json word) (rows_json first last) (codes "}"))
 
 break_is : (word : List ℕ) (first last length : ℕ) → IsPlain word
     → compact_text (deed_data word
@@ -220,10 +202,12 @@ break_is : (word : List ℕ) (first last length : ℕ) → IsPlain word
     ≡ (rows_only_json word first last ++ codes ",\"length\":" ++ decimal length) ++ codes "}"
 break_is word first last length plain =
     let more : Members = member (codes "length") (number (unsigned length)) no_members in
-    head_is word (rows_members first last more) plain
-    ∙ (ap (λ l. head_json word ++ l)
-    (rows_are first last more ∙ ap (λ l. rows_json first last ++ l) (length_is length))
-    ∙ group_5 (head_json word) (rows_json first last) (codes ",\"length\":") (decimal length)
+    rw (
+      head_is word (rows_members first last more) plain,
+      rows_are first last more,
+      length_is length,
+    )
+    (group_5 (head_json word) (rows_json first last) (codes ",\"length\":") (decimal length)
     (codes "}"))
 
 act_is : (first last : ℕ) (act : Act)
@@ -257,11 +241,13 @@ faulty_is : (word : List ℕ) (row : ℕ) (fault : LinkFault) → IsPlain word
 faulty_is word row fault plain =
     let rule : Members = member (codes "rule") (string (rule_word fault.rule)) no_members in
     let row_rule : Members = member (codes "row") (number (unsigned row)) rule in
-    head_is word (member (codes "blame") (string (blame_word fault.blame)) row_rule) plain
-    ∙ (ap (λ l. head_json word ++ l) (blame_is fault.blame row_rule
-    ∙ ap (λ l. blame_json fault.blame ++ l) (row_is row rule
-    ∙ ap (λ l. codes ",\"row\":" ++ (decimal row ++ l)) (rule_is fault.rule no_members)))
-    ∙ group_6 (head_json word) (blame_json fault.blame) (codes ",\"row\":") (decimal row)
+    rw (
+      head_is word (member (codes "blame") (string (blame_word fault.blame)) row_rule) plain,
+      blame_is fault.blame row_rule,
+      row_is row rule,
+      rule_is fault.rule no_members,
+    )
+    (group_6 (head_json word) (blame_json fault.blame) (codes ",\"row\":") (decimal row)
     (rule_json fault.rule) (codes "}"))
 
 fault_is : (row : ℕ) (fault : LinkFault)
@@ -292,14 +278,13 @@ fault_line row fault =
 -- what was put, by other words for it
 pub put_as : {T E : Type 0} (answer : Result T E) (new old text same : List ℕ) → text ≡ same
     → OnOk answer (new ≡ old ++ text) → OnOk answer (new ≡ old ++ same)
-put_as (Ok done) new old text same is put = put ∙ ap (λ l. old ++ l) is
+put_as (Ok done) new old text same is put = rw is at put
 put_as (Err e) new old text same is put = tt
 
 -- what was put after something else
 pub then_put : (new between old first more : List ℕ) → between ≡ old ++ first
     → new ≡ between ++ more → new ≡ old ++ (first ++ more)
-then_put new between old first more before put =
-    put ∙ (ap (λ l. l ++ more) before ∙ append_assoc old first more)
+then_put new between old first more before put = rw (put, before) (append_assoc old first more)
 
 pub put_last : {T E : Type 0} (answer : Result T E) (new between old first more : List ℕ)
     → between ≡ old ++ first → OnOk answer (new ≡ between ++ more)

@@ -27,21 +27,11 @@ use Rattle.mdb_verdict.specs.declared.fault.RunFault.{RunFault}
 use Rattle.mdb_verdict.specs.declared.fault.RunFault.TheVariants.{BadRow, TooLong, Read, Write, Memory}
 use Rattle.mdb_show.specs.Show.{IsShownToFaultIn}
 use Rattle.mdb_show.specs.ShownFault.{IsNoUpTo, IsOfMachine}
-use Rattle.mdb_verdict.specs.Verdict.{IsAnswer, IsBadRow, IsImpossible, IsOwnAnswer, IsTooLong}
+use Rattle.mdb_verdict.specs.Verdict.{IsAnswer, IsImpossible, IsOwnAnswer, LeadUpTo}
 use Rattle.mdb_verdict.proofs.OneAnswer.{GoesOn, compared, row_not_refused, row_one}
 use Rattle.mdb_show.proofs.OneShowing.{BusLaws}
 use Rattle.mdb_bus.specs.declared.scope.Scope.{Scope}
 use Rattle.mdb_show.specs.Lines.{LineForm}
-
--- rows and one more that have an act list have one up to that row
-up_to : (scope : Scope) → BusLaws scope → (rows longer more : List Event) (row event : Event)
-    → event ≡ row → longer ≡ rows ++ event ∷ more → HasActList scope longer
-    → HasActList scope (rows ++ row ∷ [])
-up_to scope laws rows longer more row event same is list =
-    let split : longer ≡ (rows ++ event ∷ []) ++ more =
-    is ∙ sym (append_assoc rows (event ∷ []) more) in
-    let P : Event → Type 0 = λ e. HasActList scope (rows ++ e ∷ []) in
-    subst P same (laws.fronts (rows ++ event ∷ []) more (subst (HasActList scope) split list))
 
 -- what counts of a fault is the fault, or by the extended profile that the controller was early
 counted_or_early : (profile : Profile) (haste : Bool) (row : Event) (fault : LinkFault)
@@ -59,185 +49,151 @@ counted_or_early Extended haste row fault = either (haste && is_excused row faul
     either true = inr (refl, refl)
     either false = inl refl
 
--- where rows have an act list with the next row, the offence of that row is a machine's
-earlier_row : (scope : Scope) → BusLaws scope
-    → (rows : List Event) (row : Event) (offence : Offence) → HasActList scope (rows ++ row ∷ [])
-    → IsOffence scope rows row offence → IsOfMachine (profile_of scope.begins) offence
-earlier_row scope laws rows row offence list why_not = by_why why_not.why
-  where
-    by_why : BreaksLink scope rows row offence.rule offence.blame
-        ⊎ BreaksMachine scope rows row offence.rule offence.blame
-        → IsOfMachine (profile_of scope.begins) offence
-    by_why (inl link) =
-        let P : List Event → Type 0 = λ es. HasActList scope (es ++ row ∷ []) in
-        absurd (laws.stops link.pieces row link.fault.first link.act_list.in_order
-        link.fault.rule.breaks (subst P (sym link.act_list.whole) list))
-    by_why (inr machine) =
-        let longer = Whole machine.act (machine.begun ++ row ∷ []) ∷ machine.earlier in
-        elim (counted_or_early (profile_of scope.begins) (is_in_haste scope longer) row
-        (record { rule = machine.own; blame = sender_of machine.act })) [
-          | inl own ↦ inl (
-            machine.no_step.device,
-            machine.counts ∙ (ap (λ (it : LinkFault). it.rule) own ∙ machine.no_step.rule),
-          )
-          | inr early ↦ inr (
-            early.0,
-            machine.counts ∙ ap (λ (it : LinkFault). it.rule) early.1,
-            machine.blame ∙ ap (λ (it : LinkFault). it.blame) early.1,
-          )
+module _ (scope : Scope) (laws : BusLaws scope) where
+  -- rows that have an act list have one up to each row
+  up_to : (rows longer more : List Event) (row : Event) → longer ≡ rows ++ row ∷ more
+      → HasActList scope longer → HasActList scope (rows ++ row ∷ [])
+  up_to rows longer more row is list =
+      let split : longer ≡ (rows ++ row ∷ []) ++ more =
+      is ∙ sym (append_assoc rows (row ∷ []) more) in
+      laws.fronts (rows ++ row ∷ []) more (rw split at list)
+
+  -- where rows have an act list with the next row, the offence of that row is a machine's
+  earlier_row : (rows : List Event) (row : Event) (offence : Offence)
+      → HasActList scope (rows ++ row ∷ []) → IsOffence scope rows row offence
+      → IsOfMachine (profile_of scope.begins) offence
+  earlier_row rows row offence list why_not = by_why why_not.why
+    where
+      by_why : BreaksLink scope rows row offence.rule offence.blame
+          ⊎ BreaksMachine scope rows row offence.rule offence.blame
+          → IsOfMachine (profile_of scope.begins) offence
+      by_why (inl link) = absurd (laws.stops link.pieces row link.fault.first
+          link.act_list.in_order link.fault.rule.breaks (rw link.act_list.whole list))
+      by_why (inr machine) =
+          let longer = Whole machine.act (machine.begun ++ row ∷ []) ∷ machine.earlier in
+          elim (counted_or_early (profile_of scope.begins) (is_in_haste scope longer) row
+          (record { rule = machine.own; blame = sender_of machine.act })) [
+            | inl own ↦ inl (
+              machine.no_step.device,
+              machine.counts ∙ (ap (λ (it : LinkFault). it.rule) own ∙ machine.no_step.rule),
+            )
+            | inr early ↦ inr (
+              early.0,
+              machine.counts ∙ ap (λ (it : LinkFault). it.rule) early.1,
+              machine.blame ∙ ap (λ (it : LinkFault). it.blame) early.1,
+            )
+          ]
+
+  -- at the row of a fault, an offence has its rule and its blame
+  at_the_row : (pieces : List Piece) (row : Event) (fault : LinkFault) (offence : Offence)
+      → ArePieces scope pieces → IsLinkFault scope pieces row fault.rule fault.blame
+      → IsOffence scope (events_of pieces) row offence
+      → (offence.rule ≡ fault.rule) × (offence.blame ≡ fault.blame)
+  at_the_row pieces row fault offence order is why_not = by_why why_not.why
+    where
+      by_why : BreaksLink scope (events_of pieces) row offence.rule offence.blame
+          ⊎ BreaksMachine scope (events_of pieces) row offence.rule offence.blame
+          → (offence.rule ≡ fault.rule) × (offence.blame ≡ fault.blame)
+      by_why (inl link) =
+          let one : link.pieces ≡ pieces = laws.one_list (events_of pieces) link.pieces pieces
+          link.act_list (record { in_order = order; whole = refl }) in
+          laws.one_fault pieces row offence.rule fault.rule offence.blame fault.blame
+          (subst (λ l. IsLinkFault scope l row offence.rule offence.blame) one link.fault) is
+      by_why (inr machine) = absurd (laws.stops pieces row is.first order is.rule.breaks
+          (Whole machine.act (machine.begun ++ row ∷ []) ∷ machine.earlier, machine.act_list))
+
+  module _ (form : LineForm) (records : List (List (List ℕ))) (fault : LinkFault) (text : List ℕ)
+      (shown : IsShownToFaultIn form scope records fault text) where
+    -- no rows that are reached go on with the row of the fault
+    none_beyond : (rows : List Event)
+        → GoesOn (events_of shown.pieces) rows (shown.fields ∷ shown.rest) → IsReached scope rows
+        → ⊥
+    none_beyond rows on reached =
+        let same : on.fields ≡ shown.fields = cc (on.record_is) in
+        let one : on.event ≡ shown.row =
+        row_one shown.fields on.event shown.row (rw same at on.row) shown.row_told in
+        laws.stops shown.pieces shown.row shown.is.first shown.shown.in_order
+        shown.is.rule.breaks (up_to (events_of shown.pieces) rows on.more shown.row
+        (rw one at on.longer_is) (reached.1.pieces, reached.1.act_list))
+
+    -- so where rows lead up to a record, that is a row too: the row of the fault, or one before it
+    abbrev Next : List Event → List (List ℕ) → Type 0
+    Next rows fields = (row : Event) × IsRow fields row
+        × (((rows ≡ events_of shown.pieces) × (row ≡ shown.row))
+        ⊎ ((more : List Event) × (events_of shown.pieces ≡ rows ++ row ∷ more)))
+
+    next : (rows : List Event) (fields : List (List ℕ)) → LeadUpTo scope records rows fields
+        → Next rows fields
+    next rows fields stops =
+        elim (compared stops.done shown.shown.done (fields ∷ stops.rest)
+        (shown.fields ∷ shown.rest) rows (events_of shown.pieces) stops.told shown.shown.told
+        (sym stops.split ∙ shown.shown.split)) [
+          | inl same ↦
+              let one : shown.fields ≡ fields = cc (same.1) in
+              (shown.row, rw one at shown.row_told, inl (same.0, refl))
+          | inr (inl on) ↦
+              let one : on.fields ≡ fields = cc (on.record_is) in
+              (on.event, rw one at on.row, inr (on.more, on.longer_is))
+          | inr (inr on) ↦ absurd (none_beyond rows on stops.possible)
         ]
 
--- at the row of a fault, an offence has its rule and its blame
-at_the_row : (scope : Scope) → BusLaws scope
-    → (pieces : List Piece) (row : Event) (fault : LinkFault) (offence : Offence)
-    → ArePieces scope pieces → IsLinkFault scope pieces row fault.rule fault.blame
-    → IsOffence scope (events_of pieces) row offence
-    → (offence.rule ≡ fault.rule) × (offence.blame ≡ fault.blame)
-at_the_row scope laws pieces row fault offence order is why_not = by_why why_not.why
-  where
-    by_why : BreaksLink scope (events_of pieces) row offence.rule offence.blame
-        ⊎ BreaksMachine scope (events_of pieces) row offence.rule offence.blame
-        → (offence.rule ≡ fault.rule) × (offence.blame ≡ fault.blame)
-    by_why (inl link) =
-        let one : link.pieces ≡ pieces =
-        laws.one_list (events_of pieces) link.pieces pieces link.act_list
-        (record { in_order = order; whole = refl }) in
-        let P : List Piece → Type 0 = λ l. IsLinkFault scope l row offence.rule offence.blame in
-        laws.one_fault pieces row offence.rule fault.rule offence.blame fault.blame
-        (subst P one link.fault) is
-    by_why (inr machine) =
-        absurd (laws.stops pieces row is.first order is.rule.breaks
-        (Whole machine.act (machine.begun ++ row ∷ []) ∷ machine.earlier, machine.act_list))
+    no_up_to : (offence : Offence) → IsImpossible scope ROWS_MAX records offence
+        → IsNoUpTo (profile_of scope.begins) (length (events_of shown.pieces) + 1) fault
+        (Ok (No offence))
+    no_up_to offence is =
+        let (row, told, at) = next is.rows is.fields is.stops in
+        let one : is.row ≡ row = row_one is.fields is.row row is.told told in
+        by row (rw one at is.is) at
+      where
+        by : (row : Event) → IsOffence scope is.rows row offence
+            → ((is.rows ≡ events_of shown.pieces) × (row ≡ shown.row))
+            ⊎ ((more : List Event) × (events_of shown.pieces ≡ is.rows ++ row ∷ more))
+            → IsNoUpTo (profile_of scope.begins) (length (events_of shown.pieces) + 1) fault
+            (Ok (No offence))
+        by row why (inl same) =
+            let here = rw (same.0, same.1) at why in
+            let both = at_the_row shown.pieces shown.row fault offence shown.shown.in_order
+            shown.is here in
+            inr (here.number, both.0, both.1)
+        by row why (inr (more, longer)) =
+            let list : HasActList scope (events_of shown.pieces) =
+            (shown.pieces, record { in_order = shown.shown.in_order; whole = refl }) in
+            let long = length-append is.rows (row ∷ more) in
+            inl (
+              omega (arith, ap length longer, long, why.number),
+              earlier_row is.rows row offence
+                  (up_to is.rows (events_of shown.pieces) more row longer list) why,
+            )
 
--- of two records at the front the fields are the same
-same_fields : (fields others : List (List ℕ)) (rest left : List (List (List ℕ)))
-    → fields ∷ rest ≡ others ∷ left → others ≡ fields
-same_fields fields others rest left same = cc
-
--- records that begin alike begin with one row
-same_row : (fields others : List (List ℕ)) (rest left : List (List (List ℕ))) (row event : Event)
-    → fields ∷ rest ≡ others ∷ left → IsRow fields row → IsRow others event → event ≡ row
-same_row fields others rest left row event same told heard =
-    let P : List (List ℕ) → Type 0 = λ f. IsRow f event in
-    row_one fields event row (subst P (same_fields fields others rest left same) heard) told
-
--- no rows with an act list go on with the row of the fault
-none_beyond : (form : LineForm) (scope : Scope) → BusLaws scope
-    → (records : List (List (List ℕ))) (fault : LinkFault) (text : List ℕ)
-    (shown : IsShownToFaultIn form scope records fault text) (rows : List Event)
-    → GoesOn (events_of shown.pieces) rows (shown.fields ∷ shown.rest) → HasActList scope rows → ⊥
-none_beyond form scope laws records fault text shown rows on list =
-    let same : on.event ≡ shown.row =
-    same_row shown.fields on.fields shown.rest on.after shown.row on.event on.record_is
-    shown.row_told on.row in
-    laws.stops shown.pieces shown.row shown.is.first shown.shown.in_order shown.is.rule.breaks
-    (up_to scope laws (events_of shown.pieces) rows on.more shown.row on.event same on.longer_is
-    list)
-
-nothing_there : (fields : List (List ℕ)) (rest : List (List (List ℕ))) → [] ≡ fields ∷ rest → ⊥
-nothing_there fields rest same = cc same
-
--- the verdict is no yes
-no_yes : (form : LineForm) (scope : Scope) → BusLaws scope
-    → (records : List (List (List ℕ))) (fault : LinkFault) (text : List ℕ)
-    → (shown : IsShownToFaultIn form scope records fault text) → (rows : List Event)
-    → IsReached scope rows
-    → ((rows ≡ events_of shown.pieces) × ([] ≡ shown.fields ∷ shown.rest))
-    ⊎ (GoesOn rows (events_of shown.pieces) []
-    ⊎ GoesOn (events_of shown.pieces) rows (shown.fields ∷ shown.rest))
-    → ⊥
-no_yes form scope laws records fault text shown rows reached (inl same) =
-    nothing_there shown.fields shown.rest same.1
-no_yes form scope laws records fault text shown rows reached (inr (inl on)) =
-    nothing_there on.fields on.after on.record_is
-no_yes form scope laws records fault text shown rows reached (inr (inr on)) =
-    none_beyond form scope laws records fault text shown rows on
-    (reached.1.pieces, reached.1.act_list)
-
--- a no is that fault, or comes before it
-no_up_to : (form : LineForm) (scope : Scope) → BusLaws scope
-    → (records : List (List (List ℕ))) (fault : LinkFault) (text : List ℕ)
-    → (shown : IsShownToFaultIn form scope records fault text) → (offence : Offence)
-    → (is : IsImpossible scope ROWS_MAX records offence)
-    → ((is.rows ≡ events_of shown.pieces) × (is.fields ∷ is.stops.rest ≡ shown.fields ∷ shown.rest))
-    ⊎ (GoesOn is.rows (events_of shown.pieces) (is.fields ∷ is.stops.rest)
-    ⊎ GoesOn (events_of shown.pieces) is.rows (shown.fields ∷ shown.rest))
-    → IsNoUpTo (profile_of scope.begins) (length (events_of shown.pieces) + 1) fault
-    (Ok (No offence))
-no_up_to form scope laws records fault text shown offence is (inl same) =
-    let event : shown.row ≡ is.row =
-    same_row is.fields shown.fields is.stops.rest shown.rest is.row shown.row same.1 is.told
-    shown.row_told in
-    let After : List Event → Type 0 = λ es. IsOffence scope es is.row offence in
-    let OfRow : Event → Type 0 = λ e. IsOffence scope (events_of shown.pieces) e offence in
-    let here : IsOffence scope (events_of shown.pieces) shown.row offence =
-    subst OfRow (sym event) (subst After same.0 is.is) in
-    let both : (offence.rule ≡ fault.rule) × (offence.blame ≡ fault.blame) =
-    at_the_row scope laws shown.pieces shown.row fault offence shown.shown.in_order shown.is
-    here in
-    inr (here.number, both.0, both.1)
-no_up_to form scope laws records fault text shown offence is (inr (inl on)) =
-    let event : on.event ≡ is.row =
-    same_row is.fields on.fields is.stops.rest on.after is.row on.event on.record_is is.told
-    on.row in
-    let list : HasActList scope (is.rows ++ is.row ∷ []) =
-    up_to scope laws is.rows (events_of shown.pieces) on.more is.row on.event event on.longer_is
-    (shown.pieces, record { in_order = shown.shown.in_order; whole = refl }) in
-    let long : length (events_of shown.pieces) ≡ length is.rows + length (on.event ∷ on.more) =
-    ap length on.longer_is ∙ length-append is.rows (on.event ∷ on.more) in
-    inl (
-      omega (arith, long, is.is.number),
-      earlier_row scope laws is.rows is.row offence list is.is,
-    )
-no_up_to form scope laws records fault text shown offence is (inr (inr on)) =
-    absurd (none_beyond form scope laws records fault text shown is.rows on
-    (is.stops.possible.1.pieces, is.stops.possible.1.act_list))
-
--- records that begin alike begin with a row, or with none
-no_refusal : (fields others : List (List ℕ)) (rest left : List (List (List ℕ))) (event : Event)
-    (fault : RowFault) → fields ∷ rest ≡ others ∷ left → IsRefusal fields fault → IsRow others event
-    → ⊥
-no_refusal fields others rest left event fault same refused told =
-    let P : List (List ℕ) → Type 0 = λ f. IsRow f event in
-    row_not_refused fields event fault (subst P (same_fields fields others rest left same) told)
-    refused
-
--- no record before the row of the fault is no row
-no_bad_row : (form : LineForm) (scope : Scope) → BusLaws scope
-    → (records : List (List (List ℕ))) (fault : LinkFault) (text : List ℕ)
-    → (shown : IsShownToFaultIn form scope records fault text) → (row : ℕ) (why : RowFault)
-    → (is : IsBadRow scope ROWS_MAX records row why)
-    → ((is.rows ≡ events_of shown.pieces) × (is.fields ∷ is.stops.rest ≡ shown.fields ∷ shown.rest))
-    ⊎ (GoesOn is.rows (events_of shown.pieces) (is.fields ∷ is.stops.rest)
-    ⊎ GoesOn (events_of shown.pieces) is.rows (shown.fields ∷ shown.rest)) → ⊥
-no_bad_row form scope laws records fault text shown row why is (inl same) =
-    no_refusal is.fields shown.fields is.stops.rest shown.rest shown.row why same.1 is.refused
-    shown.row_told
-no_bad_row form scope laws records fault text shown row why is (inr (inl on)) =
-    no_refusal is.fields on.fields is.stops.rest on.after on.event why on.record_is is.refused
-    on.row
-no_bad_row form scope laws records fault text shown row why is (inr (inr on)) =
-    none_beyond form scope laws records fault text shown is.rows on
-    (is.stops.possible.1.pieces, is.stops.possible.1.act_list)
-
--- nor are there too many
-not_too_long : (form : LineForm) (scope : Scope) → BusLaws scope
-    → (records : List (List (List ℕ))) (fault : LinkFault) (text : List ℕ)
-    → (shown : IsShownToFaultIn form scope records fault text)
-    → (is : IsTooLong scope ROWS_MAX records)
-    → ((is.rows ≡ events_of shown.pieces) × (is.fields ∷ is.stops.rest ≡ shown.fields ∷ shown.rest))
-    ⊎ (GoesOn is.rows (events_of shown.pieces) (is.fields ∷ is.stops.rest)
-    ⊎ GoesOn (events_of shown.pieces) is.rows (shown.fields ∷ shown.rest)) → ⊥
-not_too_long form scope laws records fault text shown is (inl same) =
-    let many : length is.rows ≡ length (events_of shown.pieces) = ap length same.0 in
-    omega (arith, many, is.full, shown.few)
-not_too_long form scope laws records fault text shown is (inr (inl on)) =
-    let long : length (events_of shown.pieces) ≡ length is.rows + length (on.event ∷ on.more) =
-    ap length on.longer_is ∙ length-append is.rows (on.event ∷ on.more) in
-    omega (arith, long, is.full, shown.few)
-not_too_long form scope laws records fault text shown is (inr (inr on)) =
-    none_beyond form scope laws records fault text shown is.rows on
-    (is.stops.possible.1.pieces, is.stops.possible.1.act_list)
+    -- the verdict is a no, at that row or before it
+    verdict_up_to : (answer : Result Outcome RunFault) → IsAnswer scope ROWS_MAX records answer
+        → IsOwnAnswer answer
+        → IsNoUpTo (profile_of scope.begins) (length (events_of shown.pieces) + 1) fault answer
+    verdict_up_to (Ok (Yes report)) is own =
+        elim (compared records shown.shown.done [] (shown.fields ∷ shown.rest) is.rows
+        (events_of shown.pieces) is.told shown.shown.told
+        (append-nil records ∙ shown.shown.split)) [
+          | inl same ↦ cc (same.1)
+          | inr (inl on) ↦ cc (on.record_is)
+          | inr (inr on) ↦ none_beyond is.rows on is.is.reached
+        ]
+    verdict_up_to (Ok (No offence)) is own = no_up_to offence is
+    verdict_up_to (Err (BadRow row why)) is own =
+        let (event, told, at) = next is.rows is.fields is.stops in
+        row_not_refused is.fields event why told is.refused
+    verdict_up_to (Err TooLong) is own =
+        let (event, told, at) = next is.rows is.fields is.stops in
+        elim at [
+          | inl same ↦ omega (arith, ap length same.0, is.full, shown.few)
+          | inr on ↦ omega (
+            arith,
+            ap length on.1,
+            length-append is.rows (event ∷ on.0),
+            is.full,
+            shown.few,
+          )
+        ]
+    verdict_up_to (Err fault) is own = own
 
 pub same_fault : (form : LineForm) (scope : Scope) → BusLaws scope
     → (records : List (List (List ℕ))) (fault : LinkFault) (text : List ℕ)
@@ -246,25 +202,5 @@ pub same_fault : (form : LineForm) (scope : Scope) → BusLaws scope
     → IsAnswer scope ROWS_MAX records answer
     → IsOwnAnswer answer → IsNoUpTo (profile_of scope.begins) (length (events_of shown.pieces) + 1)
     fault answer
-same_fault form scope laws records fault text (Ok (Yes report)) shown is own =
-    no_yes form scope laws records fault text shown is.rows is.is.reached
-    (compared records shown.shown.done [] (shown.fields ∷ shown.rest) is.rows
-    (events_of shown.pieces) is.told shown.shown.told (append-nil records ∙ shown.shown.split))
-same_fault form scope laws records fault text (Ok (No offence)) shown is own =
-    no_up_to form scope laws records fault text shown offence is
-    (compared is.stops.done shown.shown.done (is.fields ∷ is.stops.rest) (shown.fields ∷ shown.rest)
-    is.rows (events_of shown.pieces) is.stops.told shown.shown.told
-    (sym is.stops.split ∙ shown.shown.split))
-same_fault form scope laws records fault text (Err (BadRow row why)) shown is own =
-    no_bad_row form scope laws records fault text shown row why is
-    (compared is.stops.done shown.shown.done (is.fields ∷ is.stops.rest) (shown.fields ∷ shown.rest)
-    is.rows (events_of shown.pieces) is.stops.told shown.shown.told
-    (sym is.stops.split ∙ shown.shown.split))
-same_fault form scope laws records fault text (Err TooLong) shown is own =
-    not_too_long form scope laws records fault text shown is
-    (compared is.stops.done shown.shown.done (is.fields ∷ is.stops.rest) (shown.fields ∷ shown.rest)
-    is.rows (events_of shown.pieces) is.stops.told shown.shown.told
-    (sym is.stops.split ∙ shown.shown.split))
-same_fault form scope laws records fault text (Err Read) shown is own = absurd own
-same_fault form scope laws records fault text (Err Write) shown is own = absurd own
-same_fault form scope laws records fault text (Err Memory) shown is own = absurd own
+same_fault form scope laws records fault text answer shown =
+    verdict_up_to scope laws form records fault text shown answer

@@ -1,7 +1,7 @@
 -- The lines of `show`, as a row adds to them.
-use Rattle.std.proofs.Common.{arith, refl, ap, sym, subst, ◌∙◌, inl, inr, ◌≡◌, ◌+◌, ◌/◌, ◌%◌, ◌<◌, ◌⊎◌, ℕ, Bool, true, false, List, [], ◌∷◌, ◌++◌, Option, Some, None, length, length-append, append_assoc, nat_lt, Result, Ok, Err, if◌then◌else◌}
+use Rattle.std.proofs.Common.{arith, refl, ap, sym, subst, ◌∙◌, inl, inr, ◌≡◌, ◌+◌, ◌/◌, ◌%◌, ◌<◌, ◌⊎◌, ℕ, true, List, [], ◌∷◌, ◌++◌, Option, Some, None, length, length-append, append_assoc, Result, Ok, Err, if◌then◌else◌}
 use Rattle.std.proofs.lemmas.List.{append-nil, take_more}
-use Rattle.std.proofs.lemmas.Bool.{ltb-true, ltb-false}
+use Rattle.std.proofs.lemmas.Bool.Decides.{nat_tests}
 use Rattle.std.specs.Prelude.{OnOk, get_or, is_ok, take}
 use Rattle.std.specs.Fmt.{digit_glyph}
 use Rattle.mdb_words.specs.declared.event.Event.{Event}
@@ -30,23 +30,21 @@ pub bytes_more : (now front bytes : List ℕ) (i : ℕ) → i < length bytes
     → low ≡ digit_glyph true (get_or bytes i 0 % 16) → new ≡ now ++ 32 ∷ high ∷ low ∷ []
     → new ≡ front ++ bytes_text (take (i + 1) bytes)
 bytes_more now front bytes i below high low new so_far first second added =
-    let byte : ℕ = get_or bytes i 0 in
-    let pushed : new
-    ≡ (front ++ bytes_text (take i bytes)) ++ 32 ∷ digit_glyph true (byte / 16)
-    ∷ digit_glyph true (byte % 16) ∷ [] =
-    cc in
-    pushed ∙ (append_assoc front (bytes_text (take i bytes)) _
-    ∙ ap (λ l. front ++ l)
-    (sym (bytes_push (take i bytes) byte) ∙ ap bytes_text (sym (take_more bytes i 0 below))))
+    rw (
+      added,
+      so_far,
+      first,
+      second,
+      take_more bytes i 0 below,
+      bytes_push (take i bytes) (get_or bytes i 0),
+    ) (append_assoc front _ _)
 
 -- what was appended after others, where memory was had for it
 pub had_more : {T E : Type 0} (answer : Result T E) (new between old first more text : List ℕ)
     → new ≡ (if is_ok answer then between ++ more else between) → between ≡ old ++ first
     → text ≡ first ++ more → OnOk answer (new ≡ old ++ text)
 had_more (Ok done) new between old first more text is before same =
-    is
-    ∙ (ap (λ l. l ++ more) before
-    ∙ (append_assoc old first more ∙ ap (λ l. old ++ l) (sym same)))
+    rw (is, before, same) (append_assoc old first more)
 had_more (Err e) new between old first more text is before same = tt
 
 -- a position inside a block
@@ -66,45 +64,22 @@ IsBreakPiece _ = ⊥
 
 no_block : (profile : Profile) (position : Position) (from : Option Event) (to : Event)
     → IsInside position → BlockMayCome profile position from to → ⊥
-no_block profile Quiet from to inside comes = absurd inside
-no_block profile (InAsk bytes) from to inside comes = comes
-no_block profile (Asked command) from to inside comes = absurd inside
-no_block profile (InReply command bytes) from to inside comes = comes
-no_block profile (Replied command reply) from to inside comes = absurd inside
-no_block profile (Returned command reply) from to inside comes = absurd inside
-no_block profile (InRepeat command reply words) from to inside comes = comes
-no_block profile InForeign from to inside comes = absurd inside
+no_block profile Quiet from to inside comes = inside
+no_block profile position from to inside comes = search
 
 -- inside a block nothing comes but a break
 only_a_break : (profile : Profile) (piece : Piece) (position : Position) (from : Option Event)
     (to : Event) → IsInside position → MayCome profile piece position from to → IsBreakPiece piece
+only_a_break profile (Whole (acts.Break length) events) position from to inside comes = tt
 only_a_break profile (Whole (acts.Ask command) events) position from to inside comes =
     absurd (no_block profile position from to inside comes)
-only_a_break profile (Whole (acts.Ack command) events) position from to inside comes =
-    absurd (subst IsInside comes.0 inside)
-only_a_break profile (Whole (acts.Nak command) events) position from to inside comes =
-    absurd (subst IsInside comes.0 inside)
-only_a_break profile (Whole (acts.Reply command reply) events) position from to inside comes =
-    absurd (subst IsInside comes.0 inside)
-only_a_break profile (Whole (acts.VmcAck command reply) events) position from to inside comes =
-    absurd (subst IsInside comes.0 inside)
-only_a_break profile (Whole (acts.VmcNak command reply) events) position from to inside comes =
-    absurd (subst IsInside comes.0 inside)
-only_a_break profile (Whole (acts.VmcRet command reply) events) position from to inside comes =
-    absurd (subst IsInside comes.0 inside)
-only_a_break profile (Whole (acts.Repeat command reply) events) position from to inside comes =
-    absurd (subst IsInside comes.0 inside)
+only_a_break profile (AskTail bytes events) position from to inside comes =
+    absurd (no_block profile position from to inside comes)
 only_a_break profile (Whole acts.Foreign events) position from to inside (inl opening) =
     absurd (no_block profile position from to inside opening.1)
 only_a_break profile (Whole acts.Foreign events) position from to inside (inr further) =
     absurd (subst IsInside further.1 inside)
-only_a_break profile (Whole (acts.Break length) events) position from to inside comes = tt
-only_a_break profile (AskTail bytes events) position from to inside comes =
-    absurd (no_block profile position from to inside comes)
-only_a_break profile (ReplyTail command bytes events) position from to inside comes =
-    absurd (subst IsInside comes.0 inside)
-only_a_break profile (RepeatTail command reply words events) position from to inside comes =
-    absurd (subst IsInside comes.0 inside)
+only_a_break profile piece position from to inside comes = absurd (subst IsInside comes.0 inside)
 
 -- so what is no break stands on pieces that are closed
 on_closed : (scope : Scope) (pieces : List Piece) (piece : Piece) → MayStand scope pieces piece
@@ -120,22 +95,16 @@ on_closed scope (RepeatTail command reply words events ∷ pieces) piece stands 
 
 tail_no_break : (piece : Piece) → act_in piece ≡ None → IsBreakPiece piece → ⊥
 tail_no_break (Whole act events) none is = cc
-tail_no_break (AskTail bytes events) none is = is
-tail_no_break (ReplyTail command bytes events) none is = is
-tail_no_break (RepeatTail command reply words events) none is = is
+tail_no_break piece none is = is
 
 closed_tail : (piece : Piece) (pieces : List Piece) → IsTail piece
     → closed_pieces (piece ∷ pieces) ≡ pieces
 closed_tail (Whole act events) pieces is = absurd is
-closed_tail (AskTail bytes events) pieces is = refl
-closed_tail (ReplyTail command bytes events) pieces is = refl
-closed_tail (RepeatTail command reply words events) pieces is = refl
+closed_tail piece pieces is = refl
 
 none_tail : (piece : Piece) → act_in piece ≡ None → IsTail piece
 none_tail (Whole act events) none = cc
-none_tail (AskTail bytes events) none = tt
-none_tail (ReplyTail command bytes events) none = tt
-none_tail (RepeatTail command reply words events) none = tt
+none_tail piece none = tt
 
 -- a row that ends no act leaves the closed pieces as they were
 pub goes_on_closed : (scope : Scope) (pieces longer : List Piece) (row : Event)
@@ -144,9 +113,8 @@ pub goes_on_closed : (scope : Scope) (pieces longer : List Piece) (row : Event)
 goes_on_closed scope pieces longer row grown order = with_from grown.from
   where
     after : closed_pieces longer ≡ grown.earlier
-    after =
-        ap closed_pieces grown.are
-        ∙ closed_tail grown.newest grown.earlier (none_tail grown.newest grown.ends)
+    after = rw grown.are
+        (closed_tail grown.newest grown.earlier (none_tail grown.newest grown.ends))
 
     ordered : ArePieces scope (grown.newest ∷ grown.earlier)
     ordered = subst (ArePieces scope) grown.are order
@@ -156,33 +124,22 @@ goes_on_closed scope pieces longer row grown order = with_from grown.from
         × (pieces ≡ tail ∷ grown.earlier))
         → closed_pieces longer ≡ closed_pieces pieces
     with_from (inl new) =
-        after
-        ∙ (sym (on_closed scope grown.earlier grown.newest ordered.1
+        after ∙ (sym (on_closed scope grown.earlier grown.newest ordered.1
         (tail_no_break grown.newest grown.ends)) ∙ ap closed_pieces (sym new.1))
     with_from (inr old) =
         after ∙ sym (ap closed_pieces old.3 ∙ closed_tail old.0 grown.earlier old.1)
 
 -- lines of rows in all
 cut_none : (form : LineForm) (n m : ℕ) → n ≡ m → cut_text form n m ≡ []
-cut_none form n m same = off (nat_lt n m) refl
-  where
-    off : (b : Bool) → nat_lt n m ≡ b → cut_text form n m ≡ []
-    off true is = absurd (omega (arith, ltb-true n m is, same))
-    off false is = cc
+cut_none form n m same = grind (arith, nat_tests)
 
 cut_some : (form : LineForm) (n m : ℕ) → n < m → cut_text form n m ≡ form.cut (n + 1) m
-cut_some form n m below = on (nat_lt n m) refl
-  where
-    on : (b : Bool) → nat_lt n m ≡ b → cut_text form n m ≡ form.cut (n + 1) m
-    on false is = absurd (omega (arith, ltb-false n m is, below))
-    on true is = cc
+cut_some form n m below = grind (arith, nat_tests)
 
 tail_said : (form : LineForm) (piece : Piece) (n : ℕ) → IsTail piece
     → piece_line form n piece ≡ form.cut (n + 1) (n + length (piece_events piece))
 tail_said form (Whole act events) n is = absurd is
-tail_said form (AskTail bytes events) n is = refl
-tail_said form (ReplyTail command bytes events) n is = refl
-tail_said form (RepeatTail command reply words events) n is = refl
+tail_said form piece n is = refl
 
 -- a tail has rows
 some_events : (scope : Scope) (pieces : List Piece) (piece : Piece) → MayStand scope pieces piece
@@ -198,206 +155,132 @@ with_tail : (form : LineForm) (scope : Scope) (piece : Piece) (pieces : List Pie
     ++ cut_text form (length (events_of pieces)) (length (events_of (piece ∷ pieces)))
 with_tail form scope piece pieces is stands =
     let n : ℕ = length (events_of pieces) in
-    let m : ℕ = length (piece_events piece) in
-    let counted : length (events_of (piece ∷ pieces)) ≡ n + m =
-    length-append (events_of pieces) (piece_events piece) in
-    let said : piece_line form n piece ≡ form.cut (n + 1) (n + m) = tail_said form piece n is in
-    let cut : cut_text form n (n + m) ≡ form.cut (n + 1) (n + m) =
-    cut_some form n (n + m) (omega (arith, some_events scope pieces piece stands)) in
-    ap (λ l. lines_of form pieces ++ l)
-    (said ∙ (sym cut ∙ ap (λ k. cut_text form n k) (sym counted)))
+    let cut = cut_some form n (n + length (piece_events piece))
+    (omega (arith, some_events scope pieces piece stands)) in
+    rw (length-append (events_of pieces) (piece_events piece), tail_said form piece n is)
+    (ap (λ l. lines_of form pieces ++ l) (sym cut))
 
 -- the lines of all pieces are those of the closed ones, and that of a tail
 pub all_shown : (form : LineForm) (scope : Scope) (pieces : List Piece) → ArePieces scope pieces
     → lines_of form pieces
     ≡ lines_of form (closed_pieces pieces)
     ++ cut_text form (length (events_of (closed_pieces pieces))) (length (events_of pieces))
-all_shown form scope [] order =
-    sym (append-nil _) ∙ ap (λ l. lines_of form [] ++ l) (sym (cut_none form 0 0 refl))
+all_shown form scope [] order = rw (cut_none form 0 0 refl)
 all_shown form scope (Whole act events ∷ pieces) order =
     let n : ℕ = length (events_of (Whole act events ∷ pieces)) in
     sym (append-nil (lines_of form (Whole act events ∷ pieces)))
     ∙ ap (λ l. lines_of form (Whole act events ∷ pieces) ++ l) (sym (cut_none form n n refl))
-all_shown form scope (AskTail bytes events ∷ pieces) order =
-    with_tail form scope (AskTail bytes events) pieces tt order.1
-all_shown form scope (ReplyTail command bytes events ∷ pieces) order =
-    with_tail form scope (ReplyTail command bytes events) pieces tt order.1
-all_shown form scope (RepeatTail command reply words events ∷ pieces) order =
-    with_tail form scope (RepeatTail command reply words events) pieces tt order.1
+all_shown form scope (tail ∷ pieces) order = with_tail form scope tail pieces tt order.1
 
 -- an act is a break or not
 break_or_not : (act : Act) → IsBreakAct act ⊎ (IsBreakAct act → ⊥)
-break_or_not (acts.Ask command) = inr (λ is. is)
-break_or_not (acts.Ack command) = inr (λ is. is)
-break_or_not (acts.Nak command) = inr (λ is. is)
-break_or_not (acts.Reply command reply) = inr (λ is. is)
-break_or_not (acts.VmcAck command reply) = inr (λ is. is)
-break_or_not (acts.VmcNak command reply) = inr (λ is. is)
-break_or_not (acts.VmcRet command reply) = inr (λ is. is)
-break_or_not (acts.Repeat command reply) = inr (λ is. is)
-break_or_not acts.Foreign = inr (λ is. is)
 break_or_not (acts.Break length) = inl tt
+break_or_not act = inr (λ is. is)
 
 ended_break : (form : LineForm) (shown rows : ℕ) (act : Act) → IsBreakAct act
     → ended_text form shown rows act
     ≡ cut_text form shown rows ++ form.act (rows + 1) (rows + 1) act
-ended_break form shown rows (acts.Ask command) is = absurd is
-ended_break form shown rows (acts.Ack command) is = absurd is
-ended_break form shown rows (acts.Nak command) is = absurd is
-ended_break form shown rows (acts.Reply command reply) is = absurd is
-ended_break form shown rows (acts.VmcAck command reply) is = absurd is
-ended_break form shown rows (acts.VmcNak command reply) is = absurd is
-ended_break form shown rows (acts.VmcRet command reply) is = absurd is
-ended_break form shown rows (acts.Repeat command reply) is = absurd is
-ended_break form shown rows acts.Foreign is = absurd is
 ended_break form shown rows (acts.Break length) is = refl
+ended_break form shown rows act is = absurd is
 
 ended_other : (form : LineForm) (shown rows : ℕ) (act : Act) → (IsBreakAct act → ⊥)
     → ended_text form shown rows act ≡ form.act (shown + 1) (rows + 1) act
-ended_other form shown rows (acts.Ask command) not = refl
-ended_other form shown rows (acts.Ack command) not = refl
-ended_other form shown rows (acts.Nak command) not = refl
-ended_other form shown rows (acts.Reply command reply) not = refl
-ended_other form shown rows (acts.VmcAck command reply) not = refl
-ended_other form shown rows (acts.VmcNak command reply) not = refl
-ended_other form shown rows (acts.VmcRet command reply) not = refl
-ended_other form shown rows (acts.Repeat command reply) not = refl
-ended_other form shown rows acts.Foreign not = refl
 ended_other form shown rows (acts.Break length) not = absurd (not tt)
+ended_other form shown rows act not = refl
 
 -- a whole piece with its act
 pub whole_of : (piece : Piece) (act : Act) → act_in piece ≡ Some act
     → piece ≡ Whole act (piece_events piece)
 whole_of (Whole other events) act is = let same : other ≡ act = cc in ap (λ a. Whole a events) same
-whole_of (AskTail bytes events) act is = cc
-whole_of (ReplyTail command bytes events) act is = cc
-whole_of (RepeatTail command reply words events) act is = cc
+whole_of piece act is = cc
 
 break_short : (scope : Scope) (act : Act) (events : List Event) (pieces : List Piece)
     → ArePieces scope (Whole act events ∷ pieces) → IsBreakAct act → length events ≡ 1
-break_short scope (acts.Ask command) events pieces order is = absurd is
-break_short scope (acts.Ack command) events pieces order is = absurd is
-break_short scope (acts.Nak command) events pieces order is = absurd is
-break_short scope (acts.Reply command reply) events pieces order is = absurd is
-break_short scope (acts.VmcAck command reply) events pieces order is = absurd is
-break_short scope (acts.VmcNak command reply) events pieces order is = absurd is
-break_short scope (acts.VmcRet command reply) events pieces order is = absurd is
-break_short scope (acts.Repeat command reply) events pieces order is = absurd is
-break_short scope acts.Foreign events pieces order is = absurd is
 break_short scope (acts.Break len) events pieces order is = ap length order.0.said.1
+break_short scope act events pieces order is = absurd is
 
--- the line of a piece with its rows
-whole_line : (form : LineForm) (act : Act) (events : List Event) (pieces : List Piece) (n last : ℕ)
-    → length (events_of pieces) ≡ n → n + length events ≡ last
-    → lines_of form (Whole act events ∷ pieces) ≡ lines_of form pieces ++ form.act (n + 1) last act
-whole_line form act events pieces n last counted end =
-    ap (λ k. lines_of form pieces ++ form.act (k + 1) (k + length events) act) counted
-    ∙ ap (λ k. lines_of form pieces ++ form.act (n + 1) k act) end
+-- A row that ends an act adds the lines of that act.
+module _ (form : LineForm) (scope : Scope) (pieces longer : List Piece) (row : Event) (act : Act)
+    (shown rows : ℕ) (grown : Grown pieces row (Some act) longer)
+    (before : ArePieces scope pieces) (order : ArePieces scope longer)
+    (closed : length (events_of (closed_pieces pieces)) ≡ shown)
+    (counted : length (events_of pieces) ≡ rows) where
+  abbrev events : List Event
+  events = piece_events grown.newest
 
--- a row that ends an act adds the lines of that act
-pub ends_act : (form : LineForm) (scope : Scope) (pieces longer : List Piece) (row : Event)
-    (act : Act) (shown rows : ℕ) → Grown pieces row (Some act) longer → ArePieces scope pieces
-    → ArePieces scope longer
-    → length (events_of (closed_pieces pieces)) ≡ shown → length (events_of pieces) ≡ rows
-    → (closed_pieces longer ≡ longer)
-    × (lines_of form longer
-    ≡ lines_of form (closed_pieces pieces) ++ ended_text form shown rows act)
-ends_act form scope pieces longer row act shown rows grown before order closed counted =
-    (stays, with_from grown.from)
-  where
-    events : List Event
-    events = piece_events grown.newest
+  are : longer ≡ Whole act events ∷ grown.earlier
+  are = grown.are ∙ ap (λ piece. piece ∷ grown.earlier) (whole_of grown.newest act grown.ends)
 
-    are : longer ≡ Whole act events ∷ grown.earlier
-    are = grown.are ∙ ap (λ piece. piece ∷ grown.earlier) (whole_of grown.newest act grown.ends)
+  ordered : ArePieces scope (Whole act events ∷ grown.earlier)
+  ordered = subst (ArePieces scope) are order
 
-    stays : closed_pieces longer ≡ longer
-    stays = ap closed_pieces are ∙ sym are
+  long : length events ≡ length grown.begun + 1
+  long = ap length grown.events ∙ length-append grown.begun (row ∷ [])
 
-    ordered : ArePieces scope (Whole act events ∷ grown.earlier)
-    ordered = subst (ArePieces scope) are order
+  lines : (n last : ℕ) → length (events_of grown.earlier) ≡ n → n + length events ≡ last
+      → lines_of form longer ≡ lines_of form grown.earlier ++ form.act (n + 1) last act
+  lines n last first end =
+      ap (lines_of form) are
+      ∙ (ap (λ k. lines_of form grown.earlier ++ form.act (k + 1) (k + length events) act) first
+      ∙ ap (λ k. lines_of form grown.earlier ++ form.act (n + 1) k act) end)
 
-    long : length events ≡ length grown.begun + 1
-    long = ap length grown.events ∙ length-append grown.begun (row ∷ [])
+  -- an act that is no break, whose rows come after those that are shown
+  of_other : grown.earlier ≡ closed_pieces pieces → shown + length events ≡ rows + 1
+      → (IsBreakAct act → ⊥)
+      → lines_of form longer
+      ≡ lines_of form (closed_pieces pieces) ++ ended_text form shown rows act
+  of_other earlier last not =
+      rw (lines shown (rows + 1) (rw earlier closed) last, earlier,
+          ended_other form shown rows act not)
 
-    lines : (n last : ℕ) → length (events_of grown.earlier) ≡ n → n + length events ≡ last
-        → lines_of form longer ≡ lines_of form grown.earlier ++ form.act (n + 1) last act
-    lines n last first end =
-        ap (lines_of form) are ∙ whole_line form act events grown.earlier n last first end
+  -- the act is a piece of this row alone
+  alone : grown.begun ≡ [] → pieces ≡ grown.earlier → IsBreakAct act ⊎ (IsBreakAct act → ⊥)
+      → lines_of form longer
+      ≡ lines_of form (closed_pieces pieces) ++ ended_text form shown rows act
+  alone none same (inl is) =
+      let here : length (events_of grown.earlier) ≡ rows = rw (sym same) counted in
+      let last : rows + length events ≡ rows + 1 = omega (arith, long, ap length none) in
+      rw (
+        lines rows (rows + 1) here last,
+        sym same,
+        all_shown form scope pieces before,
+        closed,
+        counted,
+        ended_break form shown rows act is,
+      ) (append_assoc _ (cut_text form shown rows) _)
+  alone none same (inr not) =
+      let shut : closed_pieces pieces ≡ pieces = ap closed_pieces same
+      ∙ (on_closed scope grown.earlier (Whole act events) ordered.1 not ∙ sym same) in
+      let both : shown ≡ rows = sym closed ∙ (ap (λ l. length (events_of l)) shut ∙ counted) in
+      of_other (sym same ∙ sym shut) (omega (arith, long, ap length none, both)) not
 
-    -- the act is a piece of this row alone
-    alone : grown.begun ≡ [] → pieces ≡ grown.earlier → IsBreakAct act ⊎ (IsBreakAct act → ⊥)
-        → lines_of form longer
-        ≡ lines_of form (closed_pieces pieces) ++ ended_text form shown rows act
-    alone none same (inl is) =
-        let none_long : length grown.begun ≡ 0 = ap length none in
-        let here : length (events_of grown.earlier) ≡ rows =
-        ap (λ l. length (events_of l)) (sym same) ∙ counted in
-        let this : lines_of form longer
-        ≡ lines_of form grown.earlier ++ form.act (rows + 1) (rows + 1) act =
-        lines rows (rows + 1) here (omega (arith, long, none_long)) in
-        let all : lines_of form pieces
-        ≡ lines_of form (closed_pieces pieces) ++ cut_text form shown rows =
-        all_shown form scope pieces before
-        ∙ (ap (λ n. lines_of form (closed_pieces pieces)
-        ++ cut_text form n (length (events_of pieces))) closed
-        ∙ ap (λ n. lines_of form (closed_pieces pieces) ++ cut_text form shown n)
-        counted) in
-        this ∙ (ap (λ l. lines_of form l ++ form.act (rows + 1) (rows + 1) act) (sym same)
-        ∙ (ap (λ l. l ++ form.act (rows + 1) (rows + 1) act) all
-        ∙ (append_assoc (lines_of form (closed_pieces pieces)) (cut_text form shown rows) _
-        ∙ ap (λ l. lines_of form (closed_pieces pieces) ++ l)
-        (sym (ended_break form shown rows act is)))))
-    alone none same (inr not) =
-        let none_long : length grown.begun ≡ 0 = ap length none in
-        let shut : closed_pieces pieces ≡ pieces =
-        ap closed_pieces same
-        ∙ (on_closed scope grown.earlier (Whole act events) ordered.1 not ∙ sym same) in
-        let both : shown ≡ rows = sym closed ∙ (ap (λ l. length (events_of l)) shut ∙ counted) in
-        let earlier : grown.earlier ≡ closed_pieces pieces = sym same ∙ sym shut in
-        let here : length (events_of grown.earlier) ≡ shown =
-        ap (λ l. length (events_of l)) earlier ∙ closed in
-        lines shown (rows + 1) here (omega (arith, long, none_long, both))
-        ∙ (ap (λ l. lines_of form l ++ form.act (shown + 1) (rows + 1) act) earlier
-        ∙ ap (λ l. lines_of form (closed_pieces pieces) ++ l)
-        (sym (ended_other form shown rows act not)))
+  -- the act is what a tail has become
+  of_tail : (tail : Piece) → IsTail tail → piece_events tail ≡ grown.begun
+      → pieces ≡ tail ∷ grown.earlier → IsBreakAct act ⊎ (IsBreakAct act → ⊥)
+      → lines_of form longer
+      ≡ lines_of form (closed_pieces pieces) ++ ended_text form shown rows act
+  of_tail tail is said same (inl broken) =
+      let some = some_events scope grown.earlier tail (subst (ArePieces scope) same before).1 in
+      let short = break_short scope act events grown.earlier ordered broken in
+      absurd (omega (arith, short, long, ap length said, some))
+  of_tail tail is said same (inr not) =
+      let earlier : grown.earlier ≡ closed_pieces pieces =
+      sym (ap closed_pieces same ∙ closed_tail tail grown.earlier is) in
+      let here : length (events_of grown.earlier) ≡ shown = rw earlier closed in
+      let all : length (events_of grown.earlier ++ piece_events tail) ≡ rows =
+      ap (λ l. length (events_of l)) (sym same) ∙ counted in
+      let split = length-append (events_of grown.earlier) (piece_events tail) in
+      of_other earlier (omega (arith, long, ap length said, all, split, here)) not
 
-    -- the act is what a tail has become
-    of_tail : (tail : Piece) → IsTail tail → piece_events tail ≡ grown.begun
-        → pieces ≡ tail ∷ grown.earlier → IsBreakAct act ⊎ (IsBreakAct act → ⊥)
-        → lines_of form longer
-        ≡ lines_of form (closed_pieces pieces) ++ ended_text form shown rows act
-    of_tail tail is said same (inl broken) =
-        let tail_order : ArePieces scope (tail ∷ grown.earlier) =
-        subst (ArePieces scope) same before in
-        let said_long : length (piece_events tail) ≡ length grown.begun = ap length said in
-        absurd (omega (
-          arith,
-          break_short scope act events grown.earlier ordered broken,
-          long,
-          said_long,
-          some_events scope grown.earlier tail tail_order.1,
-        ))
-    of_tail tail is said same (inr not) =
-        let said_long : length (piece_events tail) ≡ length grown.begun = ap length said in
-        let earlier : grown.earlier ≡ closed_pieces pieces =
-        sym (ap closed_pieces same ∙ closed_tail tail grown.earlier is) in
-        let here : length (events_of grown.earlier) ≡ shown =
-        ap (λ l. length (events_of l)) earlier ∙ closed in
-        let all : length (events_of grown.earlier ++ piece_events tail) ≡ rows =
-        ap (λ l. length (events_of l)) (sym same) ∙ counted in
-        let split : length (events_of grown.earlier ++ piece_events tail)
-        ≡ length (events_of grown.earlier) + length (piece_events tail) =
-        length-append (events_of grown.earlier) (piece_events tail) in
-        lines shown (rows + 1) here (omega (arith, long, said_long, all, split, here))
-        ∙ (ap (λ l. lines_of form l ++ form.act (shown + 1) (rows + 1) act) earlier
-        ∙ ap (λ l. lines_of form (closed_pieces pieces) ++ l)
-        (sym (ended_other form shown rows act not)))
-
-    with_from : ((grown.begun ≡ []) × (pieces ≡ grown.earlier))
-        ⊎ ((tail : Piece) × IsTail tail × (piece_events tail ≡ grown.begun)
-        × (pieces ≡ tail ∷ grown.earlier))
-        → lines_of form longer
-        ≡ lines_of form (closed_pieces pieces) ++ ended_text form shown rows act
-    with_from (inl new) = alone new.0 new.1 (break_or_not act)
-    with_from (inr old) = of_tail old.0 old.1 old.2 old.3 (break_or_not act)
+  pub ends_act : (closed_pieces longer ≡ longer)
+      × (lines_of form longer
+      ≡ lines_of form (closed_pieces pieces) ++ ended_text form shown rows act)
+  ends_act = (ap closed_pieces are ∙ sym are, with_from grown.from)
+    where
+      with_from : ((grown.begun ≡ []) × (pieces ≡ grown.earlier))
+          ⊎ ((tail : Piece) × IsTail tail × (piece_events tail ≡ grown.begun)
+          × (pieces ≡ tail ∷ grown.earlier))
+          → lines_of form longer
+          ≡ lines_of form (closed_pieces pieces) ++ ended_text form shown rows act
+      with_from (inl new) = alone new.0 new.1 (break_or_not act)
+      with_from (inr old) = of_tail old.0 old.1 old.2 old.3 (break_or_not act)

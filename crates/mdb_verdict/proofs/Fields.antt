@@ -14,12 +14,9 @@ pub three_fields : (fields : List (List ℕ)) (a b c : List ℕ) → length fiel
     → field_at fields 0 ≡ Some a → field_at fields 1 ≡ Some b → field_at fields 2 ≡ Some c
     → fields ≡ a ∷ b ∷ c ∷ []
 unfolding field_at
-three_fields [] a b c long x y z = absurd (omega (arith, long))
-three_fields (f ∷ []) a b c long x y z = absurd (omega (arith, long))
-three_fields (f ∷ g ∷ []) a b c long x y z = absurd (omega (arith, long))
 three_fields (f ∷ g ∷ h ∷ []) a b c long x y z =
     let first : f ≡ a = cc in
     let second : g ≡ b = cc in
     let third : h ≡ c = cc in
     cc
-three_fields (f ∷ g ∷ h ∷ i ∷ fields) a b c long x y z = absurd (omega (arith, long))
+three_fields fields a b c long x y z = absurd (omega (arith, long))

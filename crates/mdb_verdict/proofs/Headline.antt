@@ -1,6 +1,6 @@
 -- A verdict says what the headline has of it.
-use Rattle.std.proofs.Common.{Ok, arith, refl, ap, sym, subst, ◌∙◌, ◌≡◌, ◌≤◌, ℕ, zero, suc, List, [], ◌∷◌, ◌++◌, length, take, drop, length-append, append_assoc}
-use Rattle.std.proofs.lemmas.List.{length-take-le, take-append-drop, take_all, take_at}
+use Rattle.std.proofs.Common.{Ok, arith, refl, ap, sym, ◌∙◌, ◌≡◌, ◌≤◌, ℕ, zero, suc, List, [], ◌∷◌, ◌++◌, length, take, drop, length-append, append_assoc}
+use Rattle.std.proofs.lemmas.List.{length-take, length-take-le, take-append-drop, take-take, take_all, take_at}
 use Rattle.mdb_words.specs.declared.event.Event.{Event}
 use Rattle.mdb_follow.specs.declared.account_name.AccountName.{AccountName}
 use Rattle.mdb_follow.specs.declared.account.Account.{Account}
@@ -11,7 +11,6 @@ use Rattle.mdb_follow.specs.Ranges.{IsRange}
 use Rattle.mdb_follow.specs.AccountRanges.{IsAccount}
 use Rattle.mdb_follow.specs.Report.{IsReport}
 use Rattle.mdb_follow.specs.Runs.{AllSums, IsReached, Run}
-use Rattle.mdb_follow.specs.Sales.{SalesFollowApprovals}
 use Rattle.mdb_follow.specs.Sums.{AccountSums}
 use Rattle.mdb_text.specs.declared.outcome.Outcome.{Outcome}
 use Rattle.mdb_text.specs.declared.outcome.Outcome.TheVariants.{Yes, No}
@@ -31,24 +30,19 @@ FrontsAreReached scope =
     (rows more : List Event) → IsReached scope (rows ++ more) → IsReached scope rows
 
 -- records are rows of one list of events at most
-one_list : (records : List (List (List ℕ))) (rows events : List Event) → AreRows records rows
+pub one_list : (records : List (List (List ℕ))) (rows events : List Event) → AreRows records rows
     → AreRows records events → rows ≡ events
 one_list [] [] [] told heard = refl
 one_list (fields ∷ records) (row ∷ rows) (event ∷ events) told heard =
-    ap (λ e. e ∷ rows) (row_one fields row event told.0 heard.0)
-    ∙ ap (λ es. event ∷ es) (one_list records rows events told.1 heard.1)
-one_list [] (row ∷ rows) events told heard = absurd told
-one_list (fields ∷ records) [] events told heard = absurd told
-one_list [] rows (event ∷ events) told heard = absurd heard
-one_list (fields ∷ records) rows [] told heard = absurd heard
+    cc (row_one fields row event told.0 heard.0, one_list records rows events told.1 heard.1)
+one_list records rows events told heard = absurd (search)
 
 -- as many rows as records
 pub as_many : (records : List (List (List ℕ))) (rows : List Event) → AreRows records rows
     → length rows ≡ length records
 as_many [] [] told = refl
 as_many (fields ∷ records) (row ∷ rows) told = ap suc (as_many records rows told.1)
-as_many [] (row ∷ rows) told = absurd told
-as_many (fields ∷ records) [] told = absurd told
+as_many records rows told = absurd told
 
 -- the first rows are those of the first records
 fewer_rows : (count : ℕ) (records : List (List (List ℕ))) (rows : List Event) → AreRows records rows
@@ -57,47 +51,7 @@ fewer_rows zero records rows told = tt
 fewer_rows (suc count) [] [] told = tt
 fewer_rows (suc count) (fields ∷ records) (row ∷ rows) told =
     (told.0, fewer_rows count records rows told.1)
-fewer_rows (suc count) [] (row ∷ rows) told = absurd told
-fewer_rows (suc count) (fields ∷ records) [] told = absurd told
-
--- fewer of the first ones are the first ones
-take_fewer : (n m : ℕ) (l : List (List (List ℕ))) → n ≤ m → take n (take m l) ≡ take n l
-take_fewer zero m l fewer = refl
-take_fewer (suc n) zero l fewer = absurd (omega (arith, fewer))
-take_fewer (suc n) (suc m) [] fewer = refl
-take_fewer (suc n) (suc m) (fields ∷ l) fewer =
-    ap (λ r. fields ∷ r) (take_fewer n m l (omega (arith, fewer)))
-
--- the first ones are no more than all
-take_most : (n : ℕ) (l : List (List (List ℕ))) → length (take n l) ≤ length l
-take_most zero l = omega arith
-take_most (suc n) [] = omega arith
-take_most (suc n) (fields ∷ l) =
-    let most : length (take n l) ≤ length l = take_most n l in omega (arith, most)
-
--- so many rows of records are the first ones
-first_rows : (scope : Scope) (count : ℕ) (records : List (List (List ℕ))) (rows : List Event)
-    → AreRows (take count records) rows → length rows ≡ count → IsReached scope rows
-    → HaveRun scope records count
-first_rows scope count records rows told number reached = record {
-  rows = rows;
-  are = record { told = told; number = number };
-  sums = reached.0;
-  run = reached.1;
-}
-
--- a yes: all records are rows, and they have a run
-yes_has_run : (scope : Scope) (limit : ℕ) (records : List (List (List ℕ))) (report : Report)
-    → IsPossible scope limit records report
-    → (length records ≤ limit) × HaveRun scope records (length records)
-yes_has_run scope limit records report is =
-    let many : length is.rows ≡ length records = as_many records is.rows is.told in
-    let P : List (List (List ℕ)) → Type 0 = λ l. AreRows l is.rows in
-    let told : AreRows (take (length records) records) is.rows =
-    subst P (sym (take_all (length records) records (omega arith))) is.told in (
-      omega (arith, many, is.few),
-      first_rows scope (length records) records is.rows told many is.is.reached,
-    )
+fewer_rows (suc count) records rows told = absurd told
 
 -- the ranges of an account on its sides
 on_side : {Kind : AllSums → Type 0} (sums : AllSums → AccountSums) (account : Account)
@@ -113,109 +67,103 @@ AccountsAreOfRuns scope =
     (rows : List Event) (report : Report) → IsReport scope rows report → (account : AccountName)
     → IsAccount (Run scope rows) (sums_of account) (account_of account report)
 
--- the ranges of a report are exact
-has_bounds : (scope : Scope) → AccountsAreOfRuns scope
-    → (limit : ℕ) (records : List (List (List ℕ))) (report : Report)
-    → IsPossible scope limit records report → HasBounds scope records report
-has_bounds scope accounts limit records report is rows told account side =
-    let P : List Event → Type 0 = λ es.
-    IsRange (Run scope es) (λ s. side_value side (sums_of account s))
-    (side_range side (account_of account report)) in
-    subst P (one_list records is.rows rows is.told told) (on_side (sums_of account)
-    (account_of account report) (accounts is.rows report is.is account) side)
+module _ (scope : Scope) (limit : ℕ) (records : List (List (List ℕ))) where
+  -- so many rows of records are the first ones
+  first_rows : (count : ℕ) (rows : List Event) → AreRows (take count records) rows
+      → length rows ≡ count → IsReached scope rows → HaveRun scope records count
+  first_rows count rows told number reached = record {
+    rows = rows;
+    are = record { told = told; number = number };
+    sums = reached.0;
+    run = reached.1;
+  }
 
--- the records up to the row that is named, and these rows
-up_to : (scope : Scope) (limit : ℕ) (records : List (List (List ℕ))) (offence : Offence)
-    (is : IsImpossible scope limit records offence)
-    → AreFirstRows records offence.row (is.rows ++ is.row ∷ [])
-up_to scope limit records offence is =
-    let done : List (List (List ℕ)) = is.stops.done in
-    let upto : List (List (List ℕ)) = done ++ is.fields ∷ [] in
-    let many : length is.rows ≡ length done = as_many done is.rows is.stops.told in
-    let long : length upto ≡ offence.row =
-    omega (arith, length-append done (is.fields ∷ []), many, is.is.number) in
-    let split : records ≡ upto ++ is.stops.rest =
-    is.stops.split ∙ sym (append_assoc done (is.fields ∷ []) is.stops.rest) in
-    let front : take offence.row records ≡ upto =
-    ap (λ l. take offence.row l) split ∙ take_at upto is.stops.rest offence.row long in
-    let P : List (List (List ℕ)) → Type 0 = λ l. AreRows l (is.rows ++ is.row ∷ []) in
-    record {
-      told = subst P (sym front) (rows_push done is.rows is.fields is.row is.stops.told is.told);
-      number = omega (arith, length-append is.rows (is.row ∷ []), is.is.number);
+  -- A yes.
+  module _ (report : Report) (is : IsPossible scope limit records report) where
+    -- all records are rows, and they have a run
+    yes_has_run : (length records ≤ limit) × HaveRun scope records (length records)
+    yes_has_run =
+        let many = as_many records is.rows is.told in (
+          rw many at is.few,
+          first_rows (length records) is.rows
+              (rw (take_all (length records) records (omega arith)) is.told) many is.is.reached,
+        )
+
+    -- the ranges of the report are exact
+    has_bounds : AccountsAreOfRuns scope → HasBounds scope records report
+    has_bounds accounts rows told account side =
+        rw (one_list records is.rows rows is.told told) at (on_side (sums_of account)
+        (account_of account report) (accounts is.rows report is.is account) side)
+
+    -- the sales of its runs are approved
+    approved_sales : HasApprovedSales scope records
+    approved_sales rows told = rw (one_list records is.rows rows is.told told) at is.sales
+
+  -- A no.
+  module _ (fronts : FrontsAreReached scope) (offence : Offence)
+      (is : IsImpossible scope limit records offence) where
+    -- the records up to the row that is named, and these rows
+    there : AreFirstRows records offence.row (is.rows ++ is.row ∷ [])
+    there =
+        let upto : List (List (List ℕ)) = is.stops.done ++ is.fields ∷ [] in
+        let many = as_many is.stops.done is.rows is.stops.told in
+        let last = length-append is.stops.done (is.fields ∷ []) in
+        let long : length upto ≡ offence.row = omega (arith, last, many, is.is.number) in
+        let split : records ≡ upto ++ is.stops.rest =
+        is.stops.split ∙ sym (append_assoc is.stops.done (is.fields ∷ []) is.stops.rest) in
+        record {
+          told = rw (split, take_at upto is.stops.rest offence.row long)
+              (rows_push is.stops.done is.rows is.fields is.row is.stops.told is.told);
+          number = omega (arith, length-append is.rows (is.row ∷ []), is.is.number);
+        }
+
+    -- they have no run
+    no_run : HaveRun scope records offence.row → ⊥
+    no_run has =
+        let reached : IsReached scope has.rows = (has.sums, has.run) in
+        is.is.not_reached (rw (one_list (take offence.row records) has.rows
+        (is.rows ++ is.row ∷ []) has.are.told there.told) at reached)
+
+    -- fewer rows than any that some run reaches are reached
+    fewer_reached : (more count : ℕ) → count ≤ more → HaveRun scope records more
+        → HaveRun scope records count
+    fewer_reached more count fewer has =
+        let reached : IsReached scope has.rows = (has.sums, has.run) in
+        first_rows count (take count has.rows)
+        (rw (take-take count more records fewer) at
+        (fewer_rows count (take more records) has.rows has.are.told))
+        (length-take-le count has.rows (omega (arith, fewer, has.are.number)))
+        (fronts (take count has.rows) (drop count has.rows)
+        (rw (sym (take-append-drop count has.rows)) at reached))
+
+    -- the rows before the one that is named are reached
+    before_reached : HaveRun scope records (length is.rows)
+    before_reached =
+        let many = as_many is.stops.done is.rows is.stops.told in
+        let front : take (length is.rows) records ≡ is.stops.done =
+        rw is.stops.split (take_at is.stops.done (is.fields ∷ is.stops.rest) (length is.rows)
+        (sym many)) in
+        first_rows (length is.rows) is.rows (rw front is.stops.told) refl is.stops.possible
+
+    -- the runs end before the row that is named
+    names_first : NamesFirstRow scope records offence
+    names_first = record {
+      before = is.rows;
+      row = is.row;
+      there = there;
+      no_run = no_run;
+      fewer = λ count below. fewer_reached (length is.rows) count
+          (omega (arith, below, is.is.number)) before_reached;
+      why = is.is;
     }
 
--- the rows up to the one that is named have no run
-no_run : (scope : Scope) (limit : ℕ) (records : List (List (List ℕ))) (offence : Offence)
-    → IsImpossible scope limit records offence → HaveRun scope records offence.row → ⊥
-no_run scope limit records offence is has =
-    let same : has.rows ≡ is.rows ++ is.row ∷ [] =
-    one_list (take offence.row records) has.rows (is.rows ++ is.row ∷ []) has.are.told
-    (up_to scope limit records offence is).told in
-    let P : List Event → Type 0 = λ es. IsReached scope es in
-    is.is.not_reached (subst P same (has.sums, has.run))
-
--- fewer rows than any that some run reaches are reached
-fewer_reached : (scope : Scope) → FrontsAreReached scope
-    → (records : List (List (List ℕ))) (more count : ℕ) → count ≤ more → HaveRun scope records more
-    → HaveRun scope records count
-fewer_reached scope fronts records more count fewer has =
-    let told : AreRows (take count (take more records)) (take count has.rows) =
-    fewer_rows count (take more records) has.rows has.are.told in
-    let P : List (List (List ℕ)) → Type 0 = λ l. AreRows l (take count has.rows) in
-    let parts : has.rows ≡ take count has.rows ++ drop count has.rows =
-    sym (take-append-drop count has.rows) in
-    let Q : List Event → Type 0 = λ es. IsReached scope es in
-    first_rows scope count records (take count has.rows)
-    (subst P (take_fewer count more records fewer) told)
-    (length-take-le count has.rows (omega (arith, fewer, has.are.number)))
-    (fronts (take count has.rows) (drop count has.rows) (subst Q parts (has.sums, has.run)))
-
--- the rows before the one that is named are reached
-before_reached : (scope : Scope) (limit : ℕ) (records : List (List (List ℕ))) (offence : Offence)
-    (is : IsImpossible scope limit records offence) → HaveRun scope records (length is.rows)
-before_reached scope limit records offence is =
-    let done : List (List (List ℕ)) = is.stops.done in
-    let many : length is.rows ≡ length done = as_many done is.rows is.stops.told in
-    let front : take (length is.rows) records ≡ done =
-    ap (λ l. take (length is.rows) l) is.stops.split
-    ∙ take_at done (is.fields ∷ is.stops.rest) (length is.rows) (sym many) in
-    let P : List (List (List ℕ)) → Type 0 = λ l. AreRows l is.rows in
-    first_rows scope (length is.rows) records is.rows (subst P (sym front) is.stops.told) refl
-    is.stops.possible
-
--- the runs end before the row that a no names
-names_first : (scope : Scope) → FrontsAreReached scope
-    → (limit : ℕ) (records : List (List (List ℕ))) (offence : Offence)
-    → IsImpossible scope limit records offence → NamesFirstRow scope records offence
-names_first scope fronts limit records offence is = record {
-  before = is.rows;
-  row = is.row;
-  there = up_to scope limit records offence is;
-  no_run = no_run scope limit records offence is;
-  fewer = λ count below.
-      fewer_reached scope fronts records (length is.rows) count (omega (arith, below, is.is.number))
-      (before_reached scope limit records offence is);
-  why = is.is;
-}
-
--- where a no is answered, not all the records have a run
-no_has_none : (scope : Scope) → FrontsAreReached scope
-    → (limit : ℕ) (records : List (List (List ℕ))) (offence : Offence)
-    → IsImpossible scope limit records offence → HaveRun scope records (length records) → ⊥
-no_has_none scope fronts limit records offence is has =
-    let there : AreFirstRows records offence.row (is.rows ++ is.row ∷ []) =
-    up_to scope limit records offence is in
-    let many : length (is.rows ++ is.row ∷ []) ≡ length (take offence.row records) =
-    as_many (take offence.row records) (is.rows ++ is.row ∷ []) there.told in
-    no_run scope limit records offence is (fewer_reached scope fronts records (length records)
-    offence.row (omega (arith, many, there.number, take_most offence.row records)) has)
-
--- the sales of its runs are approved
-approved_sales : (scope : Scope) (limit : ℕ) (records : List (List (List ℕ))) (report : Report)
-    → IsPossible scope limit records report → HasApprovedSales scope records
-approved_sales scope limit records report is rows told =
-    let P : List Event → Type 0 = λ es. SalesFollowApprovals scope es in
-    subst P (one_list records is.rows rows is.told told) is.sales
+    -- not all the records have a run
+    no_has_none : HaveRun scope records (length records) → ⊥
+    no_has_none has =
+        let many = as_many (take offence.row records) (is.rows ++ is.row ∷ []) there.told in
+        let most = length-take offence.row records in
+        no_run (fewer_reached (length records) offence.row (omega (arith, many, there.number, most))
+        has)
 
 -- what a verdict says
 pub headline_of : (scope : Scope) → FrontsAreReached scope → AccountsAreOfRuns scope
@@ -224,15 +172,15 @@ pub headline_of : (scope : Scope) → FrontsAreReached scope → AccountsAreOfRu
 headline_of scope fronts accounts limit records (Yes report) is = record {
   yes = (λ said. yes_has_run scope limit records report is, λ has. tt);
   sales = approved_sales scope limit records report is;
-  bounds = has_bounds scope accounts limit records report is;
+  bounds = has_bounds scope limit records report is accounts;
   first_row = tt;
 }
 headline_of scope fronts accounts limit records (No offence) is = record {
   yes = (
     λ said. absurd said,
-    λ has. absurd (no_has_none scope fronts limit records offence is has.1),
+    λ has. absurd (no_has_none scope limit records fronts offence is has.1),
   );
   sales = tt;
   bounds = tt;
-  first_row = names_first scope fronts limit records offence is;
+  first_row = names_first scope limit records fronts offence is;
 }

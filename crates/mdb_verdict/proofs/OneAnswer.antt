@@ -1,5 +1,5 @@
 -- The records of a text have one answer of their own.
-use Rattle.std.proofs.Common.{arith, refl, ap, sym, subst, ◌∙◌, ◌≡◌, ◌+◌, ◌<◌, ◌≤◌, ℕ, List, [], ◌∷◌, ◌++◌, Result, Ok, Err, inl, inr, ◌⊎◌, length, length-append, append_assoc}
+use Rattle.std.proofs.Common.{arith, refl, ap, sym, ◌∙◌, ◌≡◌, ◌+◌, ◌<◌, ◌≤◌, ℕ, List, [], ◌∷◌, ◌++◌, Result, Ok, Err, inl, inr, ◌⊎◌, length, length-append, append_assoc}
 use Rattle.std.proofs.lemmas.List.{append-nil}
 use Rattle.std.proofs.lemmas.Grind.{common_steps}
 use Rattle.mdb_words.specs.declared.event.Event.{Event}
@@ -14,8 +14,8 @@ use Rattle.mdb_follow.specs.Runs.{IsReached}
 use Rattle.mdb_text.specs.declared.outcome.Outcome.{Outcome}
 use Rattle.mdb_text.specs.declared.outcome.Outcome.TheVariants.{Yes, No}
 use Rattle.mdb_verdict.specs.declared.fault.RunFault.{RunFault}
-use Rattle.mdb_verdict.specs.declared.fault.RunFault.TheVariants.{BadRow, TooLong, Read, Write, Memory}
-use Rattle.mdb_verdict.specs.Verdict.{IsAnswer, IsOwnAnswer, IsBadRow, IsImpossible, IsPossible, IsTooLong}
+use Rattle.mdb_verdict.specs.declared.fault.RunFault.TheVariants.{BadRow, TooLong}
+use Rattle.mdb_verdict.specs.Verdict.{IsAnswer, IsOwnAnswer, LeadUpTo}
 use Rattle.mdb_verdict.specs.Rows.{AreRows}
 use Rattle.mdb_bus.specs.declared.scope.Scope.{Scope}
 
@@ -40,19 +40,6 @@ pub one_refusal : (fields : List (List ℕ)) (a b : RowFault) → IsRefusal fiel
     → IsRefusal fields b → a ≡ b
 one_refusal fields a b p q = grind (arith, common_steps)
 
--- The rows at the front of the records that are reached, where no more row goes on: there is no
--- record after them, it is no row, it isn't reached, or it is one too many.
-record Front (scope : Scope) (limit : ℕ) (records : List (List (List ℕ))) (rows : List Event)
-    (rest : List (List (List ℕ))) : Type 0 where
-  done : List (List (List ℕ))
-  split : records ≡ done ++ rest
-  told : AreRows done rows
-  possible : IsReached scope rows
-  few : length rows ≤ limit
-  ends : (fields : List (List ℕ)) (more : List (List (List ℕ))) (event : Event)
-      → rest ≡ fields ∷ more → IsRow fields event → IsReached scope (rows ++ event ∷ [])
-      → length rows < limit → ⊥
-
 -- of two fronts of rows the longer one goes on after the shorter one, with a record that is a row
 pub record GoesOn (rows longer : List Event) (rest : List (List (List ℕ))) : Type 0 where
   pub fields : List (List ℕ)
@@ -63,17 +50,31 @@ pub record GoesOn (rows longer : List Event) (rest : List (List (List ℕ))) : T
   pub row : IsRow fields event
   pub longer_is : longer ≡ rows ++ event ∷ more
 
--- the same with one row more in front
-one_more_in_front : (rows longer : List Event) (rest : List (List (List ℕ))) (event other : Event)
-    → event ≡ other → GoesOn rows longer rest → GoesOn (event ∷ rows) (other ∷ longer) rest
-one_more_in_front rows longer rest event other one on = record {
+-- after no rows
+first_goes_on : (fields : List (List ℕ)) (after : List (List (List ℕ))) (event : Event)
+    (more : List Event) {rest : List (List (List ℕ))} → rest ≡ fields ∷ after → IsRow fields event
+    → GoesOn [] (event ∷ more) rest
+first_goes_on fields after event more is row = record {
+  fields = fields;
+  after = after;
+  event = event;
+  more = more;
+  record_is = is;
+  row = row;
+  longer_is = refl;
+}
+
+-- with one row more in front
+one_more_in_front : {rows longer : List Event} {rest : List (List (List ℕ))} (event : Event)
+    → GoesOn rows longer rest → GoesOn (event ∷ rows) (event ∷ longer) rest
+one_more_in_front event on = record {
   fields = on.fields;
   after = on.after;
   event = on.event;
   more = on.more;
   record_is = on.record_is;
   row = on.row;
-  longer_is = ap (λ e. e ∷ longer) (sym one) ∙ ap (λ es. event ∷ es) on.longer_is;
+  longer_is = ap (λ es. event ∷ es) on.longer_is;
 }
 
 -- of two fronts of rows of the same records, either both are one, or one goes on after the other
@@ -82,282 +83,151 @@ pub compared : (done others rest left : List (List (List ℕ))) (rows events : L
     → ((rows ≡ events) × (rest ≡ left)) ⊎ (GoesOn rows events rest ⊎ GoesOn events rows left)
 compared [] [] rest left [] [] told heard same = inl (refl, same)
 compared [] (fields ∷ others) rest left [] (event ∷ events) told heard same =
-    inr (inl (record {
-      fields = fields;
-      after = others ++ left;
-      event = event;
-      more = events;
-      record_is = same;
-      row = heard.0;
-      longer_is = refl;
-    }))
+    inr (inl (first_goes_on fields (others ++ left) event events same heard.0))
 compared (fields ∷ done) [] rest left (event ∷ rows) [] told heard same =
-    inr (inr (record {
-      fields = fields;
-      after = done ++ rest;
-      event = event;
-      more = rows;
-      record_is = sym same;
-      row = told.0;
-      longer_is = refl;
-    }))
+    inr (inr (first_goes_on fields (done ++ rest) event rows (sym same) told.0))
 compared (fields ∷ done) (first ∷ others) rest left (event ∷ rows) (other ∷ events) told heard
     same =
     let here : first ≡ fields = cc in
-    let P : List (List ℕ) → Type 0 = λ f. IsRow f other in
-    let one : event ≡ other = row_one fields event other told.0 (subst P here heard.0) in
-    joined one (compared done others rest left rows events told.1 heard.1 (cc))
+    let one : other ≡ event = row_one fields other event (rw here at heard.0) told.0 in
+    rw one (joined (compared done others rest left rows events told.1 heard.1 (cc)))
   where
-    joined : event ≡ other
-        → ((rows ≡ events) × (rest ≡ left)) ⊎ (GoesOn rows events rest ⊎ GoesOn events rows left)
-        → ((event ∷ rows ≡ other ∷ events) × (rest ≡ left))
-        ⊎ (GoesOn (event ∷ rows) (other ∷ events) rest
-        ⊎ GoesOn (other ∷ events) (event ∷ rows) left)
-    joined one (inl both) = inl (ap (λ e. e ∷ rows) one ∙ ap (λ es. other ∷ es) both.0, both.1)
-    joined one (inr (inl on)) = inr (inl (one_more_in_front rows events rest event other one on))
-    joined one (inr (inr on)) =
-        inr (inr (one_more_in_front events rows left other event (sym one) on))
-compared [] others rest left (event ∷ rows) events told heard same = absurd told
-compared (fields ∷ done) others rest left [] events told heard same = absurd told
-compared done [] rest left rows (event ∷ events) told heard same = absurd heard
-compared done (fields ∷ others) rest left rows [] told heard same = absurd heard
+    joined : ((rows ≡ events) × (rest ≡ left))
+        ⊎ (GoesOn rows events rest ⊎ GoesOn events rows left)
+        → ((event ∷ rows ≡ event ∷ events) × (rest ≡ left))
+        ⊎ (GoesOn (event ∷ rows) (event ∷ events) rest
+        ⊎ GoesOn (event ∷ events) (event ∷ rows) left)
+    joined (inl both) = inl (ap (λ es. event ∷ es) both.0, both.1)
+    joined (inr (inl on)) = inr (inl (one_more_in_front event on))
+    joined (inr (inr on)) = inr (inr (one_more_in_front event on))
+compared done others rest left rows events told heard same = absurd (search)
 
--- no such front is longer than another one
-no_longer : (scope : Scope) → RunLaws scope
-    → (limit : ℕ) (records : List (List (List ℕ))) (rows events : List Event)
-    (rest left : List (List (List ℕ)))
-    → Front scope limit records rows rest → Front scope limit records events left
-    → GoesOn rows events rest → ⊥
-no_longer scope laws limit records rows events rest left first second on =
-    let split : events ≡ (rows ++ on.event ∷ []) ++ on.more =
-    on.longer_is ∙ sym (append_assoc rows (on.event ∷ []) on.more) in
-    let long : length events ≡ length rows + length (on.event ∷ on.more) =
-    ap length on.longer_is ∙ length-append rows (on.event ∷ on.more) in
-    first.ends on.fields on.after on.event on.record_is on.row (laws.fronts (rows ++ on.event ∷ [])
-    on.more (subst (IsReached scope) split second.possible)) (omega (arith, second.few, long))
+module _ (scope : Scope) (laws : RunLaws scope) (limit : ℕ) where
+  -- how an answer ends after rows that are reached: with the records, or at the next one
+  abbrev EndsBy : List Event → List (List (List ℕ)) → Result Outcome RunFault → Type 0
+  EndsBy rows rest (Ok (Yes report)) = (rest ≡ []) × IsReport scope rows report
+  EndsBy rows rest (Ok (No offence)) = (fields : List (List ℕ)) × (after : List (List (List ℕ)))
+      × (rest ≡ fields ∷ after) × (row : Event) × IsRow fields row × (length rows < limit)
+      × IsOffence scope rows row offence
+  EndsBy rows rest (Err (BadRow number fault)) = (fields : List (List ℕ))
+      × (after : List (List (List ℕ))) × (rest ≡ fields ∷ after) × IsRefusal fields fault
+      × (length rows < limit) × (number ≡ length rows + 1)
+  EndsBy rows rest (Err TooLong) = (fields : List (List ℕ)) × (after : List (List (List ℕ)))
+      × (rest ≡ fields ∷ after) × (length rows ≡ limit)
+  EndsBy rows rest (Err fault) = ⊥
 
--- such a front of the records is one, and so is what stands after it
-one_front : (scope : Scope) → RunLaws scope
-    → (limit : ℕ) (records : List (List (List ℕ))) (rows events : List Event)
-    (rest left : List (List (List ℕ)))
-    → Front scope limit records rows rest → Front scope limit records events left
-    → (rows ≡ events) × (rest ≡ left)
-one_front scope laws limit records rows events rest left first second =
-    by_case (compared first.done second.done rest left rows events first.told second.told
-    (sym first.split ∙ second.split))
-  where
-    by_case : ((rows ≡ events) × (rest ≡ left))
-        ⊎ (GoesOn rows events rest ⊎ GoesOn events rows left) → (rows ≡ events) × (rest ≡ left)
-    by_case (inl same) = same
-    by_case (inr (inl on)) =
-        absurd (no_longer scope laws limit records rows events rest left first second on)
-    by_case (inr (inr on)) =
-        absurd (no_longer scope laws limit records events rows left rest second first on)
+  -- no row goes on there
+  stops : (rows : List Event) (rest : List (List (List ℕ))) (answer : Result Outcome RunFault)
+      → EndsBy rows rest answer → (fields : List (List ℕ)) (after : List (List (List ℕ)))
+      (event : Event) → rest ≡ fields ∷ after → IsRow fields event
+      → IsReached scope (rows ++ event ∷ []) → length rows < limit → ⊥
+  stops rows rest (Ok (Yes report)) ends fields after event is row reached few =
+      absurd (cc (ends.0, is))
+  stops rows rest (Ok (No offence)) ends fields after event is row reached few =
+      let same : fields ≡ ends.0 = cc (ends.2, is) in
+      let one : event ≡ ends.3 = row_one ends.0 event ends.3 (rw same at row) ends.4 in
+      ends.6.not_reached (rw one at reached)
+  stops rows rest (Err (BadRow number fault)) ends fields after event is row reached few =
+      let same : fields ≡ ends.0 = cc (ends.2, is) in
+      row_not_refused ends.0 event fault (rw same at row) ends.3
+  stops rows rest (Err TooLong) ends fields after event is row reached few =
+      omega (arith, ends.3, few)
+  stops rows rest (Err fault) ends fields after event is row reached few = absurd ends
 
--- the front of each answer
-yes_front : (scope : Scope) (limit : ℕ) (records : List (List (List ℕ))) (report : Report)
-    (is : IsPossible scope limit records report) → Front scope limit records is.rows []
-yes_front scope limit records report is = record {
-  done = records;
-  split = sym (append-nil records);
-  told = is.told;
-  possible = is.is.reached;
-  few = is.few;
-  ends = λ fields more event none row list below. cc;
-}
+  -- such an end is one
+  one_end : (rows : List Event) (rest : List (List (List ℕ))) (a b : Result Outcome RunFault)
+      → EndsBy rows rest a → EndsBy rows rest b → a ≡ b
+  one_end rows rest (Ok (Yes a)) (Ok (Yes b)) p q =
+      ap (λ report. Ok (Yes report)) (laws.one_report rows a b p.1 q.1)
+  one_end rows rest (Ok (No a)) (Ok (No b)) p q =
+      let same : q.0 ≡ p.0 = cc (q.2, p.2) in
+      let row : q.3 ≡ p.3 = row_one p.0 q.3 p.3 (rw same at q.4) p.4 in
+      ap (λ offence. Ok (No offence)) (laws.one_offence rows p.3 a b p.6 (rw row at q.6))
+  one_end rows rest (Ok (No a)) (Err (BadRow n b)) p q =
+      let same : q.0 ≡ p.0 = cc (q.2, p.2) in
+      absurd (row_not_refused p.0 p.3 b p.4 (rw same at q.3))
+  one_end rows rest (Err (BadRow m a)) (Ok (No b)) p q =
+      let same : p.0 ≡ q.0 = cc (q.2, p.2) in
+      absurd (row_not_refused q.0 q.3 a q.4 (rw same at p.3))
+  one_end rows rest (Err (BadRow m a)) (Err (BadRow n b)) p q =
+      let same : q.0 ≡ p.0 = cc (q.2, p.2) in
+      cc (p.5, q.5, one_refusal p.0 a b p.3 (rw same at q.3))
+  one_end rows rest (Err TooLong) (Err TooLong) p q = refl
+  one_end rows rest (Ok (Yes a)) (Err TooLong) p q = absurd (cc (p.0, q.2))
+  one_end rows rest (Err TooLong) (Ok (Yes b)) p q = absurd (cc (p.2, q.0))
+  one_end rows rest a b p q = absurd (first_of (search, cc, omega arith))
 
-no_front : (scope : Scope) → RunLaws scope
-    → (limit : ℕ) (records : List (List (List ℕ))) (offence : Offence)
-    (is : IsImpossible scope limit records offence)
-    → Front scope limit records is.rows (is.fields ∷ is.stops.rest)
-no_front scope laws limit records offence is = record {
-  done = is.stops.done;
-  split = is.stops.split;
-  told = is.stops.told;
-  possible = is.stops.possible;
-  few = omega (arith, is.few);
-  ends = λ fields more event same row list below. impossible_row fields event (cc) row list;
-}
-  where
-    impossible_row : (fields : List (List ℕ)) (event : Event) → fields ≡ is.fields
-        → IsRow fields event → IsReached scope (is.rows ++ event ∷ []) → ⊥
-    impossible_row fields event same row list =
-        let P : List (List ℕ) → Type 0 = λ f. IsRow f event in
-        let one : event ≡ is.row = row_one is.fields event is.row (subst P same row) is.told in
-        let Q : Event → Type 0 = λ e. IsReached scope (is.rows ++ e ∷ []) in
-        is.is.not_reached (subst Q one list)
+  module _ (records : List (List (List ℕ))) where
+    record Ending (answer : Result Outcome RunFault) : Type 0 where
+      rows : List Event
+      rest : List (List (List ℕ))
+      done : List (List (List ℕ))
+      split : records ≡ done ++ rest
+      told : AreRows done rows
+      possible : IsReached scope rows
+      few : length rows ≤ limit
+      by : EndsBy rows rest answer
 
-bad_front : (scope : Scope) (limit : ℕ) (records : List (List (List ℕ))) (row : ℕ)
-    (fault : RowFault) (is : IsBadRow scope limit records row fault)
-    → Front scope limit records is.rows (is.fields ∷ is.stops.rest)
-bad_front scope limit records row fault is = record {
-  done = is.stops.done;
-  split = is.stops.split;
-  told = is.stops.told;
-  possible = is.stops.possible;
-  few = omega (arith, is.few);
-  ends = λ fields more event same told list below. no_row fields event (cc) told;
-}
-  where
-    no_row : (fields : List (List ℕ)) (event : Event) → fields ≡ is.fields → IsRow fields event → ⊥
-    no_row fields event same told =
-        let P : List (List ℕ) → Type 0 = λ f. IsRow f event in
-        row_not_refused is.fields event fault (subst P same told) is.refused
+    stopped : (rows : List Event) {fields : List (List ℕ)} {answer : Result Outcome RunFault}
+        (stops : LeadUpTo scope records rows fields) → length rows ≤ limit
+        → EndsBy rows (fields ∷ stops.rest) answer → Ending answer
+    stopped rows {fields = fields} stops few by = record {
+      rows = rows;
+      rest = fields ∷ stops.rest;
+      done = stops.done;
+      split = stops.split;
+      told = stops.told;
+      possible = stops.possible;
+      few = few;
+      by = by;
+    }
 
-long_front : (scope : Scope) (limit : ℕ) (records : List (List (List ℕ)))
-    (is : IsTooLong scope limit records)
-    → Front scope limit records is.rows (is.fields ∷ is.stops.rest)
-long_front scope limit records is = record {
-  done = is.stops.done;
-  split = is.stops.split;
-  told = is.stops.told;
-  possible = is.stops.possible;
-  few = omega (arith, is.full);
-  ends = λ fields more event same told list below. omega (arith, is.full, below);
-}
+    ending : (answer : Result Outcome RunFault) → IsAnswer scope limit records answer
+        → IsOwnAnswer answer → Ending answer
+    ending (Ok (Yes report)) is own = record {
+      rows = is.rows;
+      rest = [];
+      done = records;
+      split = sym (append-nil records);
+      told = is.told;
+      possible = is.is.reached;
+      few = is.few;
+      by = (refl, is.is);
+    }
+    ending (Ok (No offence)) is own = stopped is.rows is.stops (omega (arith, is.few))
+        (is.fields, is.stops.rest, refl, is.row, is.told, is.few, is.is)
+    ending (Err (BadRow number fault)) is own = stopped is.rows is.stops (omega (arith, is.few))
+        (is.fields, is.stops.rest, refl, is.refused, is.few, is.number)
+    ending (Err TooLong) is own = stopped is.rows is.stops (omega (arith, is.full))
+        (is.fields, is.stops.rest, refl, is.full)
+    ending (Err fault) is own = absurd own
 
--- the offence after a front is one
-one_offence : (scope : Scope) → RunLaws scope
-    → (limit : ℕ) (records : List (List (List ℕ))) (a b : Offence)
-    → IsImpossible scope limit records a → IsImpossible scope limit records b → a ≡ b
-one_offence scope laws limit records a b first second =
-    let same =
-    one_front scope laws limit records _ _ _ _ (no_front scope laws limit records a first)
-    (no_front scope laws limit records b second) in
-    let tails : first.fields ∷ first.stops.rest ≡ second.fields ∷ second.stops.rest = same.1 in
-    let fields : second.fields ≡ first.fields = cc in
-    let P : List (List ℕ) → Type 0 = λ f. IsRow f second.row in
-    let event : second.row ≡ first.row =
-    row_one first.fields second.row first.row (subst P fields second.told) first.told in
-    let After : List Event → Type 0 = λ rs. IsOffence scope rs second.row b in
-    let OfRow : Event → Type 0 = λ e. IsOffence scope first.rows e b in
-    laws.one_offence first.rows first.row a b first.is
-    (subst OfRow event (subst After (sym same.0) second.is))
+    -- of two endings none is after more rows
+    no_longer : (a b : Result Outcome RunFault) (one : Ending a) (other : Ending b)
+        → GoesOn one.rows other.rows one.rest → ⊥
+    no_longer a b one other on =
+        let split : other.rows ≡ (one.rows ++ on.event ∷ []) ++ on.more =
+        on.longer_is ∙ sym (append_assoc one.rows (on.event ∷ []) on.more) in
+        let long = length-append one.rows (on.event ∷ on.more) in
+        stops one.rows one.rest a one.by on.fields on.after on.event on.record_is on.row
+        (laws.fronts (one.rows ++ on.event ∷ []) on.more (rw split at other.possible))
+        (omega (arith, other.few, ap length on.longer_is, long))
 
--- the record that is no row is one, and so is its refusal
-one_bad_row : (scope : Scope) → RunLaws scope
-    → (limit : ℕ) (records : List (List (List ℕ))) (m n : ℕ) (a b : RowFault)
-    → IsBadRow scope limit records m a → IsBadRow scope limit records n b → (m ≡ n) × (a ≡ b)
-one_bad_row scope laws limit records m n a b first second =
-    let same =
-    one_front scope laws limit records _ _ _ _ (bad_front scope limit records m a first)
-    (bad_front scope limit records n b second) in
-    let tails : first.fields ∷ first.stops.rest ≡ second.fields ∷ second.stops.rest = same.1 in
-    let fields : second.fields ≡ first.fields = cc in
-    let P : List (List ℕ) → Type 0 = λ f. IsRefusal f b in (
-      first.number ∙ (ap (λ rs. length rs + 1) same.0 ∙ sym second.number),
-      one_refusal first.fields a b first.refused (subst P fields second.refused),
-    )
+    one_front : (a b : Result Outcome RunFault) (one : Ending a) (other : Ending b)
+        → (one.rows ≡ other.rows) × (one.rest ≡ other.rest)
+    one_front a b one other =
+        elim (compared one.done other.done one.rest other.rest one.rows other.rows one.told
+        other.told (sym one.split ∙ other.split)) [
+          | inl same ↦ same
+          | inr (inl on) ↦ absurd (no_longer a b one other on)
+          | inr (inr on) ↦ absurd (no_longer b a other one on)
+        ]
 
--- two answers of different kinds
-yes_or_no : (scope : Scope) → RunLaws scope
-    → (limit : ℕ) (records : List (List (List ℕ))) (report : Report) (offence : Offence)
-    → IsPossible scope limit records report → IsImpossible scope limit records offence → ⊥
-yes_or_no scope laws limit records report offence first second =
-    let same =
-    one_front scope laws limit records _ _ _ _ (yes_front scope limit records report first)
-    (no_front scope laws limit records offence second) in
-    let clash : [] ≡ second.fields ∷ second.stops.rest = same.1 in cc
-
-yes_or_bad : (scope : Scope) → RunLaws scope
-    → (limit : ℕ) (records : List (List (List ℕ))) (report : Report) (row : ℕ) (fault : RowFault)
-    → IsPossible scope limit records report → IsBadRow scope limit records row fault → ⊥
-yes_or_bad scope laws limit records report row fault first second =
-    let same =
-    one_front scope laws limit records _ _ _ _ (yes_front scope limit records report first)
-    (bad_front scope limit records row fault second) in
-    let clash : [] ≡ second.fields ∷ second.stops.rest = same.1 in cc
-
-yes_or_long : (scope : Scope) → RunLaws scope
-    → (limit : ℕ) (records : List (List (List ℕ))) (report : Report)
-    → IsPossible scope limit records report → IsTooLong scope limit records → ⊥
-yes_or_long scope laws limit records report first second =
-    let same =
-    one_front scope laws limit records _ _ _ _ (yes_front scope limit records report first)
-    (long_front scope limit records second) in
-    let clash : [] ≡ second.fields ∷ second.stops.rest = same.1 in cc
-
-no_or_bad : (scope : Scope) → RunLaws scope
-    → (limit : ℕ) (records : List (List (List ℕ))) (offence : Offence) (row : ℕ) (fault : RowFault)
-    → IsImpossible scope limit records offence → IsBadRow scope limit records row fault → ⊥
-no_or_bad scope laws limit records offence row fault first second =
-    let same =
-    one_front scope laws limit records _ _ _ _ (no_front scope laws limit records offence first)
-    (bad_front scope limit records row fault second) in
-    let tails : first.fields ∷ first.stops.rest ≡ second.fields ∷ second.stops.rest = same.1 in
-    let fields : second.fields ≡ first.fields = cc in
-    let P : List (List ℕ) → Type 0 = λ f. IsRefusal f fault in
-    row_not_refused first.fields first.row fault first.told (subst P fields second.refused)
-
-no_or_long : (scope : Scope) → RunLaws scope
-    → (limit : ℕ) (records : List (List (List ℕ))) (offence : Offence)
-    → IsImpossible scope limit records offence → IsTooLong scope limit records → ⊥
-no_or_long scope laws limit records offence first second =
-    let same =
-    one_front scope laws limit records _ _ _ _ (no_front scope laws limit records offence first)
-    (long_front scope limit records second) in
-    omega (arith, ap length same.0, first.few, second.full)
-
-bad_or_long : (scope : Scope) → RunLaws scope
-    → (limit : ℕ) (records : List (List (List ℕ))) (row : ℕ) (fault : RowFault)
-    → IsBadRow scope limit records row fault → IsTooLong scope limit records → ⊥
-bad_or_long scope laws limit records row fault first second =
-    let same =
-    one_front scope laws limit records _ _ _ _ (bad_front scope limit records row fault first)
-    (long_front scope limit records second) in
-    omega (arith, ap length same.0, first.few, second.full)
-
--- the report is one
-one_yes : (scope : Scope) → RunLaws scope
-    → (limit : ℕ) (records : List (List (List ℕ))) (a b : Report) → IsPossible scope limit records a
-    → IsPossible scope limit records b → a ≡ b
-one_yes scope laws limit records a b first second =
-    let same =
-    one_front scope laws limit records _ _ _ _ (yes_front scope limit records a first)
-    (yes_front scope limit records b second) in
-    let After : List Event → Type 0 = λ rs. IsReport scope rs b in
-    laws.one_report first.rows a b first.is (subst After (sym same.0) second.is)
-
--- the answer to the records of a text is one
-pub one_answer : (scope : Scope) → RunLaws scope
-    → (limit : ℕ) (records : List (List (List ℕ))) (a b : Result Outcome RunFault)
-    → IsAnswer scope limit records a → IsAnswer scope limit records b → IsOwnAnswer a
-    → IsOwnAnswer b → a ≡ b
-one_answer scope laws limit records (Ok (Yes a)) (Ok (Yes b)) p q s t =
-    ap (λ report. Ok (Yes report)) (one_yes scope laws limit records a b p q)
-one_answer scope laws limit records (Ok (Yes a)) (Ok (No b)) p q s t =
-    absurd (yes_or_no scope laws limit records a b p q)
-one_answer scope laws limit records (Ok (Yes a)) (Err (BadRow n b)) p q s t =
-    absurd (yes_or_bad scope laws limit records a n b p q)
-one_answer scope laws limit records (Ok (Yes a)) (Err TooLong) p q s t =
-    absurd (yes_or_long scope laws limit records a p q)
-one_answer scope laws limit records (Ok (No a)) (Ok (Yes b)) p q s t =
-    absurd (yes_or_no scope laws limit records b a q p)
-one_answer scope laws limit records (Ok (No a)) (Ok (No b)) p q s t =
-    ap (λ offence. Ok (No offence)) (one_offence scope laws limit records a b p q)
-one_answer scope laws limit records (Ok (No a)) (Err (BadRow n b)) p q s t =
-    absurd (no_or_bad scope laws limit records a n b p q)
-one_answer scope laws limit records (Ok (No a)) (Err TooLong) p q s t =
-    absurd (no_or_long scope laws limit records a p q)
-one_answer scope laws limit records (Err (BadRow m a)) (Ok (Yes b)) p q s t =
-    absurd (yes_or_bad scope laws limit records b m a q p)
-one_answer scope laws limit records (Err (BadRow m a)) (Ok (No b)) p q s t =
-    absurd (no_or_bad scope laws limit records b m a q p)
-one_answer scope laws limit records (Err (BadRow m a)) (Err (BadRow n b)) p q s t =
-    let same = one_bad_row scope laws limit records m n a b p q in
-    ap (λ row. Err (BadRow row a)) same.0 ∙ ap (λ fault. Err (BadRow n fault)) same.1
-one_answer scope laws limit records (Err (BadRow m a)) (Err TooLong) p q s t =
-    absurd (bad_or_long scope laws limit records m a p q)
-one_answer scope laws limit records (Err TooLong) (Ok (Yes b)) p q s t =
-    absurd (yes_or_long scope laws limit records b q p)
-one_answer scope laws limit records (Err TooLong) (Ok (No b)) p q s t =
-    absurd (no_or_long scope laws limit records b q p)
-one_answer scope laws limit records (Err TooLong) (Err (BadRow n b)) p q s t =
-    absurd (bad_or_long scope laws limit records n b q p)
-one_answer scope laws limit records (Err TooLong) (Err TooLong) p q s t = refl
-one_answer scope laws limit records (Err Read) b p q s t = absurd s
-one_answer scope laws limit records (Err Write) b p q s t = absurd s
-one_answer scope laws limit records (Err Memory) b p q s t = absurd s
-one_answer scope laws limit records a (Err Read) p q s t = absurd t
-one_answer scope laws limit records a (Err Write) p q s t = absurd t
-one_answer scope laws limit records a (Err Memory) p q s t = absurd t
+    -- the answer to the records of a text is one
+    pub one_answer : (a b : Result Outcome RunFault) → IsAnswer scope limit records a
+        → IsAnswer scope limit records b → IsOwnAnswer a → IsOwnAnswer b → a ≡ b
+    one_answer a b p q s t =
+        let one = ending a p s in
+        let other = ending b q t in
+        let same = one_front a b one other in
+        one_end other.rows other.rest a b (rw (same.0, same.1) at one.by) other.by

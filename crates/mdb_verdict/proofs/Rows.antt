@@ -1,5 +1,5 @@
 -- Records that are rows.
-use Rattle.std.proofs.Common.{arith, refl, ap, ◌∙◌, ◌≡◌, ◌+◌, ◌<◌, ℕ, List, [], ◌∷◌, ◌++◌, Result, Ok, Err, length, length-append, append_assoc, IsOk}
+use Rattle.std.proofs.Common.{arith, refl, ap, sym, ◌∙◌, ◌≡◌, ◌+◌, ◌<◌, ℕ, List, [], ◌∷◌, ◌++◌, Result, Ok, Err, length, length-append, append_assoc, IsOk}
 use Rattle.mdb_words.specs.declared.event.Event.{Event}
 use Rattle.mdb_words.specs.Row.{IsRow}
 use Rattle.mdb_verdict.specs.Batch.{AreAll}
@@ -18,16 +18,14 @@ pub rows_push : (records : List (List (List ℕ))) (rows : List Event) (fields :
 rows_push [] [] fields event told row = (row, tt)
 rows_push (r ∷ records) (e ∷ rows) fields event told row =
     (told.0, rows_push records rows fields event told.1 row)
-rows_push [] (e ∷ rows) fields event told row = absurd told
-rows_push (r ∷ records) [] fields event told row = absurd told
+rows_push records rows fields event told row = absurd told
 
 -- rows that are events
 pub are_rows : (records : List (List (List ℕ))) (rows : List Event) → AreAll IsRow records rows
     → AreRows records rows
 are_rows [] [] told = tt
 are_rows (r ∷ records) (e ∷ rows) told = (told.0, are_rows records rows told.1)
-are_rows [] (e ∷ rows) told = absurd told
-are_rows (r ∷ records) [] told = absurd told
+are_rows records rows told = absurd told
 
 -- a row more
 pub all_push : {Row : Type 0} (Is : List (List ℕ) → Row → Type 0) (records : List (List (List ℕ)))
@@ -36,8 +34,7 @@ pub all_push : {Row : Type 0} (Is : List (List ℕ) → Row → Type 0) (records
 all_push Is [] [] fields row told is = (is, tt)
 all_push Is (r ∷ records) (e ∷ rows) fields row told is =
     (told.0, all_push Is records rows fields row told.1 is)
-all_push Is [] (e ∷ rows) fields row told is = absurd told
-all_push Is (r ∷ records) [] fields row told is = absurd told
+all_push Is records rows fields row told is = absurd told
 
 -- so many are there then
 pub one_longer : {Row : Type 0} (rows longer : List Row) (row : Row) → longer ≡ rows ++ row ∷ []
@@ -52,8 +49,7 @@ pub all_append : {Row : Type 0} (Is : List (List ℕ) → Row → Type 0) (one :
 all_append Is [] [] other second told more = more
 all_append Is (r ∷ one) (e ∷ first) other second told more =
     (told.0, all_append Is one first other second told.1 more)
-all_append Is [] (e ∷ first) other second told more = absurd told
-all_append Is (r ∷ one) [] other second told more = absurd told
+all_append Is one first other second told more = absurd told
 
 -- the records of rows that have parts have parts too
 pub record Parts {Row : Type 0} (Is : List (List ℕ) → Row → Type 0) (records : List (List (List ℕ)))
@@ -96,16 +92,15 @@ pub read_before : {Row : Type 0} (Is : List (List ℕ) → Row → Type 0) (all 
     (rows more : List Row) (rest : List (List (List ℕ))) → AreRead Is all (rows ++ more) rest
     → IsReadBefore Is all rows more
 read_before Is all rows more rest read =
-    let parts : Parts Is read.done rows more = parts_of Is read.done rows more read.told in
+    let parts = parts_of Is read.done rows more read.told in
     record {
       after = parts.after;
       rest = rest;
       others = parts.others;
       read = record {
         done = parts.done;
-        split =
-            read.split
-            ∙ (ap (λ l. l ++ rest) parts.is ∙ append_assoc parts.done parts.after rest);
+        split = read.split ∙ (ap (λ l. l ++ rest) parts.is
+            ∙ append_assoc parts.done parts.after rest);
         told = parts.told;
       };
     }
@@ -128,21 +123,31 @@ read_up_to Is all rows row more rest read =
   where
     first : (after rest : List (List (List ℕ))) → AreAll Is after (row ∷ more)
         → AreRead Is all rows (after ++ rest) → IsReadUpTo Is all rows row
+    first (fields ∷ after) rest others read =
+        record { fields = fields; rest = after ++ rest; read = read; told = others.0 }
     first [] rest others read = absurd others
-    first (fields ∷ after) rest others read = record {
-      fields = fields;
-      rest = after ++ rest;
-      read = read;
-      told = others.0;
-    }
+
+-- the same of one of some later rows, of which as many come before it or fewer
+pub read_at : {Row : Type 0} (Is : List (List ℕ) → Row → Type 0) {all : List (List (List ℕ))}
+    (earlier : List Row) {later : List Row} (front : List Row) (row : Row) (more : List Row)
+    {rest : List (List (List ℕ))} → AreRead Is all (earlier ++ later) rest
+    → later ≡ front ++ row ∷ more → IsReadUpTo Is all (earlier ++ front) row
+read_at Is {all = all} earlier front row more {rest = rest} read parts =
+    read_up_to Is all (earlier ++ front) row more rest
+    (rw (parts, sym (append_assoc earlier front (row ∷ more))) at read)
+
+pub fewer : {Row : Type 0} (earlier : List Row) {later : List Row} (front : List Row) (row : Row)
+    (more : List Row) → later ≡ front ++ row ∷ more
+    → length (earlier ++ front) < length (earlier ++ later)
+fewer earlier front row more parts = rw parts (simp length-append (omega arith))
 
 -- the first of the records of some rows
 pub first_row : {Row : Type 0} (Is : List (List ℕ) → Row → Type 0)
     (done rest : List (List (List ℕ))) (rows : List Row) → AreAll Is done rows → 0 < length rows
     → HasFirst (done ++ rest)
-first_row Is [] rest [] told some = absurd (omega (arith, some))
-first_row Is [] rest (e ∷ rows) told some = absurd told
 first_row Is (r ∷ done) rest rows told some = record { fields = r; rest = done ++ rest; is = refl }
+first_row Is [] rest [] told some = absurd (omega arith)
+first_row Is [] rest (e ∷ rows) told some = absurd told
 
 pub no_rows : {Row : Type 0} (Is : List (List ℕ) → Row → Type 0) (done : List (List (List ℕ)))
     (rows : List Row) → AreAll Is done rows → rows ≡ [] → done ≡ []

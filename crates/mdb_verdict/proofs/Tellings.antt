@@ -6,13 +6,12 @@ use Rattle.mdb_records.specs.declared.ReadFault.TheVariants as reading
 use Rattle.mdb_records.specs.declared.Records.{Records}
 use Rattle.mdb_records.specs.ToCome.{IsOverLimit, fault_of}
 use Rattle.mdb_verdict.specs.declared.fault.RunFault.{RunFault}
-use Rattle.mdb_verdict.specs.declared.fault.RunFault.TheVariants.{BadRow, TooLong, Read, Write, Memory}
+use Rattle.mdb_verdict.specs.declared.fault.RunFault.TheVariants.{Write, Memory}
 use Rattle.mdb_verdict.specs.Ending.{IsHeard, IsToldEnd}
 use Rattle.mdb_verdict.specs.Telling.{IsFinished, IsMetBy, IsNotTaken, IsOfOutput, Reads, Tells, broken, cut, whole}
 use Rattle.mdb_verdict.specs.Verdict.{HasCause, run_fault_of}
 use Rattle.mdb_writing.specs.Answers.{IsSent}
 use Rattle.mdb_writing.specs.Output.{Output, begun}
-use Rattle.mdb_writing.specs.Written.{HasTaken}
 use Rattle.mdb_writing.proofs.Outputs as outputs
 
 -- what holds of a fault holds of an answer that `?` hands on
@@ -30,35 +29,29 @@ pub told : {Answer : Type 0} (Is : Result Answer RunFault → List ℕ → Type 
     → (before later : Option (List ℕ)) (now : Output) (answer last : Result Answer RunFault)
     → IsSent Is Write (begun before) now answer → IsFinished answer now later last
     → Tells Is before later last
-told {Answer = Answer} Is none before later now answer last (inl puts) (broken failed same held) =
-    let P : Result Answer RunFault → Type 0 = λ a. Is a puts.0 in
-    absurd (none puts.0 (subst P failed puts.1))
-told Is none before later now answer last (inr puts) (broken failed same held) =
-    let P : Option (List ℕ) → Type 0 = λ l. HasTaken before l puts.1.text in
-    inr (
-      same ∙ failed,
-      record {
-        answer = puts.1.answer;
-        text = puts.1.text;
-        is = puts.1.is;
-        taken = subst P (sym held) puts.1.broken;
-      },
-    )
-told {Answer = Answer} Is none before later now answer last (inl puts) (whole not same written) =
-    let P : Result Answer RunFault → Type 0 = λ a. Tells Is before later a in
-    subst P (sym same)
-    (inl (puts.0, puts.1, outputs.written_out before later now puts.0 puts.2 written))
+told Is none before later now answer last (inl puts) (broken failed same held) =
+    absurd (none puts.0 (rw failed at puts.1))
+told Is none before later now answer last (inr puts) (broken failed same held) = inr (
+  same ∙ failed,
+  record {
+    answer = puts.1.answer;
+    text = puts.1.text;
+    is = puts.1.is;
+    taken = rw held puts.1.broken;
+  },
+)
+told Is none before later now answer last (inl puts) (whole not same written) =
+    rw same (inl (puts.0, puts.1, outputs.written_out before later now puts.0 puts.2 written))
 told Is none before later now answer last (inr puts) (whole not same written) = absurd (not puts.0)
-told Is none before later now answer last (inl puts) (cut not failed taken) =
-    inr (
-      failed,
-      record {
-        answer = answer;
-        text = puts.0;
-        is = puts.1;
-        taken = outputs.broken_out before later now puts.0 puts.2 taken;
-      },
-    )
+told Is none before later now answer last (inl puts) (cut not failed taken) = inr (
+  failed,
+  record {
+    answer = answer;
+    text = puts.0;
+    is = puts.1;
+    taken = outputs.broken_out before later now puts.0 puts.2 taken;
+  },
+)
 told Is none before later now answer last (inr puts) (cut not failed taken) = absurd (not puts.0)
 
 -- How an answer stands to the reading of the records.
@@ -68,17 +61,14 @@ told Is none before later now answer last (inr puts) (cut not failed taken) = ab
 heard_output : {Answer : Type 0} (met : Option ReadFault) (answer : Result Answer RunFault)
     → IfErr answer IsOfOutput → IfErr answer (HasCause met)
 heard_output met (Ok done) of = tt
-heard_output met (Err fault) of = λ reads. absurd (subst IsOfOutput reads of)
+heard_output met (Err fault) of = λ reads. absurd (rw reads at of)
 
 told_output : {Answer : Type 0} (met : Option ReadFault) (answer : Result Answer RunFault)
     → IfErr answer IsOfOutput → IfSome met (λ failed. IfErr answer (IsMetBy failed))
 told_output None answer of = tt
 told_output (Some failed) (Ok done) of = tt
-told_output (Some failed) (Err (BadRow row fault)) of = absurd of
-told_output (Some failed) (Err TooLong) of = absurd of
-told_output (Some failed) (Err Read) of = absurd of
 told_output (Some failed) (Err Write) of = tt
-told_output (Some failed) (Err Memory) of = tt
+told_output (Some failed) (Err fault) of = search
 
 pub reads_output : {R Answer : Type 0} (IsNotWhole : Result Answer RunFault → Type 0)
     (remaining : R → Option (List ℕ)) (old new : Records R) (answer : Result Answer RunFault)
@@ -92,11 +82,9 @@ reads_output IsNotWhole remaining old new answer part of = record {
 
 pub not_taken_of_output : (fault : RunFault) (before after : Output) (text : List ℕ)
     → IsNotTaken fault before after text → IsOfOutput fault
-not_taken_of_output (BadRow row fault) before after text not = absurd not
-not_taken_of_output TooLong before after text not = absurd not
-not_taken_of_output Read before after text not = absurd not
 not_taken_of_output Write before after text not = tt
 not_taken_of_output Memory before after text not = tt
+not_taken_of_output fault before after text not = absurd not
 
 -- the last page is written out, or the writer fails at it
 pub reads_finished : {R Answer : Type 0} (IsNotWhole : Result Answer RunFault → Type 0)
@@ -105,23 +93,19 @@ pub reads_finished : {R Answer : Type 0} (IsNotWhole : Result Answer RunFault �
     → Reads IsNotWhole remaining old new answer → IsFinished answer now later last
     → Reads IsNotWhole remaining old new last
 reads_finished IsNotWhole remaining old new later now answer last part reads
-    (broken failed same held) =
-    subst (Reads IsNotWhole remaining old new) (sym same) reads
+    (broken failed same held) = rw same reads
 reads_finished IsNotWhole remaining old new later now answer last part reads
-    (whole not same written) =
-    subst (Reads IsNotWhole remaining old new) (sym same) reads
+    (whole not same written) = rw same reads
 reads_finished IsNotWhole remaining old new later now answer last part reads
     (cut not failed taken) =
-    subst (Reads IsNotWhole remaining old new) (sym failed)
-    (reads_output IsNotWhole remaining old new (Err Write) part tt)
+    rw failed (reads_output IsNotWhole remaining old new (Err Write) part tt)
 
 -- All rows were read.
 
 none_met : {Stop : Type 0} (met : Option ReadFault) (told : Result (Option Stop) RunFault)
     → IfSome met (λ failed. IsToldEnd failed told) → told ≡ Ok None → IsSome met → ⊥
 none_met None told known is some = absurd cc
-none_met {Stop = Stop} (Some failed) told known is some =
-    subst (λ (t : Result (Option Stop) RunFault). IsToldEnd failed t) is known
+none_met (Some failed) told known is some = rw is at known
 
 pub reads_all : {R Stop Answer : Type 0} (IsNotWhole : Result Answer RunFault → Type 0)
     (remaining : R → Option (List ℕ)) (old new : Records R) (told : Result (Option Stop) RunFault)
@@ -146,10 +130,8 @@ told_fault : {Stop : Type 0} (met : Option ReadFault) (told : Result (Option Sto
     (fault other : RunFault) → IfSome met (λ failed. IsToldEnd failed told) → told ≡ Err fault
     → other ≡ fault → IfSome met (λ failed. IsMetBy failed other)
 told_fault None told fault other known is same = tt
-told_fault {Stop = Stop} (Some failed) told fault other known is same =
-    let of : fault ≡ run_fault_of failed =
-    subst (λ (t : Result (Option Stop) RunFault). IsToldEnd failed t) is known in
-    subst (IsMetBy failed) (sym (same ∙ of)) (run_met failed)
+told_fault (Some failed) told fault other known is same =
+    let of : fault ≡ run_fault_of failed = rw is at known in rw (same ∙ of) (run_met failed)
 
 pub reads_fault : {R Stop Answer : Type 0} (IsNotWhole : Result Answer RunFault → Type 0)
     (remaining : R → Option (List ℕ)) (old new : Records R) (told : Result (Option Stop) RunFault)
@@ -160,12 +142,9 @@ pub reads_fault : {R Stop Answer : Type 0} (IsNotWhole : Result Answer RunFault 
     → IsErrAnd answer (λ other. other ≡ fault) → Reads IsNotWhole remaining old new answer
 reads_fault IsNotWhole remaining old new told fault part heard met is (Ok done) handed =
     absurd handed
-reads_fault {Stop = Stop} IsNotWhole remaining old new told fault part heard met is (Err other)
-    handed =
-    let P : Result (Option Stop) RunFault → Type 0 = λ t. IfErr t (IsHeard (fault_of new)) in
-    record {
-      over_limit = λ over. part other;
-      heard = λ reads. subst (IsHeard (fault_of new)) (sym handed ∙ reads) (subst P is heard);
-      met = λ none some. part other;
-      told = λ none. told_fault (fault_of new) told fault other (met none) is handed;
-    }
+reads_fault IsNotWhole remaining old new told fault part heard met is (Err other) handed = record {
+  over_limit = λ over. part other;
+  heard = λ reads. rw (sym handed ∙ reads) at (rw is at heard);
+  met = λ none some. part other;
+  told = λ none. told_fault (fault_of new) told fault other (met none) is handed;
+}

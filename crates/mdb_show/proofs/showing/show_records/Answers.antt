@@ -1,9 +1,6 @@
-use Rattle.std.proofs.Common.{subst}
-use Rattle.mdb_bus.specs.declared.scope.Scope.{Scope}
-use Rattle.mdb_text.specs.declared.form.Form.{Form}
-use Rattle.mdb_writing.specs.Output.{begun, output}
+-- What is shown is written out at the end.
+use Rattle.mdb_writing.specs.Output.{output}
 use Rattle.mdb_show.specs.Show.{IsNotWhole, IsShowingIn, lines_in}
-use Rattle.mdb_show.specs.inner.ShowSteps.{PutsShowing}
 use Rattle.mdb_show.proofs.Showings.{fault_not_whole}
 use Rattle.mdb_verdict.specs.declared.fault.RunFault.TheVariants.{Write}
 use Rattle.mdb_verdict.proofs.Tellings.{reads_finished, told}
@@ -12,24 +9,16 @@ use Rattle.mdb_show.proofs.showing.show_records.Goals as goal
 pub returns-clause-shows : goal.returns-clause-shows
 returns-clause-shows g c all to_come =
     let held = g.W.Write.contents in
-    let now =
-    output (held c.show_rows-answer.new.writer) c.show_rows-answer.new.showing.printer.page in
-    let In : Form → Type 0 = λ form. PutsShowing (lines_in form) c.args.scope.now all
-    (begun (held c.args.writer.now)) now c.show_rows-answer.result in
-    let Of : Scope → Type 0 = λ scope.
-    PutsShowing (lines_in c.new-showing.result.form) scope all
-    (begun (held c.args.writer.now)) now c.show_rows-answer.result in
     told (IsShowingIn (lines_in c.args.form) c.args.scope.now all) (λ text is. is)
-    (held c.args.writer.now) (held c.finish.new.writer) now c.show_rows-answer.result
-    c.finish.result
-    (subst In c.new-showing.ensures.form
-    (subst Of c.new-showing.ensures.scope (c.show_rows-answer.ensures.shows all to_come)))
-    c.finish.ensures
+    (held c.args.writer.now) (held c.finish.new.writer)
+    (output (held c.show_rows-answer.new.writer) c.show_rows-answer.new.showing.printer.page)
+    c.show_rows-answer.result c.finish.result
+    (rw (c.new-showing.ensures.form, c.new-showing.ensures.scope) at
+    (c.show_rows-answer.ensures.shows all to_come)) c.finish.ensures
 
 pub returns-clause-reads : goal.returns-clause-reads
 returns-clause-reads g c =
     reads_finished IsNotWhole g.R.Read.remaining c.args.records.now
-    c.show_rows-answer.new.records (g.W.Write.contents c.finish.new.writer)
-    (output (g.W.Write.contents c.show_rows-answer.new.writer)
-    c.show_rows-answer.new.showing.printer.page) c.show_rows-answer.result c.finish.result
-    (fault_not_whole Write) c.show_rows-answer.ensures.reads c.finish.ensures
+    c.show_rows-answer.new.records (g.W.Write.contents c.finish.new.writer) _
+    c.show_rows-answer.result c.finish.result (fault_not_whole Write)
+    c.show_rows-answer.ensures.reads c.finish.ensures

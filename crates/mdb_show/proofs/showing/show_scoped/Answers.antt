@@ -1,3 +1,4 @@
+-- The records of a text are read as its records alone.
 use Rattle.std.proofs.Common.{◌<◌, ℕ, List, length}
 use Rattle.std.proofs.lemmas.Option.{IfSome_then}
 use Rattle.mdb_show.specs.Show.{IsNotWhole}

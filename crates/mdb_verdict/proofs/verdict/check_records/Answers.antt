@@ -1,5 +1,5 @@
-use Rattle.std.proofs.Common.{◌∙◌, inr, subst}
-use Rattle.mdb_writing.specs.Written.{HasTaken}
+-- An outcome says what the headline has of it, also where the writer fails or memory is out.
+use Rattle.std.proofs.Common.{◌∙◌, inr}
 use Rattle.mdb_verdict.specs.declared.fault.RunFault.TheVariants.{Write}
 use Rattle.mdb_verdict.specs.Verdict.{IsAnswer}
 use Rattle.mdb_verdict.proofs.Verdicts.{handed}
@@ -11,19 +11,15 @@ returns-clause-headline g c all to_come =
     (c.in_ok-outcome.ensures.answer all to_come)
 
 pub returns-in_err-write_text-clause-answers : goal.returns-in_err-write_text-clause-answers
-returns-in_err-write_text-clause-answers g c all to_come =
-    let held = g.W.Write.contents in
-    record {
-      answer = handed (IsAnswer c.args.scope.now c.args.rows_max all) Write _
-          c.from_residual-in_err-write_text.ensures.1 tt;
-      cut = λ refused.
-          record {
-            outcome = c.in_ok-outcome.outcome;
-            is = c.in_ok-outcome.ensures.answer all to_come;
-            taken = subst (HasTaken (held c.args.writer.now) (held c.write_text.new.writer))
-                (c.as_slice.ensures.value ∙ c.in-Some.ensures) c.write_text.ensures.front;
-          };
-    }
+returns-in_err-write_text-clause-answers g c all to_come = record {
+  answer = handed (IsAnswer c.args.scope.now c.args.rows_max all) Write _
+      c.from_residual-in_err-write_text.ensures.1 tt;
+  cut = λ refused. record {
+    outcome = c.in_ok-outcome.outcome;
+    is = c.in_ok-outcome.ensures.answer all to_come;
+    taken = rw (c.as_slice.ensures.value ∙ c.in-Some.ensures) at c.write_text.ensures.front;
+  };
+}
 
 pub returns-in_default-clause-room : goal.returns-in_default-clause-room
 returns-in_default-clause-room g c all to_come out =

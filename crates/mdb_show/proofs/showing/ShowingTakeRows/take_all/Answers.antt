@@ -1,3 +1,4 @@
+-- The lines of the rows are added.
 use Rattle.std.proofs.Common.{subst, sym}
 use Rattle.mdb_bus.specs.Bus.{scope_of}
 use Rattle.mdb_verdict.specs.Ending.{HasTakenOrStopped}
