@@ -16,7 +16,7 @@ class Socket:
     """A web socket to a server on this machine."""
 
     def __init__(self, port, path):
-        self.link, self.rest = socket.create_connection(("127.0.0.1", port), 60), b""
+        self.link, self.rest = socket.create_connection(("127.0.0.1", port), 600), b""
         key = base64.b64encode(os.urandom(16)).decode()
         words = [f"GET {path} HTTP/1.1", f"Host: 127.0.0.1:{port}", "Upgrade: websocket", "Connection: Upgrade",
                  f"Sec-WebSocket-Key: {key}", "Sec-WebSocket-Version: 13", "", ""]
