@@ -76,7 +76,11 @@ module _ {pieces : List Piece} {stay : ℕ} {before after : List PageAct} (piece
           (put_before number other older kept there)
       | inr not ↦
           let same : number ≡ length pieces = omega (arith, not, within) in
-          rw (same, get_or-set_same after newest_place entry other (omega (arith, low, are.room))) is
+          rw (
+            same,
+            get_or-set_same after newest_place entry other
+                (omega (arith, low, are.room)),
+          ) is
     ];
     kept = λ place other past.
         let apart : place ≢ newest_place =

@@ -189,7 +189,8 @@ module _ (number account side : ℕ) (was is risen : Range) (so : risen ≡ rise
 
 -- what is listed of both sides of an account is what a row lists of it
 pub lists_account : {skip : ℕ} (all : List PageRise) {before now : List PageRise}
-    {listing : RiseListing} (row place : ℕ) (last report : Report) (name : AccountName) (was is : Account)
+    {listing : RiseListing} (row place : ℕ) (last report : Report) (name : AccountName)
+    (was is : Account)
     → was ≡ account_of name last → is ≡ account_of name report → row ≡ report.rows
     → place ≡ account_place name
     → HasListed skip ((all ++ rise_of row place 0 was.device is.device)
@@ -210,7 +211,8 @@ lists_account {skip} all {before} {now} {listing} row place last report name was
 
 -- one account more
 pub one_name_more : {skip : ℕ} (all : List PageRise) {before now : List PageRise}
-    {listing : RiseListing} (made : AccountName → List PageRise) (names : List AccountName) (i : ℕ) (d : AccountName)
+    {listing : RiseListing} (made : AccountName → List PageRise) (names : List AccountName) (i : ℕ)
+    (d : AccountName)
     (its : List PageRise) → i < length names → its ≡ made (get_or names i d)
     → HasListed skip ((all ++ flat_map made (take i names)) ++ its) listing before now
     → HasListed skip (all ++ flat_map made (take (i + 1) names)) listing before now
@@ -222,7 +224,8 @@ one_name_more {skip} all {before} {now} {listing} made names i d its below same 
 
 -- all accounts
 pub all_names : {skip : ℕ} (all : List PageRise) {before now : List PageRise}
-    {listing next : RiseListing} (made : AccountName → List PageRise) (names : List AccountName) (i : ℕ) → length names ≤ i
+    {listing next : RiseListing} (made : AccountName → List PageRise) (names : List AccountName)
+    (i : ℕ) → length names ≤ i
     → next.skip ≡ listing.skip → next.count ≡ listing.count
     → HasListed skip (all ++ flat_map made (take i names)) listing before now
     → HasListed skip (all ++ flat_map made names) next before now

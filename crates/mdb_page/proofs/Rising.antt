@@ -94,8 +94,10 @@ none_of_all : (number : ℕ) (accounts : List Account) (names : List AccountName
     → flat_map (row_of number accounts accounts) names ≡ []
 none_of_all number accounts [] = refl
 none_of_all number accounts (name ∷ names) =
-    rw (none_of number (account_place name) 0 (account_in name accounts).device,
-    none_of number (account_place name) 1 (account_in name accounts).controller)
+    rw (
+      none_of number (account_place name) 0 (account_in name accounts).device,
+      none_of number (account_place name) 1 (account_in name accounts).controller,
+    )
     (none_of_all number accounts names)
 
 none_between : (before after : Report) → after.accounts ≡ before.accounts

@@ -64,7 +64,8 @@ pub returns-in-Err-feed_into-clause-walked : goal.returns-in-Err-feed_into-claus
 returns-in-Err-feed_into-clause-walked c =
     walks.ends_broken c.loop-act.invariant.walks
     (walks.line_of c.first_line.ensures.line c.without_return-line.ensures)
-    (walks.has_bytes c.without_return-line.result.now c.if-not-is_empty.ensures) _ refl c.in-Ok.event
+    (walks.has_bytes c.without_return-line.result.now c.if-not-is_empty.ensures) _ refl
+    c.in-Ok.event
     c.in-Err-feed_into.field-0 c.if-rows-ge-ROWS_MAX.false c.in-Ok.ensures.row
     c.in-Err-feed_into.ensures.faults
 

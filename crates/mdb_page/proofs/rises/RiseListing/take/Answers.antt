@@ -14,7 +14,8 @@ loop-name-preserved c =
       last = c.take_account.ensures.last ∙ before.last;
       count = omega (arith, c.take_account.ensures.count, before.count);
       listed = λ skip all first has.
-          one_name_more all (rises_in c.args.self.now.last report) ALL c.loop-name.name-index CoinsIn _
+          one_name_more all (rises_in c.args.self.now.last report) ALL c.loop-name.name-index
+          CoinsIn _
           c.loop-name-test.true
           (ap (λ last. rises_in last report (get_or ALL c.loop-name.name-index CoinsIn))
           before.last)

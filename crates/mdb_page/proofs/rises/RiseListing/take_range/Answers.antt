@@ -13,4 +13,5 @@ returns-then-not-is_one-clause-listed c skip all before has =
 pub returns-else-not-is_one-clause-listed : goal.returns-else-not-is_one-clause-listed
 returns-else-not-is_one-clause-listed c skip all before has =
     lists_no_range c.args.row c.args.account c.args.side c.args.before c.args.after
-    c.risen-risen.result c.risen-risen.ensures all (sym c.is_one.ensures ∙ c.if-not-is_one.false) has
+    c.risen-risen.result c.risen-risen.ensures all (sym c.is_one.ensures
+    ∙ c.if-not-is_one.false) has
