@@ -109,9 +109,8 @@ module _ (unit : ReaderUnit) (begins : Beginning) where
       → HasToldByProfile (FactsBy profile (act ∷ so_far)) after
   goes_on_by profiles.Base so_far act choice (Base before) (Base after) gains told step =
       goes_on_told begins unit so_far step.facts act choice before after gains told step.step
-  goes_on_by profiles.Extended so_far act choice (Extended before)
-  (Extended after) gains told step =
-      tt
+  goes_on_by profiles.Extended so_far act choice (Extended before) (Extended after) gains told
+      step = tt
   goes_on_by profile so_far act choice before after gains told step = absurd assumption
 
   module _ (setups : Setups) where
