@@ -191,8 +191,8 @@ recorded begins setups device later front act choice before after gains is = rec
 module _ {Own Setup Asked M State : Type 0} (tables : Tables Own Setup Asked M)
     (conduct : Conduct Own Setup Asked M State) where
   -- What is so of the conduct of a device, where its kept messages are of some form (`Fits`). What
-  -- it does may be done with the facts of the end, for the same gains where no money is asked for or
-  -- told, or the setup table is the same. By no act but a reply does it come to hold messages.
+  -- it does may be done with the facts of the end. The gains are the same where no money is asked
+  -- for or told, or the setup table is the same. By a reply alone does it come to hold messages.
   pub record IsSteady (Fits : M → Type 0) : Type 0 where
     pub asks : (known : KnownFacts Setup Asked M) (facts : Facts Setup Asked M) (command : Own)
         (before after : State) (gains : Gains) → conduct.Asks facts command before after gains
