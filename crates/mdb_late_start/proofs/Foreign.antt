@@ -46,7 +46,8 @@ is_machine_of begins (devices.Reader unit) = reader_ways.is_machine unit begins
 
 module _ (device : Device) where
   -- a device has no part in foreign acts
-  pub none_of_its : (pieces : List Piece) → AreForeign pieces → own_acts device (acts_of pieces) ≡ []
+  pub none_of_its : (pieces : List Piece) → AreForeign pieces
+      → own_acts device (acts_of pieces) ≡ []
   none_of_its [] foreign = refl
   none_of_its (Whole acts.Foreign events ∷ pieces) foreign = none_of_its pieces foreign.1
   none_of_its (piece ∷ pieces) foreign = absurd foreign.0

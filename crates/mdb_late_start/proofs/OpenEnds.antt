@@ -139,9 +139,11 @@ module _ (untold : Format) (extended : IsExtended untold) where
       → IsLess (format_at Open asked told) (format_at untold more_asked more_told)
   format_less (Some asked) (Some told) more_asked more_told one other =
       rw (one, other) (inr (inl refl))
-  format_less (Some asked) None more_asked more_told one other = rw one (by_controller asked more_told)
+  format_less (Some asked) None more_asked more_told one other =
+      rw one (by_controller asked more_told)
   format_less None (Some told) more_asked more_told one other = rw other (by_reader told more_asked)
-  format_less None None more_asked more_told one other = inl (refl, at_extended more_asked more_told)
+  format_less None None more_asked more_told one other =
+      inl (refl, at_extended more_asked more_told)
 
 -- that of a command's reply
 pub format_alone : (begins : Beginning) (setups : Setups) → profile_of begins ≡ Extended

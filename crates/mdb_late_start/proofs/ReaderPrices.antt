@@ -34,7 +34,7 @@ pub same_prices : {one other : Prices} → one.config ≡ other.config → one.a
     → one ≡ other
 same_prices {one} {other} config amount =
     let same : record one { config = one.config } ≡ record other { config = other.config } =
-        cc (config, amount) in
+    cc (config, amount) in
     same
 
 -- a command is no sale, or a sale has the same value

@@ -95,7 +95,8 @@ module _ (unit : ReaderUnit) (begins : Beginning) where
   FactsBy profile so_far = by_profile profile (by_base (known_of begins unit so_far))
       (by_extended (extended_facts.facts_of begins unit so_far))
 
-  starts_by : (profile : Profile) (state : StateByProfile) → (MachineBy unit begins profile).Starts state
+  starts_by : (profile : Profile) (state : StateByProfile)
+      → (MachineBy unit begins profile).Starts state
       → HasToldByProfile (FactsBy profile []) state
   starts_by profiles.Base (Base state) starts = starts_told begins unit state starts
   starts_by profiles.Extended (Extended state) starts = tt
@@ -108,7 +109,8 @@ module _ (unit : ReaderUnit) (begins : Beginning) where
       → HasToldByProfile (FactsBy profile (act ∷ so_far)) after
   goes_on_by profiles.Base so_far act choice (Base before) (Base after) gains told step =
       goes_on_told begins unit so_far step.facts act choice before after gains told step.step
-  goes_on_by profiles.Extended so_far act choice (Extended before) (Extended after) gains told step =
+  goes_on_by profiles.Extended so_far act choice (Extended before) (Extended after) gains told
+      step =
       tt
   goes_on_by profile so_far act choice before after gains told step = absurd assumption
 
@@ -153,7 +155,8 @@ stays begins setups unit =
     }
 
 -- what each device does, it may do in mid-session
-pub each_stays : ((begins : Beginning) (setups : Setups) → MayJoinLate begins setups devices.Changer)
+pub each_stays :
+    ((begins : Beginning) (setups : Setups) → MayJoinLate begins setups devices.Changer)
     → ((begins : Beginning) (setups : Setups) → MayJoinLate begins setups devices.Bill)
     → ((begins : Beginning) (setups : Setups) (unit : ReaderUnit)
     → MayJoinLate begins setups (devices.Reader unit))
