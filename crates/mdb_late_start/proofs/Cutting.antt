@@ -146,8 +146,8 @@ anew_still [] others anew = absurd anew
 anew_still (row ∷ rows) others anew = anew
 
 -- a foreign word begins nothing anew
-pub begins_nothing : (event : Event) → IsForeignWord event → IsBlockWord event
-    ⊎ IsBreakEvent event → ⊥
+pub begins_nothing : (event : Event) → IsForeignWord event
+    → IsBlockWord event ⊎ IsBreakEvent event → ⊥
 begins_nothing (Word at Controller word) low (inl high) = omega arith
 begins_nothing (Word at line word) low (inl high) = absurd high
 begins_nothing (Word at line word) low (inr break) = break
@@ -441,8 +441,8 @@ module _ (scope : Scope) (setups : Setups) where
   cut_at [] whole_end fit [] (event ∷ end) more all are whole = absurd cc
   cut_at (event ∷ front) whole_end fit [] end more all are whole = absurd cc
   cut_at front whole_end fit (piece ∷ pieces) end more all are whole =
-      cut_on (λ middle rest parts rows. cut_at front whole_end fit pieces middle rest parts
-      are.2 rows)
+      cut_on
+      (λ middle rest parts rows. cut_at front whole_end fit pieces middle rest parts are.2 rows)
       (divide (events_of pieces) (piece_events piece) front end whole)
     where
       cut_on : ((middle rest : List Event) → whole_end ≡ middle ++ rest

@@ -156,8 +156,8 @@ module _ (laws : EndLaws) where
             in_order = cut.in_front;
             whole = cut.rows ∙ ap (λ ws. front ++ ws) none ∙ append-nil front;
           }) in
-          let later : cut.later ≡ passes.later = append_cancel_right cut.later passes.later
-          cut.before
+          let later : cut.later ≡ passes.later =
+          append_cancel_right cut.later passes.later cut.before
           (sym cut.order ∙ passes.order ∙ ap (λ ps. passes.later ++ ps) before) in
           let there = laws.told scope setups levels front end run.pieces run.act_list cut
           (rw before at told) in

@@ -190,9 +190,10 @@ recorded begins setups device later front act choice before after gains is = rec
 
 module _ {Own Setup Asked M State : Type 0} (tables : Tables Own Setup Asked M)
     (conduct : Conduct Own Setup Asked M State) where
-  -- What is so of the conduct of a device, where its kept messages are of some form (`Fits`). What
-  -- it does may be done with the facts of the end. The gains are the same where no money is asked
-  -- for or told, or the setup table is the same. By a reply alone does it come to hold messages.
+  -- What is so of the conduct of a device, where its kept messages are of some form (`Fits`): what
+  -- it
+  -- does may be done with the facts of the end, for the same gains where no money is asked for or
+  -- told, or the setup table is the same; and by no act but a reply does it come to hold messages.
   pub record IsSteady (Fits : M → Type 0) : Type 0 where
     pub asks : (known : KnownFacts Setup Asked M) (facts : Facts Setup Asked M) (command : Own)
         (before after : State) (gains : Gains) → conduct.Asks facts command before after gains
@@ -335,8 +336,8 @@ module _ {Own Setup Asked M State : Type 0} (tables : Tables Own Setup Asked M)
           (steady.asks known facts own before after gains ask)) step
       keeper_in_end (acts.Ack c) names enabled owed step =
           by_own (tables.own c) _ _ _ before after gains
-          (λ own is ack. as_same (asks_none c own is) (ack_in_end
-          (tables.is_poll own) own ack)) step
+          (λ own is ack. as_same (asks_none c own is)
+          (ack_in_end (tables.is_poll own) own ack)) step
       keeper_in_end (acts.Reply c r) names enabled owed step =
           by_own (tables.own c) _ _ _ before after gains
           (λ own is reply. as_same (tells_none c r own is) (reply_in_end (tables.is_poll own)

@@ -110,7 +110,8 @@ module _ (unit : ReaderUnit) (begins : Beginning) where
   goes_on_by profiles.Base so_far act choice (Base before) (Base after) gains told step =
       goes_on_told begins unit so_far step.facts act choice before after gains told step.step
   goes_on_by profiles.Extended so_far act choice (Extended before) (Extended after) gains told
-      step = tt
+      step =
+      tt
   goes_on_by profile so_far act choice before after gains told step = absurd assumption
 
   module _ (setups : Setups) where
@@ -154,8 +155,8 @@ stays begins setups unit =
     }
 
 -- what each device does, it may do in mid-session
-pub each_stays : ((begins : Beginning) (setups : Setups)
-    → MayJoinLate begins setups devices.Changer)
+pub each_stays :
+    ((begins : Beginning) (setups : Setups) → MayJoinLate begins setups devices.Changer)
     → ((begins : Beginning) (setups : Setups) → MayJoinLate begins setups devices.Bill)
     → ((begins : Beginning) (setups : Setups) (unit : ReaderUnit)
     → MayJoinLate begins setups (devices.Reader unit))

@@ -50,7 +50,7 @@ one_level unit level before one other is also = elim (zero_or_not level) [
 ask_from : (unit : ReaderUnit) (block : PageSetup) (before same after : Setups) → before ≡ same
     → AddsAsk unit block before after → AddsAsk unit block same after
 ask_from unit block before same after is asks =
-    subst (λ (known : Setups). AddsAsk unit block known after) is asks
+    rw is at asks
 
 pub one_told : BlockHasOneCommand → (unit : ReaderUnit) (told : PageReader)
     (before one other : Setups) → IsTold unit told before one → IsTold unit told before other
@@ -87,5 +87,4 @@ pub no_second : BlockHasOneCommand → (left : DeviceSet) (readers : List PageRe
 no_second law left readers before one first none after are =
     let same : are.with_first ≡ one =
     one_told law First (told_at readers 0) before are.with_first one are.first.is first.is in
-    none after (subst (λ (known : Setups). AddsTold left Second (told_at readers 1) known after)
-    same are.second)
+    none after (rw same at are.second)

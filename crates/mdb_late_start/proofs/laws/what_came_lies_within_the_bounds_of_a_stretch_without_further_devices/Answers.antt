@@ -3,9 +3,8 @@ use Rattle.mdb_late_start.proofs.Truth.{came_in_less}
 use Rattle.mdb_late_start.proofs.laws.what_came_lies_within_the_bounds_of_a_stretch_without_further_devices.Goals as goal
 
 pub returns : goal.returns
-returns c = λ scope more setups levels front middle rows sums run report may leaves has is
-    passes told
-    account followed known none. came_in_less c.end_laws.ensures (record {
+returns c = λ scope more setups levels front middle rows sums run report may leaves has is passes
+    told account followed known none. came_in_less c.end_laws.ensures (record {
       accounts = c.reports_name_the_accounts_of_runs.ensures;
       unvalued = c.reports_name_the_decimals_and_silences_of_devices.ensures.unvalued;
     }) scope setups levels front middle sums run may has.anew passes told

@@ -1,27 +1,9 @@
-use Rattle.std.proofs.Common.{◌≡◌, ◌≤◌, ◌<◌, [], ◌∷◌, ◌++◌, List, ℕ, length, true≢false, sym, subst, ap, ◌∙◌, arith}
+-- The lines so far tell rows for which the judge stands, and where this ends.
+use Rattle.std.proofs.Common.{◌≡◌, [], ◌∷◌, ◌++◌, length, arith}
 use Rattle.std.proofs.Math.Nat.{le_refl}
-use Rattle.std.proofs.lemmas.Bool.{eq-eqb, eqb-true}
-use Rattle.std.proofs.lemmas.List.{nil_from_length}
-use Rattle.mdb_follow.specs.declared.offence.Offence.{Offence}
-use Rattle.mdb_page.specs.Lines.{IsBare, start, blank, row}
-use Rattle.mdb_page.specs.declared.answer.End.{End}
-use Rattle.mdb_page.specs.declared.lines.LineFault.{LineFault}
-use Rattle.mdb_page.specs.declared.answer.End.TheVariants as ends
+use Rattle.mdb_page.specs.Lines.{start, blank, row}
+use Rattle.mdb_page.proofs.Walks.{blank_line_of, has_bytes, line_of}
 use Rattle.mdb_page.proofs.answer.follow.Goals as goal
-
--- the offence of an end, and another one where it has none
-pub offence_of : End → Offence → Offence
-offence_of (ends.Offence offence) other = offence
-offence_of ends.Text other = other
-offence_of (ends.Line fault) other = other
-offence_of ends.TooLong other = other
-
--- the fault of an end, and another one where it has none
-pub fault_of : End → LineFault → LineFault
-fault_of (ends.Line fault) other = fault
-fault_of ends.Text other = other
-fault_of (ends.Offence offence) other = other
-fault_of ends.TooLong other = other
 
 pub loop-line-init : goal.loop-line-init
 loop-line-init g c = record {
@@ -36,31 +18,22 @@ take-requires g c =
     (c.args.scope.now, before.read.0, before.read.2, omega (arith, counted))
 
 pub returns-in-Err-take-clause-offence : goal.returns-in-Err-take-clause-offence
-unfolding offence_of
 returns-in-Err-take-clause-offence g c = λ offence same.
     let before = c.loop-line.invariant in
-    let rows = before.read.0 in
-    let event = c.in-Ok.event in (
-      rows,
-      event,
+    let its : c.in-Err-take.offence ≡ offence = cc same in (
+      before.read.0,
+      c.in-Ok.event,
       before.read.1,
       record {
         bare = c.without_return-line.result.now;
         after = c.first_line.result.1.now;
-        line = record {
-          line = c.first_line.result.0.now;
-          first = c.first_line.ensures.line;
-          is = c.without_return-line.ensures;
-        };
+        line = line_of c.first_line.ensures.line c.without_return-line.ensures;
         is = c.in-Ok.ensures.row;
       },
-      subst (λ (told : Offence). g.J.Judge.refuses c.args.scope.now rows event told)
-          (ap (λ end. offence_of end c.in-Err-take.offence) same)
-          (c.in-Err-take.ensures.refused c.args.scope.now rows before.read.2),
+      rw its at (c.in-Err-take.ensures.refused c.args.scope.now before.read.0 before.read.2),
     )
 
 pub returns-in-Err-clause-line : goal.returns-in-Err-clause-line
-unfolding fault_of
 returns-in-Err-clause-line g c = λ why same.
     let before = c.loop-line.invariant in (
       before.read.0,
@@ -69,59 +42,34 @@ returns-in-Err-clause-line g c = λ why same.
       record {
         bare = c.without_return-line.result.now;
         after = c.first_line.result.1.now;
-        line = record {
-          line = c.first_line.result.0.now;
-          first = c.first_line.ensures.line;
-          is = c.without_return-line.ensures;
-        };
-        some = λ empty.
-            true≢false (sym (eq-eqb (length c.without_return-line.result.now) 0 (ap length empty))
-            ∙ sym c.if-not-is_empty.ensures);
-        is = c.in-Err.ensures.none why (ap (λ end. fault_of end c.in-Err.fault) same);
+        line = line_of c.first_line.ensures.line c.without_return-line.ensures;
+        some = has_bytes c.without_return-line.result.now c.if-not-is_empty.ensures;
+        is = c.in-Err.ensures.none why (cc same);
       },
     )
 
 pub loop-line-preserved-in_default : goal.loop-line-preserved-in_default
 loop-line-preserved-in_default g c =
     let before = c.loop-line.invariant in
-    let rows = before.read.0 in
-    let event = c.in-Ok.event in
-    let less : length c.first_line.result.1.now < length c.loop-line.rest.now =
-    c.first_line.ensures.shorter in
-    let few : length c.loop-line.rest.now ≤ length c.args.rest.now.now = before.left in
     record {
-      left = omega arith;
+      left = omega (arith, before.left, c.first_line.ensures.shorter);
       read = (
-        rows ++ event ∷ [],
-        row event before.read.1 (record {
-          line = c.first_line.result.0.now;
-          first = c.first_line.ensures.line;
-          is = c.without_return-line.ensures;
-        }) c.in-Ok.ensures.row,
-        c.in_default.ensures.taken c.args.scope.now rows before.read.2,
+        before.read.0 ++ c.in-Ok.event ∷ [],
+        row c.in-Ok.event before.read.1
+            (line_of c.first_line.ensures.line c.without_return-line.ensures) c.in-Ok.ensures.row,
+        c.in_default.ensures.taken c.args.scope.now before.read.0 before.read.2,
       );
     }
 
 pub loop-line-preserved : goal.loop-line-preserved
 loop-line-preserved g c =
     let before = c.loop-line.invariant in
-    let bare = c.without_return-line.result.now in
-    let less : length c.first_line.result.1.now < length c.loop-line.rest.now =
-    c.first_line.ensures.shorter in
-    let few : length c.loop-line.rest.now ≤ length c.args.rest.now.now = before.left in
-    let empty : bare ≡ [] =
-    nil_from_length bare (eqb-true (length bare) 0 (sym c.if-not-is_empty.ensures)) in
     record {
-      left = omega arith;
+      left = omega (arith, before.left, c.first_line.ensures.shorter);
       read = (
         before.read.0,
-        blank before.read.1 (record {
-          line = c.first_line.result.0.now;
-          first = c.first_line.ensures.line;
-          is =
-              subst (λ (line : List ℕ). IsBare c.first_line.result.0.now line) empty
-              c.without_return-line.ensures;
-        }),
+        blank before.read.1 (blank_line_of c.without_return-line.result.now
+            c.first_line.ensures.line c.without_return-line.ensures c.if-not-is_empty.ensures),
         before.read.2,
       );
     }
