@@ -185,7 +185,7 @@ module _ {form : LineForm} {scope : Scope} {old lines : Lines} {was now : Output
 
     -- a text isn't put after the lines so far
     line_untaken : (left : Lines) {before : Output} (later : Output) (earlier : List Event)
-      (text : List ℕ)
+        (text : List ℕ)
         (has : HasShown form scope lines before now (earlier ++ take i events))
         → IsAdded form scope earlier events (lines_of form (closed_pieces has.pieces) ++ text)
         → (fault : RunFault) → IsNotTaken fault now later text
@@ -243,12 +243,12 @@ module _ {form : LineForm} {scope : Scope} {old lines : Lines} {was now : Output
           → (before : Output) (earlier : List Event) → HasShown form scope old before was earlier
           → HasAdded form scope left before later earlier events answer
       fault_refused left later refused not_taken answer told before earlier has_old =
-        let has = adds.shown before earlier has_old in
-        handed_on (HasAdded form scope left before later earlier events) refused
-        (line_untaken left later earlier (form.fault row fault) has
-        (inr (fault, to_fault earlier has)) refused not_taken) answer told
+          let has = adds.shown before earlier has_old in
+          handed_on (HasAdded form scope left before later earlier events) refused
+          (line_untaken left later earlier (form.fault row fault) has
+          (inr (fault, to_fault earlier has)) refused not_taken) answer told
 
-  -- the lines of its act aren't put there
+    -- the lines of its act aren't put there
     pub act_refused : (left : Lines) {next : Bus} (later : Output) (act : Act)
         → scope_of next ≡ scope_of lines.bus
         → ((pieces : List Piece) → StandsFor lines.bus pieces → GoesOn next pieces event (Some act))
@@ -258,7 +258,7 @@ module _ {form : LineForm} {scope : Scope} {old lines : Lines} {was now : Output
         → (before : Output) (earlier : List Event) → HasShown form scope old before was earlier
         → HasAdded form scope left before later earlier events answer
     act_refused left later act kept on refused not_taken answer told before earlier has_old =
-      let has = adds.shown before earlier has_old in
+        let has = adds.shown before earlier has_old in
         let gone = on has.pieces has.stands in
         let added = act_lines has kept gone in
         handed_on (HasAdded form scope left before later earlier events) refused

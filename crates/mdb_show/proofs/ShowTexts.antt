@@ -230,8 +230,11 @@ module _ (form : LineForm) (scope : Scope) (pieces longer : List Piece) (row : E
       → lines_of form longer
       ≡ lines_of form (closed_pieces pieces) ++ ended_text form shown rows act
   of_other earlier last not =
-      rw (lines shown (rows + 1) (rw earlier closed) last, earlier,
-          ended_other form shown rows act not)
+      rw (
+        lines shown (rows + 1) (rw earlier closed) last,
+        earlier,
+        ended_other form shown rows act not,
+      )
 
   -- the act is a piece of this row alone
   alone : grown.begun ≡ [] → pieces ≡ grown.earlier → IsBreakAct act ⊎ (IsBreakAct act → ⊥)

@@ -245,7 +245,6 @@ module _ (form : LineForm) (scope : Scope) (all : List (List (List ℕ))) where
 
 -- A fault at one of the rows is one of the output.
 module _ (form : LineForm) (scope : Scope) (lines : Lines) (before after : Output) where
-
   added_of_output : (earlier rows : List Event) (fault : RunFault)
       → HasAdded form scope lines before after earlier rows (Err fault) → IsOfOutput fault
   added_of_output earlier rows Write added = tt

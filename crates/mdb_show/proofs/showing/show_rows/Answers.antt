@@ -93,9 +93,9 @@ returns-in_err-stop-2-clause-reads g c =
     let taker = c.read_rows.new.taker in
     let stop = rw c.in-Some.is at c.in_ok-stop.ensures.stopped in
     let of = showings.stop_of_output (lines_in taker.form) (scope_of taker.lines.bus) taker.lines
-        (begun (g.W.Write.contents c.args.writer.now))
-        (output (g.W.Write.contents c.read_rows.new.out) taker.printer.page) c.in-Some.stop
-        c.in_err-stop-2.field-0.0 stop c.in_err-stop-2.was in
+    (begun (g.W.Write.contents c.args.writer.now))
+    (output (g.W.Write.contents c.read_rows.new.out) taker.printer.page) c.in-Some.stop
+    c.in_err-stop-2.field-0.0 stop c.in_err-stop-2.was in
     reads_output IsNotWhole g.R.Read.remaining c.args.records.now c.read_rows.new.records
     c.from_residual-in_err-stop-2.result
     (handed_on IsNotWhole c.in_err-stop-2.field-0.0
