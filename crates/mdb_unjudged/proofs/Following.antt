@@ -73,7 +73,7 @@ pub taken_more : OneActList
     → HasFollowed scope readers new (rows ++ row ∷ [])
 taken_more one old new scope readers rows row act on taken same_scope ends joined learnt begun =
     let it : IsEndedAct scope rows row act =
-    subst (λ s. IsEndedAct s rows row act) on.follows.in_scope (ends rows on.follows.stands) in
+    rw on.follows.in_scope at (ends rows on.follows.stands) in
     record {
       follows = record {
         in_scope = same_scope ∙ on.follows.in_scope;
@@ -82,13 +82,15 @@ taken_more one old new scope readers rows row act on taken same_scope ends joine
       };
       joined = joined ∙ on.joined;
       reported = λ is pieces list.
-          learnt ∙ ap (reported_if act) (on.reported (sym joined ∙ is) it.before it.shorter)
-          ∙ reported_more (known_before scope readers) act (acts_of it.before)
-          ∙ ap (reported (known_before scope readers)) (sym it.acts)
-          ∙ ap (λ ps. reported (known_before scope readers) (acts_of ps))
-          (one scope (rows ++ row ∷ []) (it.newest ∷ it.earlier) pieces it.act_list list);
-      begun = λ is. begun ∙ ap (option_or (begins_block row)) (on.begun (sym joined ∙ is))
-          ∙ last_more rows row;
+          rw (
+            learnt,
+            on.reported (sym joined ∙ is) it.before it.shorter,
+            reported_more (known_before scope readers) act (acts_of it.before),
+            sym it.acts,
+          )
+          (ap (λ ps. reported (known_before scope readers) (acts_of ps))
+          (one scope (rows ++ row ∷ []) (it.newest ∷ it.earlier) pieces it.act_list list));
+      begun = λ is. rw (begun, on.begun (sym joined ∙ is)) (last_more rows row);
     }
 
 -- what isn't joined is judged, whatever is known
@@ -97,8 +99,7 @@ judged_as : (joined : Bool) (levels other : Levels) (begun last : Option ℕ) (b
     → unjudged joined levels broken blamed begun ≡ unjudged joined other broken blamed last
 judged_as false levels other begun last broken blamed same_levels same_begun = refl
 judged_as true levels other begun last broken blamed same_levels same_begun =
-    ap (λ l. unjudged true l broken blamed begun) (same_levels refl)
-    ∙ ap (unjudged true other broken blamed) (same_begun refl)
+    rw (same_levels refl, same_begun refl)
 
 -- a row was refused, after rows that were accepted
 refused_as : (old new : Judging) (scope : Scope) (readers : Levels) (rows : List Event)
@@ -110,8 +111,7 @@ refused_as : (old new : Judging) (scope : Scope) (readers : Levels) (rows : List
     → (new.joined ≡ true → new.begun ≡ last_begun (rows ++ row ∷ []))
     → HasRefused scope readers new rows row offence
 refused_as old new scope readers rows row offence in_scope is noted accepted joined levels begun =
-    let list : IsActList scope accepted.pieces rows =
-    subst (λ s. IsActList s accepted.pieces rows) in_scope accepted.act_list in
+    let list : IsActList scope accepted.pieces rows = rw in_scope at accepted.act_list in
     record {
       is = is;
       judged = record {
@@ -143,18 +143,15 @@ pub refused_by : (old new : Judging) (scope : Scope) (readers : Levels) (rows : 
     → new.begun ≡ option_or (begins_block row) old.begun
     → SomeRefused scope readers new rows row
 refused_by old new scope readers rows row on refused same_scope joined kept begun =
-    let some = some_of (follow.offence_of new.follower)
-    (feeding.HasRefused old.follower new.follower row) refused in
-    let offence : Offence = some.0 in
-    let has : feeding.HasRefused old.follower new.follower row offence = some.2 in (
+    let (offence, noted, has) = some_of (follow.offence_of new.follower)
+    (feeding.HasRefused old.follower new.follower row) refused in (
       offence,
       refused_as old new scope readers rows row offence (same_scope ∙ on.follows.in_scope)
           (subst (λ s. IsOffence s rows row offence) on.follows.in_scope
           (has.offence rows on.follows.stands)) has.noted
           (has.accepted rows on.follows.stands) (joined ∙ on.joined)
           (λ is pieces list. kept ∙ on.reported (sym joined ∙ is) pieces list)
-          (λ is. begun ∙ ap (option_or (begins_block row)) (on.begun (sym joined ∙ is))
-          ∙ last_more rows row),
+          (λ is. rw (begun, on.begun (sym joined ∙ is)) (last_more rows row)),
     )
 
 -- it has followed so many rows
@@ -166,108 +163,106 @@ pub record HasFed (old : Judging) (rows : List Event) (count : ℕ) (new : Judgi
       → HasFollowed scope readers old before
       → HasFollowed scope readers new (before ++ rows)
 
--- the next of the rows is refused
-pub fed_to : (old mid new : Judging) (rows : List Event) (i : ℕ) (row : Event)
-    → i < length rows → HasFed old (take i rows) i mid
-    → ((scope : Scope) (readers : Levels) (before : List Event)
-    → HasFollowed scope readers mid before
-    → SomeRefused scope readers new before (get_or rows i row))
-    → (scope : Scope) (readers : Levels) (before : List Event)
-    → HasFollowed scope readers old before
-    → RefusesAmong scope readers new before rows
-fed_to old mid new rows i row within has refuses scope readers before on =
-    let some = refuses scope readers (before ++ take i rows) (has.followed scope readers before on)
-    in record {
-      offence = some.0;
-      front = take i rows;
-      row = get_or rows i row;
-      rest = drop (i + 1) rows;
-      parts = rw add-one (split_at rows i row within);
-      is = some.1;
-    }
+-- the next of the rows
+module _ {old mid new : Judging} (rows : List Event) (i : ℕ) (row : Event)
+    (within : i < length rows) (has : HasFed old (take i rows) i mid) where
+  -- is refused
+  pub fed_to : ((scope : Scope) (readers : Levels) (before : List Event)
+      → HasFollowed scope readers mid before
+      → SomeRefused scope readers new before (get_or rows i row))
+      → (scope : Scope) (readers : Levels) (before : List Event)
+      → HasFollowed scope readers old before → RefusesAmong scope readers new before rows
+  fed_to refuses scope readers before on =
+      let some = refuses scope readers (before ++ take i rows)
+      (has.followed scope readers before on) in
+      record {
+        offence = some.0;
+        front = take i rows;
+        row = get_or rows i row;
+        rest = drop (i + 1) rows;
+        parts = rw add-one (split_at rows i row within);
+        is = some.1;
+      }
 
--- one row more was followed
-pub fed_more : (old mid new : Judging) (rows : List Event) (i : ℕ) (row : Event)
-    → i < length rows → HasFed old (take i rows) i mid
-    → follow.rows_of new.follower ≡ follow.rows_of mid.follower + 1
-    → follow.scope_of new.follower ≡ follow.scope_of mid.follower
-    → new.last ≡ mid.last
-    → ((scope : Scope) (readers : Levels) (before : List Event)
-    → HasFollowed scope readers mid before
-    → HasFollowed scope readers new (before ++ get_or rows i row ∷ []))
-    → HasFed old (take (i + 1) rows) (i + 1) new
-fed_more old mid new rows i row within has more same same_last follows = record {
-  counted = omega (arith, more, has.counted);
-  same_scope = same ∙ has.same_scope;
-  same_last = same_last ∙ has.same_last;
-  followed = λ scope readers before on. subst (HasFollowed scope readers new)
-      (append_assoc before (take i rows) (get_or rows i row ∷ [])
-      ∙ ap (λ all. before ++ all) (sym (take_more rows i row within)))
-      (follows scope readers (before ++ take i rows) (has.followed scope readers before on));
-}
+  -- is followed
+  pub fed_more : follow.rows_of new.follower ≡ follow.rows_of mid.follower + 1
+      → follow.scope_of new.follower ≡ follow.scope_of mid.follower
+      → new.last ≡ mid.last
+      → ((scope : Scope) (readers : Levels) (before : List Event)
+      → HasFollowed scope readers mid before
+      → HasFollowed scope readers new (before ++ get_or rows i row ∷ []))
+      → HasFed old (take (i + 1) rows) (i + 1) new
+  fed_more more same same_last follows = record {
+    counted = omega (arith, more, has.counted);
+    same_scope = same ∙ has.same_scope;
+    same_last = same_last ∙ has.same_last;
+    followed = λ scope readers before on.
+        rw (
+          take_more rows i row within,
+          sym (append_assoc before (take i rows) (get_or rows i row ∷ [])),
+        )
+        (follows scope readers (before ++ take i rows) (has.followed scope readers before on));
+  }
 
 -- all rows were followed
 pub fed_all : (old new : Judging) (rows : List Event) (i : ℕ) → length rows ≤ i
     → HasFed old (take i rows) i new → (scope : Scope) (readers : Levels) (before : List Event)
     → HasFollowed scope readers old before → HasFollowed scope readers new (before ++ rows)
 fed_all old new rows i low has scope readers before on =
-    subst (λ all. HasFollowed scope readers new (before ++ all)) (take_all i rows low)
-    (has.followed scope readers before on)
+    rw (take_all i rows low) at (has.followed scope readers before on)
 
--- The rows of a recording that isn't joined are followed together: all were taken,
-pub together : (old new : Judging) (rows : List Event) → new.joined ≡ old.joined
-    → old.joined ≡ false → HasTakenRows old.follower new.follower rows
-    → follow.scope_of new.follower ≡ follow.scope_of old.follower
-    → (scope : Scope) (readers : Levels) (before : List Event)
-    → HasFollowed scope readers old before → HasFollowed scope readers new (before ++ rows)
-together old new rows same not taken same_scope scope readers before on = record {
-  follows = record {
-    in_scope = same_scope ∙ on.follows.in_scope;
-    stands = taken.stands before on.follows.stands;
-    counted = omega (arith, taken.counted, on.follows.counted, length-append before rows);
-  };
-  joined = same ∙ on.joined;
-  reported = λ is. absurd (let clash : false ≡ true = sym not ∙ sym same ∙ is in cc clash);
-  begun = λ is. absurd (let clash : false ≡ true = sym not ∙ sym same ∙ is in cc clash);
-}
+-- The rows of a recording that isn't joined are followed together.
+module _ (old new : Judging) (rows : List Event) (same : new.joined ≡ old.joined)
+    (not : old.joined ≡ false)
+    (same_scope : follow.scope_of new.follower ≡ follow.scope_of old.follower) where
+  never_joined : new.joined ≡ true → ⊥
+  never_joined is = cc
 
--- or one was refused
-pub refused_together : (old new : Judging) (rows : List Event) (offence : Offence)
-    → new.joined ≡ old.joined → old.joined ≡ false
-    → follow.scope_of new.follower ≡ follow.scope_of old.follower
-    → follow.offence_of new.follower ≡ Some offence
-    → offence.row ≡ follow.rows_of new.follower + 1
-    → ((before : List Event) → follow.StandsFor old.follower before
-    → HasOffence (follow.scope_of old.follower) before rows offence)
-    → ((before : List Event) → follow.StandsFor old.follower before
-    → follow.HasAccepted new.follower (take (follow.rows_of new.follower) (before ++ rows)))
-    → (scope : Scope) (readers : Levels) (before : List Event)
-    → HasFollowed scope readers old before → RefusesAmong scope readers new before rows
-refused_together old new rows offence same not same_scope noted numbered has accepts scope readers
-    before on =
-    let met : HasOffence scope before rows offence =
-    subst (λ s. HasOffence s before rows offence) on.follows.in_scope
-    (has before on.follows.stands) in
-    let front : List Event = before ++ met.front in
-    let whole : before ++ rows ≡ front ++ met.row ∷ met.rest =
-    ap (λ l. before ++ l) met.parts ∙ sym (append_assoc before met.front (met.row ∷ met.rest)) in
-    let count : length front ≡ follow.rows_of new.follower =
-    omega (arith, numbered, met.is.number) in
-    record {
-      offence = offence;
-      front = met.front;
-      row = met.row;
-      rest = met.rest;
-      parts = met.parts;
-      is = refused_as old new scope readers front met.row offence
-          (same_scope ∙ on.follows.in_scope) met.is noted
-          (subst (follow.HasAccepted new.follower)
-          (ap (take (follow.rows_of new.follower)) whole
-          ∙ take_at front (met.row ∷ met.rest) (follow.rows_of new.follower) count)
-          (accepts before on.follows.stands)) (same ∙ on.joined)
-          (λ is. absurd (let clash : false ≡ true = sym not ∙ sym same ∙ is in cc clash))
-          (λ is. absurd (let clash : false ≡ true = sym not ∙ sym same ∙ is in cc clash));
-    }
+  -- all were taken,
+  pub together : HasTakenRows old.follower new.follower rows
+      → (scope : Scope) (readers : Levels) (before : List Event)
+      → HasFollowed scope readers old before → HasFollowed scope readers new (before ++ rows)
+  together taken scope readers before on = record {
+    follows = record {
+      in_scope = same_scope ∙ on.follows.in_scope;
+      stands = taken.stands before on.follows.stands;
+      counted = omega (arith, taken.counted, on.follows.counted, length-append before rows);
+    };
+    joined = same ∙ on.joined;
+    reported = λ is. absurd (never_joined is);
+    begun = λ is. absurd (never_joined is);
+  }
+
+  -- or one was refused
+  pub refused_together : (offence : Offence) → follow.offence_of new.follower ≡ Some offence
+      → offence.row ≡ follow.rows_of new.follower + 1
+      → ((before : List Event) → follow.StandsFor old.follower before
+      → HasOffence (follow.scope_of old.follower) before rows offence)
+      → ((before : List Event) → follow.StandsFor old.follower before
+      → follow.HasAccepted new.follower (take (follow.rows_of new.follower) (before ++ rows)))
+      → (scope : Scope) (readers : Levels) (before : List Event)
+      → HasFollowed scope readers old before → RefusesAmong scope readers new before rows
+  refused_together offence noted numbered has accepts scope readers before on =
+      let met : HasOffence scope before rows offence =
+      rw on.follows.in_scope at (has before on.follows.stands) in
+      let front : List Event = before ++ met.front in
+      let whole : before ++ rows ≡ front ++ met.row ∷ met.rest =
+      ap (λ l. before ++ l) met.parts
+      ∙ sym (append_assoc before met.front (met.row ∷ met.rest)) in
+      let count : length front ≡ follow.rows_of new.follower =
+      omega (arith, numbered, met.is.number) in
+      record {
+        offence = offence;
+        front = met.front;
+        row = met.row;
+        rest = met.rest;
+        parts = met.parts;
+        is = refused_as old new scope readers front met.row offence
+            (same_scope ∙ on.follows.in_scope) met.is noted
+            (rw (whole, take_at front (met.row ∷ met.rest) (follow.rows_of new.follower) count) at
+            (accepts before on.follows.stands)) (same ∙ on.joined)
+            (λ is. absurd (never_joined is)) (λ is. absurd (never_joined is));
+      }
 
 -- the row before the one at an index
 last_push : (events : List Event) (event : Event) → last_of (events ++ event ∷ []) ≡ Some event
@@ -278,44 +273,36 @@ last_push (first ∷ second ∷ events) event = last_push (second ∷ events) ev
 pub last_at : (earlier rows : List Event) (i : ℕ) (d : Event) → i < length rows
     → last_of (earlier ++ take (i + 1) rows) ≡ Some (get_or rows i d)
 last_at earlier rows i d within =
-    ap (λ l. last_of (earlier ++ l)) (take_more rows i d within)
-    ∙ ap last_of (sym (append_assoc earlier (take i rows) (get_or rows i d ∷ [])))
-    ∙ last_push (earlier ++ take i rows) (get_or rows i d)
+    rw (take_more rows i d within, sym (append_assoc earlier (take i rows) (get_or rows i d ∷ [])))
+    (last_push (earlier ++ take i rows) (get_or rows i d))
 
--- so many of the rows were taken
-pub taken_among : (judging : Judging) (scope : Scope) (readers : Levels)
-    (earlier rows : List Event) (had : ℕ) → had ≡ length earlier
-    → (among : RefusesAmong scope readers judging earlier rows)
-    → follow.rows_of judging.follower ≡ had + length among.front
-taken_among judging scope readers earlier rows had is among =
-    omega (arith, among.is.counted, is, length-append earlier among.front)
+-- where one of the rows is refused
+module _ {judging : Judging} {scope : Scope} {readers : Levels} {earlier rows : List Event}
+    (among : RefusesAmong scope readers judging earlier rows) where
+  -- so many of the rows were taken
+  pub taken_among : (had : ℕ) → had ≡ length earlier
+      → follow.rows_of judging.follower ≡ had + length among.front
+  taken_among had is = omega (arith, among.is.counted, is, length-append earlier among.front)
 
-pub front_within : (judging : Judging) (scope : Scope) (readers : Levels)
-    (earlier rows : List Event) (among : RefusesAmong scope readers judging earlier rows)
-    → length among.front < length rows
-front_within judging scope readers earlier rows among =
-    omega (arith, ap length among.parts, length-append among.front (among.row ∷ among.rest))
+  pub front_within : length among.front < length rows
+  front_within =
+      omega (arith, ap length among.parts, length-append among.front (among.row ∷ among.rest))
 
--- so what was met is what was met there
-pub met_there : (judging : Judging) (scope : Scope) (readers : Levels)
-    (earlier rows : List Event) (index : ℕ) (met : Met)
-    (among : RefusesAmong scope readers judging earlier rows) → index ≡ length among.front
-    → follow.offence_of judging.follower ≡ Some met.offence
-    → met.unjudged ≡ unjudged judging.joined judging.reported met.offence.rule met.offence.blame
-    judging.begun
-    → ((other : Event) → met.row ≡ get_or rows index other)
-    → met.last ≡ last_of (earlier ++ take index rows)
-    → MeetsAmong scope readers judging earlier rows met
-met_there judging scope readers earlier rows index met among at noted is row last =
-    let same : Some among.offence ≡ Some met.offence = sym among.is.noted ∙ noted in
-    let one : among.offence ≡ met.offence = cc same in
-    record {
-      refuses = among;
-      offence = sym one;
-      unjudged = is;
-      row = row among.row ∙ ap (λ l. get_or l index among.row) among.parts
-          ∙ get_or_at among.front among.row among.rest among.row index (sym at);
-      last = last ∙ ap (λ l. last_of (earlier ++ take index l)) among.parts
-          ∙ ap (λ l. last_of (earlier ++ l))
-          (take_at among.front (among.row ∷ among.rest) index (sym at));
-    }
+  -- and what was met is what was met there
+  pub met_there : (index : ℕ) (met : Met) → index ≡ length among.front
+      → follow.offence_of judging.follower ≡ Some met.offence
+      → met.unjudged ≡ unjudged judging.joined judging.reported met.offence.rule
+      met.offence.blame judging.begun
+      → ((other : Event) → met.row ≡ get_or rows index other)
+      → met.last ≡ last_of (earlier ++ take index rows)
+      → MeetsAmong scope readers judging earlier rows met
+  met_there index met here noted is row last = record {
+    refuses = among;
+    offence = cc (among.is.noted, noted);
+    unjudged = is;
+    row = row among.row ∙ ap (λ l. get_or l index among.row) among.parts
+        ∙ get_or_at among.front among.row among.rest among.row index (sym here);
+    last = last ∙ ap (λ l. last_of (earlier ++ take index l)) among.parts
+        ∙ ap (λ l. last_of (earlier ++ l))
+        (take_at among.front (among.row ∷ among.rest) index (sym here));
+  }

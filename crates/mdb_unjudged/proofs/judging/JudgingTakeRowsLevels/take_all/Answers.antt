@@ -1,6 +1,6 @@
+-- The rows are taken, or what was met at the first that is refused is told.
 use Rattle.std.proofs.Common.{arith, ap, refl, subst, sym, ◌∙◌, ◌-◌, ◌++◌, length}
 use Rattle.std.proofs.lemmas.List.{take_all}
-use Rattle.std.specs.Prelude.{IsSome}
 use Rattle.mdb_bus.specs.ActLists.{last_of}
 use Rattle.mdb_follow.specs.Follower.{rows_of, scope_of}
 use Rattle.mdb_unjudged.specs.inner.Steps.{HasFollowed, MeetsAmong}
@@ -29,10 +29,9 @@ returns-then-feed_all-clause-taken c before earlier has =
 pub overflow_sub-index : goal.overflow_sub-index
 overflow_sub-index c =
     let had = c.requires.begun in
-    let scope = scope_of c.args.self.now.follower in
-    let among = c.if-feed_all.ensures.refused scope had.0 had.1 had.2.is in
-    let taken = taken_among c.feed_all.new.self scope had.0 had.1 c.args.rows.now
-    (rows_of c.args.self.now.follower) had.2.is.follows.counted among in
+    let among = c.if-feed_all.ensures.refused (scope_of c.args.self.now.follower) had.0 had.1
+    had.2.is in
+    let taken = taken_among among (rows_of c.args.self.now.follower) had.2.is.follows.counted in
     omega (arith, taken, c.rows.ensures, c.rows-before.ensures)
 
 pub met-requires-clause-met : goal.met-requires-clause-met
@@ -40,28 +39,24 @@ met-requires-clause-met c =
     let had = c.requires.begun in
     let among = c.if-feed_all.ensures.refused (scope_of c.args.self.now.follower) had.0 had.1
     had.2.is in
-    subst IsSome (sym among.is.noted) refl
+    rw among.is.noted refl
 
 pub met-requires-clause-within : goal.met-requires-clause-within
 met-requires-clause-within c =
     let had = c.requires.begun in
-    let scope = scope_of c.args.self.now.follower in
-    let among = c.if-feed_all.ensures.refused scope had.0 had.1 had.2.is in
-    let taken = taken_among c.feed_all.new.self scope had.0 had.1 c.args.rows.now
-    (rows_of c.args.self.now.follower) had.2.is.follows.counted among in
-    let within = front_within c.feed_all.new.self scope had.0 had.1 c.args.rows.now among in
+    let among = c.if-feed_all.ensures.refused (scope_of c.args.self.now.follower) had.0 had.1
+    had.2.is in
+    let taken = taken_among among (rows_of c.args.self.now.follower) had.2.is.follows.counted in
+    let within = front_within among in
     omega (arith, taken, within, c.rows.ensures, c.rows-before.ensures)
 
 pub returns-clause-taken : goal.returns-clause-taken
 returns-clause-taken c before earlier has =
-    let scope = scope_of c.args.self.now.follower in
-    let among = c.if-feed_all.ensures.refused scope before earlier has.is in
-    let taken = taken_among c.feed_all.new.self scope before earlier c.args.rows.now
-    (rows_of c.args.self.now.follower) has.is.follows.counted among in
+    let among = c.if-feed_all.ensures.refused (scope_of c.args.self.now.follower) before earlier
+    has.is in
+    let taken = taken_among among (rows_of c.args.self.now.follower) has.is.follows.counted in
     subst (λ s. MeetsAmong s before c.feed_all.new.self earlier c.args.rows.now c.met.result)
-    (sym c.feed_all.ensures.scope)
-    (met_there c.feed_all.new.self scope before earlier c.args.rows.now
-    (c.rows.result - c.rows-before.result) c.met.result among
-    (omega (arith, taken, c.rows.ensures, c.rows-before.ensures)) c.met.ensures.offence
-    c.met.ensures.unjudged c.met.ensures.row
+    (sym c.feed_all.ensures.scope) (met_there among (c.rows.result - c.rows-before.result)
+    c.met.result (omega (arith, taken, c.rows.ensures, c.rows-before.ensures))
+    c.met.ensures.offence c.met.ensures.unjudged c.met.ensures.row
     (c.met.ensures.last earlier (c.feed_all.ensures.last ∙ has.last)))
