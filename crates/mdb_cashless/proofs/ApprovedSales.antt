@@ -284,7 +284,7 @@ module _ (unit : ReaderUnit) (begins : Beginning) where
       ]
       by s = earlier
 
--- a sale that is approved so is one by the papers' law
+-- a sale that is approved so is one by the base profile's law
 module _ (unit : ReaderUnit) where
   leaves : (may : Transaction) (May : Transaction → Type 0) (act : Act)
       → leaves_sale unit may act ≡ true

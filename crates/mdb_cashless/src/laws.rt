@@ -182,8 +182,8 @@ pub fn a_sale_is_told_exactly_where_it_is_approved()
         (acts.Ask (commands.Reader unit (readers.VendSuccess item))) choice before after gains }
 {}
 
-/// A sale that is approved by the extended profile is approved by the papers' law, too. There the
-/// same VEND REQUEST may come again.
+/// A sale that is approved by the extended profile is approved by the base profile's law, too.
+/// There the same VEND REQUEST may come again.
 pub fn sales_of_the_extended_profile_are_approved()
     ensures one { (unit : ReaderUnit) (item : ℕ) (so_far : List Act)
         → sales.IsApproved unit item so_far → IsApproved unit item so_far }
