@@ -28,6 +28,7 @@ use mdb_msgs::{Need, begins_options, command_of, laws, need_of};
 use mdb_words::{Event, Line, Time, Word};
 
 /// A word of the controller where a block may begin, at least so long after the row before it.
+#[inline(always)]
 pub(crate) fn begin_block(
     scope: &Scope,
     last: &Option<Event>,
@@ -117,6 +118,7 @@ fn second_byte(scope: &Scope, bytes: &Begun, first: u8, word: Word) -> Result<Ju
 }
 
 /// A byte of a block after its first two.
+#[inline(always)]
 fn further_byte(bytes: &Begun, so_far: &[u8], word: Word) -> Result<Judged, Rule>
     requires is { bytes.now ≡ so_far.now }
     requires two { 2 ≤ length so_far.now }
