@@ -170,7 +170,7 @@ module _ (scope : Scope) (old : Replaying) (taken : List Entry)
         are = mark_added (all_marks part) _ part.rows has.are (row, mark) (no_rows none) all;
         can_be = record {
           rising = rw all rise;
-          beyond = rw count (rise_last 0 part.passed (part.later ++ (row, mark) ∷ []) (rw all rise));
+          beyond = rw count (rise_last 0 part.passed _ (rw all rise));
           few_marks = omega (
             arith,
             ap length all,
@@ -193,7 +193,8 @@ module _ (scope : Scope) (old : Replaying) (taken : List Entry)
           length-append taken (entries.Mark row mark ∷ []),
         );
         passed = passed ∙ has.passed;
-        last = λ other next. rw (all, last) (rise_more 0 (all_marks part) (row, mark) (other, next) rise);
+        last = λ other next.
+            rw (all, last) (rise_more 0 (all_marks part) (row, mark) (other, next) rise);
       }
 
   -- a row is fed with its mark
@@ -230,7 +231,8 @@ module _ (scope : Scope) (old : Replaying) (taken : List Entry)
         stands = simp has.counted at stands;
         counted = omega (arith, counted, has.counted, count);
         marks = rw marks (has.marks ∙ all);
-        count = rw marks (omega (arith, has.count, counted, length-append taken (entries.Row event ∷ [])));
+        count = rw marks
+            (omega (arith, has.count, counted, length-append taken (entries.Row event ∷ [])));
         passed = passed ∙ (ap (passed_with mark) has.passed
             ∙ passed_more (row + 1) mark part.passed);
         last = rw (sym all, last) has.last;

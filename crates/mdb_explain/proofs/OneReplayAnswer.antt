@@ -352,7 +352,8 @@ module _ (scope : Scope) (laws : ReplayLaws scope) (limit : ℕ) where
     one_mark a b way other p q = grind (arith, common_steps)
 
     not_reached : (event : Event) (fault : ReplayFault)
-        → IsReplayFault scope part.rows part.passed event (mark_of part) fault → HasRun part event → ⊥
+        → IsReplayFault scope part.rows part.passed event (mark_of part) fault
+        → HasRun part event → ⊥
     not_reached event (faults.Offence offence) is = is.not_reached
     not_reached event (faults.Mark row) is = is.not_reached
 
