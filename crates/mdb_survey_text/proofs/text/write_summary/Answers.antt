@@ -1,4 +1,4 @@
-use Rattle.std.proofs.Common.{◌==◌, List, [], if◌then◌else◌}
+use Rattle.std.proofs.Common.{◌==◌, [], if◌then◌else◌}
 use Rattle.std.proofs.KnownBytes.{Appends-nil}
 use Rattle.std.specs.Io.KnownBytes.{Appends}
 use Rattle.mdb_text.proofs.Texts.{then_written}
