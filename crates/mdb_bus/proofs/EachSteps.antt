@@ -1,7 +1,7 @@
 -- What each step has, and some step has.
 use Rattle.std.proofs.Common.{refl, ◌≡◌, ℕ, Ok}
 use Rattle.mdb_bus.proofs.Words.{Event, Word, Break, Situation, IsJudged, Leads, Judged, EachStep}
-use Rattle.mdb_bus.proofs.Words.{SomeStep, Step, word_in}
+use Rattle.mdb_bus.proofs.Words.{SomeStep, Step}
 use Rattle.mdb_bus.specs.declared.judged.Judged.TheVariants as judged
 use Rattle.mdb_bus.specs.shared.Step as step
 

@@ -3,7 +3,8 @@
 -- heard.
 use Rattle.std.proofs.Common.{if◌then◌else◌, not, arith, refl, ap, sym, ◌∙◌, ◌≡◌, ◌+◌, ◌<◌, ◌≤◌, ◌↔◌, ℕ, Bool, true, false, List, [], ◌∷◌, ◌++◌, Option, length, length-append}
 use Rattle.std.proofs.Math.Dec.{leb}
-use Rattle.mdb_bus.proofs.Words.{le-leb, lt-leb, Event, Act, IsAck, Profile, Scope, profile_of}
+use Rattle.std.proofs.lemmas.Bool.{le-leb, lt-leb}
+use Rattle.mdb_bus.proofs.Words.{Event, Act, IsAck, Profile, Scope, profile_of}
 use Rattle.mdb_bus.specs.declared.act.Act.TheVariants as acts
 use Rattle.mdb_bus.specs.ActLists.{Piece, Whole, ArePieces, MayCome, MayStand, Quiet, events_of, left_open, piece_events}
 use Rattle.mdb_bus.specs.Wish.{Wish, HearsFreeAsWished, HearsAsWished, IsFree, nothing_told}

@@ -2,7 +2,7 @@
 use Rattle.std.proofs.Common.{arith, refl, ap, sym, subst, ◌∙◌, ◌≡◌, ◌≢◌, ◌⊎◌, inl, inr, Bool, true, false, ◌||◌, List, [], ◌∷◌, ℕ, Option, Some, Result, Ok, Err, IfOk, IfErr, IfSome}
 use Rattle.mdb_bus.proofs.Words.{AllByRecursion, list_any, Command, MsgFault, Reading, Reply}
 use Rattle.mdb_bus.proofs.Words.{HasMessages, IsIn, IsReadFault, IsReplyTo, reply_bytes, Format, As}
-use Rattle.mdb_bus.proofs.Words.{Or, Open, varies, HasFault, IsReadAs, what_counts}
+use Rattle.mdb_bus.proofs.Words.{varies, HasFault, IsReadAs, what_counts}
 use Rattle.mdb_msgs.specs.declared.fault.MsgFault.TheVariants.{Length, Message, Profile as Left, Answer}
 use Rattle.mdb_msgs.specs.declared.reading.Ids.{Ids}
 use Rattle.mdb_msgs.specs.declared.reading.Ids.TheVariants.{Bare, ByNext, Full}
@@ -14,6 +14,7 @@ use Rattle.mdb_msgs.specs.Lists.{Stand}
 use Rattle.mdb_msgs.specs.Reader.{IsReaderMsg, IsTextOf, ReaderMessages, reader_msg_bytes}
 use Rattle.mdb_msgs.specs.Laws.{BytesHaveOneFault, ReplyHasNoFault}
 use Rattle.mdb_msgs.specs.Readings.{is_extended, may_have_options}
+use Rattle.mdb_bus.specs.declared.format.Format.TheVariants.{Or, Open}
 use Rattle.mdb_bus.specs.inner.Reading.{AreReply, IsReadingIn, joint_fault, AreAlike, IsOpenOr, IsPlainList}
 use Rattle.mdb_bus.specs.ExtendedFormats.{AreSome, HaveFaults, IsInSome, long, short, HasOpenFault, IsFirst, IsReadOpen, readings}
 use Rattle.mdb_bus.specs.OpenReplies.{IsExtended}

@@ -1,10 +1,10 @@
 -- Where all options are known, the rule that counts is the first one that is broken.
 use Rattle.std.proofs.Common.{refl, ap, ◌∙◌, ◌≡◌, false, List, [], ◌∷◌}
-use Rattle.mdb_bus.proofs.Words.{cond_both, Command, First, Second, Act, Rule, Levels, KnownOptions}
+use Rattle.mdb_bus.proofs.Words.{cond_both, Command, First, Act, Rule, Levels, KnownOptions}
 use Rattle.mdb_bus.proofs.Words.{Scope, levels_before, profile_of, counted_as, first_known, wide_of}
 use Rattle.mdb_msgs.specs.declared.command.Command.TheVariants as commands
 use Rattle.mdb_msgs.specs.declared.command.ReaderUnit.{ReaderUnit}
-use Rattle.std.specs.Prelude.{Option, Some, None}
+use Rattle.std.specs.Prelude.{Option, Some}
 use Rattle.mdb_bus.specs.declared.act.Act.TheVariants as acts
 use Rattle.mdb_bus.specs.declared.fault.Rule.TheVariants as rule
 use Rattle.mdb_bus.specs.ActLists.{Asked, InAsk, InReply, Piece, Position, levels_of}

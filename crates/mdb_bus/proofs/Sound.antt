@@ -2,10 +2,9 @@
 -- is a long one.
 use Rattle.std.proofs.Common.{refl, ◌≡◌, ℕ, List, [], ◌∷◌, ◌++◌, inl, inr, Some}
 use Rattle.mdb_bus.proofs.Words.{Event, Word, Break, Line, Controller, Peripheral, words_on, Act}
-use Rattle.mdb_bus.proofs.Words.{IsForeignWord, IsReply, Say, command_words, reply_words, IsSound}
-use Rattle.mdb_bus.proofs.Words.{Scope, profile_of}
+use Rattle.mdb_bus.proofs.Words.{IsForeignWord, IsReply, Say, command_words, reply_words}
+use Rattle.mdb_bus.proofs.Words.{NamesAReply, IsSound, Scope, profile_of}
 use Rattle.mdb_bus.specs.declared.act.Act.TheVariants as acts
-use Rattle.mdb_bus.specs.Pieces.{NamesAReply}
 use Rattle.mdb_bus.specs.ActLists.{Piece, Whole, AskTail, ReplyTail, RepeatTail, Position, InRepeat, Replied, Returned, ArePieces, IsSaid, events_of, last_of, piece_events, position_of}
 use Rattle.mdb_bus.proofs.Stops.{LastIsLong, lasts}
 use Rattle.mdb_bus.proofs.Lists.{at_first}

@@ -2,8 +2,8 @@
 use Rattle.std.proofs.Common.{rules, arith, refl, ap, sym, ◌∙◌, ◌≡◌, ◌≢◌, ◌+◌, ◌<◌, ◌≤◌, ◌%◌, ◌⊎◌, inl, inr, ℕ, zero, suc, List, [], ◌∷◌, ◌++◌, length, take, drop, slice_index, slice_get, sum, Option, Some, None, Result, Ok, Err, IfOk, OnOk, get_or, append_assoc, length-append, length-drop, Fits, w8, ◌&&◌, ◌↔◌, Bool, true, false, IsTrue}
 use Rattle.mdb_bus.proofs.Words
 use Words.{nil_from_length, same_from_push, All-append, All-from_recursion, WORD_GAP_MIN, Event}
-use Words.{Word, Controller, Peripheral, answer_byte, Answer, block_of, peripheral_words, Command}
-use Words.{MsgFault, Need, More, Exactly, Foreign, Outside, Reply, IsByte, Spells, command_bytes}
+use Words.{Word, Controller, Peripheral, answer_byte, block_of, peripheral_words, Command, MsgFault}
+use Words.{Need, More, Exactly, Foreign, Outside, Reply, IsByte, Spells, command_bytes}
 use Words.{begins_options, needed, IsOpen, IsShort, Rule, Levels, Place, Judged, reply_words}
 use Words.{position_at, IsBefore, IsPast, LeavesProfile, OutOfOrder, RowBreaks, Situation}
 use Words.{WrongLength, IsFirstByPlace, place_of, IsJudged, IsSound, answer_most, block_most, Scope}
@@ -12,6 +12,7 @@ use Words.{leaves_options, needed_by, needed_in, profile_of}
 use Rattle.std.proofs.lemmas.List.Elements.{All-from_get_or}
 use Rattle.std.proofs.lemmas.Option.{slice_get-get_or, slice_get_past}
 use Rattle.std.specs.List.{All}
+use Rattle.mdb_blocks.specs.declared.answer.Answer.{Answer}
 use Rattle.mdb_blocks.specs.declared.answer.Answer.TheVariants as answers
 use Rattle.mdb_msgs.specs.declared.fault.MsgFault.TheVariants as reading
 use Rattle.mdb_msgs.specs.Answers.{HasDataAnswer}

@@ -1,5 +1,5 @@
 -- The names of std, of the crates below and of this crate's specs that its proofs share.
-pub use Rattle.std.proofs.lemmas.Bool.{cases_eq, cond_both, le-leb, lt-leb, lt-ltb}
+pub use Rattle.std.proofs.lemmas.Bool.{cases_eq, cond_both, false_from_ne_true, lt-ltb}
 pub use Rattle.std.proofs.lemmas.List.{append-nil, map-append, nil_from_length, same_from_push}
 pub use Rattle.std.proofs.lemmas.List.Elements.{All-append, All-from_recursion, recursion_from_All}
 pub use Rattle.std.specs.List.{AllByRecursion, filter, list_any}
@@ -10,7 +10,6 @@ pub use Rattle.mdb_words.specs.declared.word.Line.{Line}
 pub use Rattle.mdb_words.specs.declared.word.Line.TheVariants.{Controller, Peripheral}
 pub use Rattle.mdb_blocks.specs.Answer.{answer_byte, answer_word}
 pub use Rattle.mdb_blocks.specs.Block.{block_of, controller_words, peripheral_words, words_on}
-pub use Rattle.mdb_blocks.specs.declared.answer.Answer.{Answer}
 pub use Rattle.mdb_msgs.proofs.CommandBytes.{spelled_low}
 pub use Rattle.mdb_msgs.specs.Commands.{IsByte, Spells, command_bytes, device_of, is_enable_options}
 pub use Rattle.mdb_msgs.specs.DeviceSets.{has}
@@ -41,7 +40,7 @@ pub use Rattle.mdb_bus.specs.LinkFaults.{IsBefore, IsFirstBroken, IsLinkFault, I
 pub use Rattle.mdb_bus.specs.LinkFaults.{LeavesProfile, OutOfOrder, RowBreaks, Situation}
 pub use Rattle.mdb_bus.specs.LinkFaults.{WrongLength, asked_device, blame_of, blame_on, fault_at}
 pub use Rattle.mdb_bus.specs.LinkFaults.{fault_of, order, situation_of}
-pub use Rattle.mdb_bus.specs.Pieces.{GoesOnFrom, HasActList, IsTail, act_in, levels_if, with_act}
+pub use Rattle.mdb_bus.specs.Pieces.{IsTail, NamesAReply, act_in, levels_if, with_act}
 pub use Rattle.mdb_bus.specs.Scopes.{Asks, HasCommand, IsFollowed, leaves_options, levels_before}
 pub use Rattle.mdb_bus.specs.Scopes.{needed_by, needed_in, profile_of}
 pub use Rattle.mdb_bus.specs.Times.{answer_most, block_most, block_rest, break_least, rest_after}
@@ -50,7 +49,7 @@ pub use Rattle.mdb_bus.specs.declared.fault.Blame.{Blame}
 pub use Rattle.mdb_bus.specs.declared.fault.LinkFault.{LinkFault}
 pub use Rattle.mdb_bus.specs.declared.fault.Rule.{Rule}
 pub use Rattle.mdb_bus.specs.declared.format.Format.{Format}
-pub use Rattle.mdb_bus.specs.declared.format.Format.TheVariants.{As, Open, Or}
+pub use Rattle.mdb_bus.specs.declared.format.Format.TheVariants.{As}
 pub use Rattle.mdb_bus.specs.declared.judged.Judged.{Judged}
 pub use Rattle.mdb_bus.specs.declared.levels.Levels.{Levels}
 pub use Rattle.mdb_bus.specs.declared.options.KnownOptions.{KnownOptions}
@@ -61,7 +60,7 @@ pub use Rattle.mdb_bus.specs.declared.scope.Profile.{Profile}
 pub use Rattle.mdb_bus.specs.declared.scope.Profile.TheVariants.{Base, Extended}
 pub use Rattle.mdb_bus.specs.declared.scope.Scope.{Scope}
 pub use Rattle.mdb_bus.specs.inner.Reading.{varies}
-pub use Rattle.mdb_bus.specs.shared.Grammar.{Grammar, OpenIsAFront}
+pub use Rattle.mdb_bus.specs.shared.Grammar.{Grammar}
 pub use Rattle.mdb_bus.specs.shared.RulePlaces.{IsFirstByPlace, place_of}
 pub use Rattle.mdb_bus.specs.shared.Step.{EachStep, SomeStep, Step, word_in}
 pub use Rattle.mdb_bus.specs.shared.Steps.{HasAdvanced, IsAt, IsEnded, IsJudged, IsReadAt, IsSound}

@@ -1,9 +1,9 @@
 -- That the bytes of a command's block are bytes.
-use Rattle.mdb_msgs.proofs.Words.{◌≤◌, AllByRecursion, All-append, block_of, Command, Changer, Bill}
-use Rattle.mdb_msgs.proofs.Words.{Reader, BillCommand, First, Second, IsByte, Spells, command_bytes}
+use Rattle.mdb_msgs.proofs.Words.{◌≤◌, AllByRecursion, recursion_from_All, All-from_recursion}
+use Rattle.mdb_msgs.proofs.Words.{All-append, block_of, Command, ChangerCommand, BillCommand, First}
+use Rattle.mdb_msgs.proofs.Words.{Second, IsByte, Spells, command_bytes}
 use Rattle.std.proofs.Common.{arith, ◌%◌, ℕ, List, [], ◌∷◌, ◌++◌, sum, All}
-use Rattle.std.proofs.lemmas.List.Elements.{recursion_from_All, All-from_recursion}
-use Rattle.mdb_msgs.specs.declared.command.ChangerCommand.{ChangerCommand}
+use Rattle.mdb_msgs.specs.declared.command.Command.TheVariants.{Changer, Bill, Reader}
 use Rattle.mdb_msgs.specs.declared.command.ChangerCommand.TheVariants as changer
 use Rattle.mdb_msgs.specs.declared.command.BillCommand.TheVariants as bill
 use Rattle.mdb_msgs.specs.declared.command.ReaderCommand.{ReaderCommand}

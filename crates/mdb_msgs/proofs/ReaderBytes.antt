@@ -1,10 +1,10 @@
 -- The bytes of a reader's answer are read as the answer.
 use Rattle.mdb_msgs.proofs.Words.{◌≡◌, ◌*◌, ◌≤◌, length, take, replicate, flat_map, list_any}
-use Rattle.mdb_msgs.proofs.Words.{append_cancel_left, two_bytes, four_bytes, Ids, Reading}
-use Rattle.mdb_msgs.proofs.Words.{ReaderMsg, allows, takes_options, Stand, no_messages, messages_of}
-use Rattle.mdb_msgs.proofs.Words.{StandAsMessages, IsNextMessage}
+use Rattle.mdb_msgs.proofs.Words.{two_bytes, four_bytes, Ids, Reading, ReaderMsg, allows}
+use Rattle.mdb_msgs.proofs.Words.{takes_options, Stand, no_messages, messages_of, StandAsMessages}
+use Rattle.mdb_msgs.proofs.Words.{IsNextMessage}
 use Rattle.std.proofs.Common.{ℕ, zero, suc, ◌+◌, ◌/◌, ◌%◌, ◌<◌, ◌⊎◌, inl, inr, if◌then◌else◌, Bool, true, false, List, get_or, [], ◌∷◌, ◌++◌, drop, slice_index_or, Fits, w8, refl, sym, ap, ◌∙◌, arith, ap₂, append_assoc, append-nil, length-append, subst}
-use Rattle.std.proofs.lemmas.List.{drop-append-le, drop-take, get_or-drop, length-drop, length-take-le, take_all}
+use Rattle.std.proofs.lemmas.List.{append_cancel_left, drop-append-le, drop-take, get_or-drop, length-drop, length-take-le, take_all}
 use Rattle.std.proofs.Math.Seq.{drop-append_seam, take-append_seam}
 use Rattle.mdb_msgs.specs.declared.reply.reader.ReaderMsg.TheVariants.{JustReset, Config, Display, BeginSession, BeginSessionLong, VendApproved, PeripheralId, PeripheralIdWithOptions, OutOfSequence, OutOfSequenceIn}
 use Rattle.mdb_msgs.specs.Reader.{ReaderMessages, head_bytes, is_display, is_id, reading_of, text_of, reader_msg_bytes, reader_list_bytes, AreReaderMsgs, IsReaderList, IsReaderMsg, IsTextOf}

@@ -3,21 +3,21 @@ pub use Rattle.std.proofs.Common.{length, replicate, take, ◌*◌, ◌≡◌, �
 pub use Rattle.std.proofs.lemmas.Bool.{cases_Bool, cases_eq, cases_lt}
 pub use Rattle.std.proofs.lemmas.Bool.Decides.{nat_tests}
 pub use Rattle.std.proofs.lemmas.Grind.{common_steps, flat_map-append}
-pub use Rattle.std.proofs.lemmas.List.{append_cancel_left, length-replicate, take-append-drop}
-pub use Rattle.std.proofs.lemmas.List.Elements.{All-append, All-drop, All-replicate}
+pub use Rattle.std.proofs.lemmas.List.Elements.{All-append, All-drop, All-from_recursion}
+pub use Rattle.std.proofs.lemmas.List.Elements.{All-replicate, recursion_from_All}
 pub use Rattle.std.proofs.lemmas.List.Folds.{length-flat_map-take, list_any-append}
-pub use Rattle.std.proofs.lemmas.Option.{same_Some}
 pub use Rattle.std.proofs.lemmas.Result.{err_from_is_err_and}
 pub use Rattle.std.specs.List.{AllByRecursion, flat_map, list_any}
-pub use Rattle.std.specs.Option.{option_or}
 pub use Rattle.std.specs.Result.{result_ok}
 pub use Rattle.mdb_blocks.specs.Block.{IsContent, block_of}
 pub use Rattle.mdb_msgs.specs.Bill.{IsBillMsg, IsOfRecycler, NoBillMsg, bill_msg_bytes}
 pub use Rattle.mdb_msgs.specs.Changer.{IsChangerMsg, NoChangerMsg, changer_msg_bytes}
+pub use Rattle.mdb_msgs.specs.CommandFaults.{IsCommandFault, IsRefused}
 pub use Rattle.mdb_msgs.specs.Commands.{IsByte, Spells, command_bytes, device_of, reader_address}
-pub use Rattle.mdb_msgs.specs.ExtendedLevels.{last_level, level_in}
 pub use Rattle.mdb_msgs.specs.Lists.{Stand, StopsAt}
-pub use Rattle.mdb_msgs.specs.Needs.{begins_options, device_at, is_for, need, need_for, needed}
+pub use Rattle.mdb_msgs.specs.Needs.{begins_options, bill_need, changer_need, device_at, is_for}
+pub use Rattle.mdb_msgs.specs.Needs.{is_to_one_of, need, need_for, needed, reader_need}
+pub use Rattle.mdb_msgs.specs.OpenBlocks.{IsOpen, IsShort, IsTold, TellsLength}
 pub use Rattle.mdb_msgs.specs.Reader.{is_kept, own_ids, tells_level}
 pub use Rattle.mdb_msgs.specs.ReaderBytes.{no_messages}
 unfoldable pub use Rattle.mdb_msgs.specs.ReaderBytes.{messages_of}
@@ -26,8 +26,8 @@ pub use Rattle.mdb_msgs.specs.ReplyFaults.{SpellsReply}
 pub use Rattle.mdb_msgs.specs.TwoBytes.{four_bytes, two_bytes}
 pub use Rattle.mdb_msgs.specs.declared.answer.DataForm.{DataForm}
 pub use Rattle.mdb_msgs.specs.declared.command.BillCommand.{BillCommand}
+pub use Rattle.mdb_msgs.specs.declared.command.ChangerCommand.{ChangerCommand}
 pub use Rattle.mdb_msgs.specs.declared.command.Command.{Command}
-pub use Rattle.mdb_msgs.specs.declared.command.Command.TheVariants.{Bill, Changer, Reader}
 pub use Rattle.mdb_msgs.specs.declared.command.Device.{Device}
 pub use Rattle.mdb_msgs.specs.declared.command.ReaderUnit.{ReaderUnit}
 pub use Rattle.mdb_msgs.specs.declared.command.ReaderUnit.TheVariants.{First, Second}
@@ -45,6 +45,4 @@ pub use Rattle.mdb_msgs.specs.declared.reply.setup.BillSetup.{BillSetup}
 pub use Rattle.mdb_msgs.specs.declared.reply.setup.ChangerSetup.{ChangerSetup}
 pub use Rattle.mdb_msgs.specs.declared.reply.setup.Stacker.{Stacker}
 pub use Rattle.mdb_msgs.specs.declared.reply.setup.TubeStatus.{TubeStatus}
-pub use Rattle.mdb_msgs.specs.declared.setups.Setups.{Setups}
 pub use Rattle.mdb_msgs.specs.inner.ReaderSteps.{IsNextMessage, StandAsMessages, with_message}
-pub use Rattle.mdb_msgs.specs.inner.SetupAsked.{setup_of}
