@@ -308,9 +308,11 @@ interface OpenEntry {
   answer?: string;
   code?: number;
   silent?: number | null;
+  paid?: any;
 }
 
-/** An order to pay out of a device that isn't followed: its first and last row, and a recycler's bytes (rows.js). */
+/** An order to pay out of a device that isn't followed, or what a recycler says that it paid: its first and last row,
+ * and a recycler's bytes (rows.js). */
 interface Order {
   row: number;
   end: number;

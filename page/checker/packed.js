@@ -3,8 +3,8 @@
 // and the ACK that answers it. All other acts are records, as the module has them.
 import {layout} from "./layout.js";
 
-// The kinds of the two acts of such a poll.
-const ASK = 0, ACK = 1;
+// The kinds of the two acts of such a poll, and of words of devices that aren't followed.
+const ASK = 0, ACK = 1, FOREIGN = 8;
 // The blocks of POLL, by device.
 export const POLL_BLOCKS = [0, 0x0B, 0x33, 0x12, 0x62].map((byte) => Uint8Array.of(byte, byte));
 // A poll has four words: its first row; when that was, in two words, the second with the device in its upper byte; and
@@ -126,13 +126,13 @@ class Packing {
   isFull() {
     return this.records.count * 4 >= MOST * layout.act.size || this.polls.count >= MOST_POLLS * POLL_WORDS;
   }
-  // Packs the act at a place in memory, with so many rows before it.
+  // Packs the act at a place in memory, with so many rows before it. (Word by word: a call costs more for so few.)
   addRecord({words}, at, before) {
-    const {size: wide, first, last} = layout.act, {records} = this, place = records.more(wide / 4);
+    const {size: wide, first, last} = layout.act, {records} = this, place = records.more(wide / 4), {all} = records;
     this.index.push(place * 4 / wide);
-    records.all.set(words.subarray(at / 4, (at + wide) / 4), place);
-    records.all[place + first / 4] += before;
-    records.all[place + last / 4] += before;
+    for (let i = 0; i < wide / 4; i++) all[place + i] = words[at / 4 + i];
+    all[place + first / 4] += before;
+    all[place + last / 4] += before;
   }
   // Packs an act and the next one, if they are a poll without news whose rows follow each other soon.
   addPoll({words, bytes}, at, before) {
@@ -144,8 +144,11 @@ class Packing {
     const isInRow = word(at + last) === row + 1 && word(next + first) === row + 2;
     const isSoon = second >= 0 && second <= MOST_DELAY && answer >= 0 && answer <= MOST_DELAY;
     if (bytes[at + block] !== POLL_BLOCKS[who][0] || !isInRow || !isSoon) return false;
-    const poll = 2 * this.polls.count / POLL_WORDS, place = this.polls.more(POLL_WORDS);
-    this.polls.all.set([row + before, from, word(at + start + 4) | who << DEVICE_SHIFT, second << 16 | answer], place);
+    const poll = 2 * this.polls.count / POLL_WORDS, place = this.polls.more(POLL_WORDS), {all} = this.polls;
+    all[place] = row + before;
+    all[place + 1] = from;
+    all[place + 2] = words[(at + start) / 4 + 1] | who << DEVICE_SHIFT;
+    all[place + 3] = second << 16 | answer;
     this.index.push(IS_POLL + poll);
     this.index.push(IS_POLL + poll + 1);
     return true;
@@ -161,20 +164,32 @@ export class FirstAndLast {
     this.last = this.first;
     this.before = null;
     this.isWhole = true;
+    // The rows of devices that aren't followed: the first and the last one of those without others in between.
+    this.foreign = new Words();
   }
   // Takes the acts that these bytes are, with so many rows before the first one.
   /** @type {(bytes: Uint8Array, before: number) => void} */
   add(bytes, before) {
     const memory = {bytes, words: new Uint32Array(bytes.buffer, bytes.byteOffset, bytes.length / 4)};
-    const {size: wide} = layout.act;
+    const {size: wide, kind} = layout.act;
     this.all += bytes.length / wide;
     for (let at = 0; at < bytes.length; at += wide) {
       if (this.last.isFull()) this.turn();
-      if (at + wide < bytes.length && this.last.addPoll(memory, at, before))
+      if (at + wide < bytes.length && this.last.addPoll(memory, at, before)) {
         at += wide;
-      else
-        this.last.addRecord(memory, at, before);
+        continue;
+      }
+      this.last.addRecord(memory, at, before);
+      if (bytes[at + kind] === FOREIGN) this.addForeign(memory, at, before);
     }
+  }
+  addForeign({words}, at, before) {
+    const {first, last} = layout.act, {foreign} = this, from = words[(at + first) / 4] + before;
+    if (!foreign.count || foreign.all[foreign.count - 1] !== from - 1) {
+      foreign.push(from);
+      foreign.push(from);
+    }
+    foreign.all[foreign.count - 1] = words[(at + last) / 4] + before;
   }
   turn() {
     if (this.before) this.isWhole = false;
@@ -194,7 +209,8 @@ export class FirstAndLast {
     }));
     const all = (name) => joined(parts.map((part) => part[name].all.subarray(0, part[name].count))).buffer;
     const acts = {records: all("records"), polls: all("polls"), index: index.buffer};
-    return {acts, listed: index.length, all: this.all, hole: this.isWhole ? -1 : this.first.index.count};
+    const foreign = this.foreign.all.subarray(0, this.foreign.count);
+    return {acts, listed: index.length, all: this.all, hole: this.isWhole ? -1 : this.first.index.count, foreign};
   }
 }
 

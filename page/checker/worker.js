@@ -129,7 +129,7 @@ function judge(options) {
     most = (performance.now() - begin) * (size / FRONT);
   }
   tell("Listing", 0, most);
-  const begin = performance.now(), listing = listAll(), listed = performance.now();
+  const begin = performance.now(), {foreign, ...listing} = listAll(), listed = performance.now();
   tell("Checking", 0, most);
   const answer = check(size), end = told(), text = answer < 2 ? answerText() : "";
   const checked = performance.now();
@@ -148,8 +148,8 @@ function judge(options) {
     offset: end.offset,
     fault: end.fault,
     lines: stops ? lines(end.offset, end.row) : [],
-    orders: ordersIn(recording),
     ...listing,
+    orders: ordersIn(recording, foreign),
     // When the last row of the file began: what isn't read goes up to there.
     until: timeAt(recording, rowBefore(recording, size)),
     spoken: spokenIn(recording),
