@@ -538,13 +538,13 @@ function orderedOf(acts, {row, bytes: [order, ...rest]}) {
 }
 
 // What a recycler says that it paid: so many bills of each type.
-function paidOf(acts, {row, bytes: [, ...counts]}) {
-  const setup = acts.setupAt(2, actAfterRow(acts, row) - 1), sums = [amountOf(2, setup, 0)];
-  for (let type = 0; type < counts.length / 2; type++) {
-    const count = two(counts, 2 * type), value = count ? worth(setup, type) : 0;
-    sums.push(amountOf(2, setup, value === null ? null : value * count));
-  }
-  return sums.reduce(moreOf);
+function paidOf(acts, {row, bytes: [, ...words]}) {
+  const setup = acts.setupAt(2, actAfterRow(acts, row) - 1), counts = [];
+  for (let i = 0; i < words.length; i += 2) counts.push(two(words, i));
+  const amounts = counts.map((count, type) => [count, worth(setup, type)])
+                      .filter(([count]) => count)
+                      .map(([count, bill]) => amountOf(2, setup, bill === null ? null : bill * count));
+  return amounts.length ? amounts.reduce(moreOf) : amountOf(2, setup, 0);
 }
 
 // The first thing that a recycler says after each of its orders, and before the next one.
