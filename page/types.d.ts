@@ -103,6 +103,8 @@ interface Found {
   breaks: Happening[];
   silences: Silence[];
   setups: Happening[];
+  // The readers that approved an amount that isn't told.
+  untold?: Set<string>;
 }
 
 /** A line of the file; `whole` is whether `bytes` has all of its `length`. */

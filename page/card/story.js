@@ -158,10 +158,10 @@ function silenceStory(it) {
 // Amounts that have no value: nothing in the recording, or given with it, says what they are worth.
 /** @type {(it: Answer) => Sentence[]} */
 export function valuelessStory(it) {
-  const told = [];
+  const told = [], bare = it.found.money.filter(({units, noAmount}) => units === null && !noAmount);
   for (const [i, device] of DEVICES.entries()) {
     if (!device || it.report.without.includes(device)) continue;
-    const without = it.found.money.filter((m) => m.device === i && m.units === null && !m.noAmount);
+    const without = bare.filter((m) => m.device === i);
     const n = it.report.unvalued?.[device] ?? 0;
     if (!n && !without.length) continue;
     const many = n || without.length,
