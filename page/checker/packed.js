@@ -95,10 +95,10 @@ export class PackedActs {
 export const asPacked = (records, count) =>
     ({records, polls: new ArrayBuffer(0), index: Uint32Array.from({length: count}, (_, i) => i).buffer});
 
-// A growing row of words.
+// A growing row of words, with room for so many at first.
 class Words {
-  constructor() {
-    this.all = new Uint32Array(1024);
+  constructor(room = 1024) {
+    this.all = new Uint32Array(room);
     this.count = 0;
   }
   // Where so many more words go.
@@ -116,15 +116,17 @@ class Words {
   }
 }
 
-// Acts that come in pieces, packed.
+// Acts that come in pieces, packed: so many records at most, of so many acts in all. There is room for them from the
+// start, since what grows is copied. Memory that isn't written to costs nothing.
 class Packing {
-  constructor() {
-    this.records = new Words();
-    this.polls = new Words();
-    this.index = new Words();
+  constructor(most, count) {
+    this.most = most;
+    this.records = new Words(Math.min(count, most) * layout.act.size / 4);
+    this.polls = new Words(Math.min(count >> 1, MOST_POLLS) * POLL_WORDS);
+    this.index = new Words(Math.min(count, most + 2 * MOST_POLLS));
   }
   isFull() {
-    return this.records.count * 4 >= MOST * layout.act.size || this.polls.count >= MOST_POLLS * POLL_WORDS;
+    return this.records.count * 4 >= this.most * layout.act.size || this.polls.count >= MOST_POLLS * POLL_WORDS;
   }
   // Packs the act at a place in memory, with so many rows before it. (Word by word: a call costs more for so few.)
   addRecord({words}, at, before) {
@@ -157,9 +159,11 @@ class Packing {
 
 // The first acts and the last ones, packed: all, where neither those with news nor polls without news are too many.
 export class FirstAndLast {
-  constructor() {
+  // Of so many acts, if that is known. Few are the first ones.
+  constructor(count = 0) {
+    this.count = count;
     this.all = 0;
-    this.first = new Packing();
+    this.first = new Packing(count > 3 * MOST ? MOST : Math.max(count, MOST), count);
     // The last ones, and as many before them.
     this.last = this.first;
     this.before = null;
@@ -194,24 +198,39 @@ export class FirstAndLast {
   turn() {
     if (this.before) this.isWhole = false;
     if (this.last !== this.first) this.before = this.last;
-    this.last = new Packing();
+    this.last = new Packing(MOST, this.count);
   }
   // What is listed, in its order, and the number of the act before which others aren't; −1 if all are.
   listed() {
-    const parts = [...new Set([this.first, this.before, this.last])].filter(Boolean), rows = {records: 0, polls: 0};
-    const index = joined(parts.map((part) => {
-      const made = part.index.all.slice(0, part.index.count), polls = 2 * rows.polls / POLL_WORDS;
-      const records = rows.records * 4 / layout.act.size;
-      for (let i = 0; i < made.length; i++) made[i] += made[i] >= IS_POLL ? polls : records;
-      rows.records += part.records.count;
-      rows.polls += part.polls.count;
-      return made;
-    }));
-    const all = (name) => joined(parts.map((part) => part[name].all.subarray(0, part[name].count))).buffer;
-    const acts = {records: all("records"), polls: all("polls"), index: index.buffer};
-    const foreign = this.foreign.all.subarray(0, this.foreign.count);
-    return {acts, listed: index.length, all: this.all, hole: this.isWhole ? -1 : this.first.index.count, foreign};
+    const parts = [...new Set([this.first, this.before, this.last])].filter(Boolean);
+    const acts = parts.length === 1 ? buffersOf(parts[0]) : joinedParts(parts);
+    return {
+      acts,
+      listed: parts.reduce((sum, {index}) => sum + index.count, 0),
+      all: this.all,
+      hole: this.isWhole ? -1 : this.first.index.count,
+      foreign: this.foreign.all.subarray(0, this.foreign.count)
+    };
   }
+}
+
+// What is packed, as it lies there: the buffers may be longer.
+const buffersOf = ({records, polls, index}) =>
+    ({records: records.all.buffer, polls: polls.all.buffer, index: index.all.buffer});
+
+// The same of several parts, one after the other.
+function joinedParts(parts) {
+  const rows = {records: 0, polls: 0};
+  const index = joined(parts.map((part) => {
+    const made = part.index.all.slice(0, part.index.count), polls = 2 * rows.polls / POLL_WORDS;
+    const records = rows.records * 4 / layout.act.size;
+    for (let i = 0; i < made.length; i++) made[i] += made[i] >= IS_POLL ? polls : records;
+    rows.records += part.records.count;
+    rows.polls += part.polls.count;
+    return made;
+  }));
+  const all = (name) => joined(parts.map((part) => part[name].all.subarray(0, part[name].count))).buffer;
+  return {records: all("records"), polls: all("polls"), index: index.buffer};
 }
 
 // Words one after the other.

@@ -62,7 +62,7 @@ function sayNews(count) {
 // The acts of the recording, and all news, piece by piece. One walk over the rows gives both; where there are many
 // news, further walks give the rest of them.
 function listAll() {
-  const {acts: all, news: allNews, answer, row, offset} = list(at.room, 0, at.roomNews), kept = new FirstAndLast();
+  const {acts: all, news: allNews, answer, row, offset} = list(at.room, 0, at.roomNews), kept = new FirstAndLast(all);
   sayNews(Math.min(at.roomNews, allNews));
   eachPiece(all, 0, size, (acts) => kept.add(acts, 0));
   for (let got = at.roomNews; got < allNews; got += at.roomNews) {
