@@ -26,6 +26,7 @@ import second_open_money  # noqa: E402
 TOP = pathlib.Path(__file__).resolve().parent.parent
 # What the card shows, and what the page has of it.
 READ = """(() => {
+  const named = (part) => ({...part, device: DEVICES[part.device]});
   const it = by("verdict"), text = (all) => [...all].map((one) => one.textContent);
   return JSON.stringify({
     kind: it.className, isOpen: it.hasAttribute("data-open"), colour: getComputedStyle(it).borderLeftColor,
@@ -33,7 +34,7 @@ READ = """(() => {
     next: text(it.querySelectorAll("#next li")), scope: it.querySelector("#open-scope")?.textContent ?? "", lead: by("lead").textContent,
     rows: [...it.querySelectorAll("#open > li")].map((one) => [...one.querySelectorAll("[data-row]")].map((a) => [Number(a.dataset.row), Number(a.dataset.last)])),
     entries: openMoneyOf(state).map(({until, ...one}) => ({...one, device: DEVICES[one.device],
-      amounts: one.amounts.map((part) => ({...part, device: DEVICES[part.device]}))})),
+      amounts: one.amounts.map(named), paid: one.paid && named(one.paid)})),
     table: by("statement-rows")?.textContent ?? "",
     total: text(document.querySelectorAll("#stretch-total tr[data-account='paid-out'] td")),
   });
@@ -311,6 +312,13 @@ def complaints():
                                                         ("trouble", "", "tube jam")])
     yield Scene("change from the recycler, as a value", Bus().changer().validator().told([0x33], 0x91).ack(0x35, 1).told([0x33], 0x81)
                 .ack(0x37, 7, 0, 1), AMBER, [("order", "5.00", "1 order to pay out 5.00", "recycler")], options=extended)
+    told = lambda *counts: [it for count in [*counts, *[0] * (16 - len(counts))] for it in (0, count)]
+    yield Scene("the recycler says that it paid less", Bus().changer().validator().told([0x33], 0x91).ack(0x35, 1).told([0x33], 0x81)
+                .ack(0x37, 6, 0, 0, 2).told([0x37, 8], *told(1)), AMBER, [("order", "10.00", "1 order to pay out 10.00", "reported 5.00 as paid out (37 08)")],
+                options=extended)
+    yield Scene("the recycler says twice what it paid", Bus().changer().validator().told([0x33], 0x91).ack(0x35, 1).told([0x33], 0x81)
+                .ack(0x37, 6, 0, 0, 1).told([0x37, 8], *told(1)).told([0x37, 8], *told(1)).ack(0x37, 6, 1, 0, 1).told([0x37, 8], *told(0, 1)),
+                AMBER, [("order", "15.00", "2 orders to pay out 15.00", "reported 15.00 as paid out (37 08)")], options=extended)
     yield Scene("change from the second hopper", Bus().changer().coin(4).ack(0x75, 0, 0, 3).ack(0x76, 4), AMBER,
                 [("order", "", "2 orders to pay out went", "hopper (70H)")])
     second = Bus().reader().reader(0x60).told([0x62], 3, 3, 0xE8).ack(0x63, 0, 0, 100, 0, 5).approved().ack(0x13, 2, 0, 7).over()

@@ -62,7 +62,7 @@ function sayNews(count) {
 // The acts of the recording, and all news, piece by piece. One walk over the rows gives both; where there are many
 // news, further walks give the rest of them.
 function listAll() {
-  const {acts: all, news: allNews, answer, row, offset} = list(at.room, 0, at.roomNews), kept = new FirstAndLast();
+  const {acts: all, news: allNews, answer, row, offset} = list(at.room, 0, at.roomNews), kept = new FirstAndLast(all);
   sayNews(Math.min(at.roomNews, allNews));
   eachPiece(all, 0, size, (acts) => kept.add(acts, 0));
   for (let got = at.roomNews; got < allNews; got += at.roomNews) {
@@ -129,7 +129,7 @@ function judge(options) {
     most = (performance.now() - begin) * (size / FRONT);
   }
   tell("Listing", 0, most);
-  const begin = performance.now(), listing = listAll(), listed = performance.now();
+  const begin = performance.now(), {foreign, ...listing} = listAll(), listed = performance.now();
   tell("Checking", 0, most);
   const answer = check(size), end = told(), text = answer < 2 ? answerText() : "";
   const checked = performance.now();
@@ -148,8 +148,8 @@ function judge(options) {
     offset: end.offset,
     fault: end.fault,
     lines: stops ? lines(end.offset, end.row) : [],
-    orders: ordersIn(recording),
     ...listing,
+    orders: ordersIn(recording, foreign),
     // When the last row of the file began: what isn't read goes up to there.
     until: timeAt(recording, rowBefore(recording, size)),
     spoken: spokenIn(recording),

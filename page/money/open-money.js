@@ -13,7 +13,7 @@ const LEVER_WAIT = 30e6, CASH_WAIT = 30e6, PAYOUT_WAIT = 2e6, JAM_WAIT = 5e6, SI
 const NOT_TOLD = 0xFFFF;
 const READERS = [3, 4];
 export const STACKER = 0x36, RECYCLER = 0x37;
-const TUBE_STATUS = 0x0A, PAYOUT_BUSY = 2, BILLS_ORDERED = 6;
+const TUBE_STATUS = 0x0A, PAYOUT_BUSY = 2, BILLS_ORDERED = 6, BILLS_PAID = 8;
 const VEND = {
   REQUEST: 0,
   CANCEL: 1,
@@ -70,6 +70,7 @@ const NO_ENTRY = {
   code: null,
   answer: null,
   silent: null,
+  paid: null,
   last: 0
 };
 
@@ -536,13 +537,33 @@ function orderedOf(acts, {row, bytes: [order, ...rest]}) {
   return amountOf(2, setup, isBills ? worth(setup, rest[0] & 15) * two(rest, 1) : two(rest, 0) * setup.scale);
 }
 
+// What a recycler says that it paid: so many bills of each type.
+function paidOf(acts, {row, bytes: [, ...words]}) {
+  const setup = acts.setupAt(2, actAfterRow(acts, row) - 1), counts = [];
+  for (let i = 0; i < words.length; i += 2) counts.push(two(words, i));
+  const amounts = counts.map((count, type) => [count, worth(setup, type)])
+                      .filter(([count]) => count)
+                      .map(([count, bill]) => amountOf(2, setup, bill === null ? null : bill * count));
+  return amounts.length ? amounts.reduce(moreOf) : amountOf(2, setup, 0);
+}
+
+// The first thing that a recycler says after each of its orders, and before the next one.
+function paidAfter(all) {
+  const isPaid = ({bytes}) => bytes[0] === BILLS_PAID;
+  return all.filter((it, i) => i > 0 && isPaid(it) && !isPaid(all[i - 1]));
+}
+
 // The payouts by devices that aren't followed, an entry for each of these.
 function orderEntries(acts, orders) {
   const found = orders.filter(({row, end}) => isForeign(acts, row) && isForeign(acts, end));
-  return [...new Set(found.map(({code}) => code))].map((code) => {
-    const all = found.filter((it) => it.code === code), isRecycler = code === RECYCLER;
+  const of = (code) => found.filter((it) => it.code === code), isOrder = ({bytes}) => bytes[0] !== BILLS_PAID;
+  return [...new Set(found.filter(isOrder).map(({code}) => code))].map((code) => {
+    const all = of(code).filter(isOrder), told = paidAfter(of(code)), isRecycler = code === RECYCLER;
     const amounts = isRecycler ? [all.map((it) => orderedOf(acts, it)).reduce(moreOf)] : [];
-    return {...rowsEntry("order", isRecycler ? 2 : 0, all, code), amounts};
+    const entry = {...rowsEntry("order", isRecycler ? 2 : 0, all, code), amounts};
+    if (!told.length) return entry;
+    const paid = told.map((it) => paidOf(acts, it)).reduce(moreOf), last = told.at(-1);
+    return {...entry, paid, cameRows: [last.row, last.end]};
   });
 }
 

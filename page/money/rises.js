@@ -88,7 +88,8 @@ function readRises(buffer) {
 }
 
 function risesOf(it, name) {
-  it.risen ??= it.rises ? readRises(it.rises.listed) : [];
+  if (!it.rises) return [];
+  it.risen ??= readRises(it.rises.listed);
   return it.risen.filter(({account}) => account === name);
 }
 
