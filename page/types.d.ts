@@ -168,6 +168,15 @@ interface Levels {
   reader: number | null;
 }
 
+/** A sum to which a run comes, and that run's marks (checker/weighed.js). */
+interface WeighedEnd {
+  value: bigint;
+  lost: number;
+  restarts: number;
+  repeats: number;
+  all: number;
+}
+
 /** What the module answers to a recording, and what is known and shown of that. */
 interface Answer {
   answer?: number;
@@ -205,6 +214,7 @@ interface Answer {
   sha256?: string;
   replayed?: {answer: number, text: string, row: number} | null;
   rises?: {all: number, listed: ArrayBuffer} | null;
+  weights?: Record<number, ArrayBuffer | null>;
   survey?: Survey;
   atFirst?: Partial<Answer>;
   cuts?: number[];
