@@ -29,12 +29,10 @@ function endsOf(it, name, side) {
 }
 
 // What must have happened, in words.
-function lossWords(name, {lost, restarts, repeats}) {
+function lossWords(who, {lost, restarts, repeats}) {
   const told = [];
   if (lost) told.push(`${counted(lost, "acknowledgement")} ${lost === 1 ? "was" : "were"} lost`);
-  if (restarts)
-    told.push(
-        `${the(SHORT_NAMES[deviceOf(name)])} restarted unseen${restarts === 1 ? "" : ` ${number(restarts)} times`}`);
+  if (restarts) told.push(`${who} restarted unseen${restarts === 1 ? "" : ` ${number(restarts)} times`}`);
   if (repeats) told.push(`${counted(repeats, "approval")} ${repeats === 1 ? "was" : "were"} told again`);
   return listed(told);
 }
@@ -50,8 +48,9 @@ const SUBJECTS = {
 function sentencesOf(it, name, a, d, sides, isMeant) {
   return sides.filter((side) => a[side][0] !== a[side][1]).flatMap((side) => {
     const ends = endsOf(it, name, side), told = ends ? [ends.least, ends.greatest].sort((x, y) => x.all - y.all) : [];
+    const who = side === "device" ? "it" : the(SHORT_NAMES[deviceOf(name)]);
     const words = told.filter(isMeant).map(
-        (one) => `${money(one.value, d)} ${one.all ? `only if ${lossWords(name, one)}` : "if nothing was lost"}`);
+        (one) => `${money(one.value, d)} ${one.all ? `only if ${lossWords(who, one)}` : "if nothing was lost"}`);
     return words.length && told.some(({all}) => all) ? [`${SUBJECTS[side](name)} ${words.join("; ")}.`] : [];
   });
 }
