@@ -191,6 +191,13 @@ impl<const N: usize> States<N> {
         }
     }
 
+    /// Drops all.
+    fn clear(&mut self) {
+        for code in 0..N {
+            self.are_possible[code] = false;
+        }
+    }
+
     /// Takes in what a step leads to.
     fn take(&mut self, code: usize, before: &[Sum; SUMS], gains: &Gains, choice: Choice) {
         if code >= N {
@@ -321,7 +328,7 @@ fn replace<P: Pair, const N: usize>(
     if !P::concerns(act) || all_rest::<P, N>(act, from) {
         return Goes::Still;
     }
-    into.are_possible = [false; N];
+    into.clear();
     for code in 0..N {
         if from.are_possible[code] {
             take_steps::<P, N>(facts, act, code, &from.sums[code], into);

@@ -44,32 +44,43 @@ pub extern "C" fn mdb_page_weights(
     let Some(scope) = taken_so(options) else {
         return BAD_OPTIONS;
     };
+    let begins = &scope.begins;
     match device {
-        1 => weigh::<Changer, CHANGER_STATES>(&scope, text, told, ends),
-        2 => weigh::<Bill, BILL_STATES>(&scope, text, told, ends),
-        3 => weigh::<FirstReader, STATES_BY_PROFILE>(&scope, text, told, ends),
-        4 => weigh::<SecondReader, STATES_BY_PROFILE>(&scope, text, told, ends),
+        1 => {
+            let mut scale = scale::start::<Changer, CHANGER_STATES>(begins);
+            weigh::<Changer, _>(&scope, &mut scale, text, told, ends)
+        }
+        2 => {
+            let mut scale = scale::start::<Bill, BILL_STATES>(begins);
+            weigh::<Bill, _>(&scope, &mut scale, text, told, ends)
+        }
+        3 => {
+            let mut scale = scale::start::<FirstReader, STATES_BY_PROFILE>(begins);
+            weigh::<FirstReader, _>(&scope, &mut scale, text, told, ends)
+        }
+        4 => {
+            let mut scale = scale::start::<SecondReader, STATES_BY_PROFILE>(begins);
+            weigh::<SecondReader, _>(&scope, &mut scale, text, told, ends)
+        }
         _ => BAD_OPTIONS,
     }
 }
 
-/// Weighs the sums of a device in the rows of a text.
-// Not inlined, so that only the tables of one device are made.
-#[inline(never)]
+/// Weighs the sums of a device in the rows of a text, from a scale after no act.
 fn weigh<P: Pair, const N: usize>(
     scope: &Scope,
+    scale: &mut Scale<P::Facts, N>,
     text: &[u8],
     told: &mut PageTold,
     ends: &mut [PageEnd],
 ) -> u32
     requires size { N ≡ P.CODES }
 {
-    let mut scale = scale::start::<P, N>(&scope.begins);
     let mut rest = without_mark(text);
-    let answer = follow::<P, N>(&mut Bus::scoped(scope), &mut scale, &mut rest, told);
+    let answer = follow::<P, N>(&mut Bus::scoped(scope), scale, &mut rest, told);
     told.offset = (text.len() - rest.len()) as u64;
     if answer == YES {
-        if let Some(sums) = scale::sums(&scale) {
+        if let Some(sums) = scale::sums(scale) {
             put(&sums, ends);
         }
     }
