@@ -170,6 +170,15 @@ interface Levels {
   reader: number | null;
 }
 
+/** A sum to which a run comes, and that run's marks (checker/weighed.js). */
+interface WeighedEnd {
+  value: bigint;
+  lost: number;
+  restarts: number;
+  repeats: number;
+  all: number;
+}
+
 /** What the module answers to a recording, and what is known and shown of that. */
 interface Answer {
   answer?: number;
@@ -207,6 +216,7 @@ interface Answer {
   sha256?: string;
   replayed?: {answer: number, text: string, row: number} | null;
   rises?: {all: number, listed: ArrayBuffer} | null;
+  weights?: Record<number, ArrayBuffer | null>;
   survey?: Survey;
   atFirst?: Partial<Answer>;
   cuts?: number[];

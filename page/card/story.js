@@ -11,6 +11,7 @@ import {lateStory} from "../money/remarks.js";
 import {lossStory} from "../money/replayed.js";
 import {COUNT_NEXT, entryWords, isOf, openStory, SALE_NEXT} from "../money/rises.js";
 import {hasUntold, untoldItems} from "../money/untold.js";
+import {firmWords} from "../money/weights.js";
 import {capital, counted, listed, money, small, the} from "../texts.js";
 import {seconds} from "../times.js";
 
@@ -217,12 +218,17 @@ export function agreedWords(it) {
   const amount = (name, a) => money(a.device[0], decimals[ACCOUNTS[name].device]);
   const moved = Object.entries(accounts).filter(([, a]) => !isZero(a)),
         untold = moved.filter(([name]) => hasUntold(it, name));
-  const sums = moved.filter((one) => !untold.includes(one))
+  const firm = moved.filter((one) => isOpen(one[1]) && !untold.includes(one))
+                   .map(([name]) => firmWords(it, name, decimals[ACCOUNTS[name].device]));
+  const sums = moved.filter((one) => !isOpen(one[1]) && !untold.includes(one))
                    .map(([name, a]) => `${amount(name, a)} ${SUM_WORDS[name] ?? small(ACCOUNTS[name].title)}`);
-  const told = untold.length ?
-      `${capital(listed(untold.map(([name]) => small(ACCOUNTS[name].title))))}: amount not told${itemsOf(it)}.${
-          besideUntold(it)}` :
-      "";
+  const told = [
+    ...firm,
+    ...untold.length ?
+        [`${capital(listed(untold.map(([name]) => small(ACCOUNTS[name].title))))}: amount not told${itemsOf(it)}.${
+            besideUntold(it)}`] :
+        []
+  ].join(" ");
   if (sums.length) return `The controller and the devices agree for certain: ${listed(sums)}. ${told}`.trim();
   if (told) return told;
   return refusalsOf(it).length ? "No money moved." : "No money was reported.";

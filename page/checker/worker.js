@@ -1,6 +1,6 @@
 // @ts-check
 // The worker that runs the module on one recording: what the page asks for, one message after the other.
-import {FAULT_NUMBERS, layout, readerPlace, setupPlace} from "./layout.js";
+import {FAULT_NUMBERS, layout, readerPlace, setupPlace, WEIGHED} from "./layout.js";
 import {FirstAndLast, moved} from "./packed.js";
 import {
   answerText,
@@ -86,6 +86,17 @@ function listRises() {
   return {all, listed: new Uint8Array(call.memory.buffer, at.acts, listed * wide).slice().buffer};
 }
 
+// What the ends of a device's sums rest on, in so many bytes. It lies in the place of the acts, as the rises do. Null
+// where the module doesn't say.
+function weigh(device, length) {
+  const bytes = WEIGHED * layout.end.size;
+  grow(at.acts + bytes);
+  const answer = call.mdb_page_weights(
+      BigInt(at.options), BigInt(at.text), BigInt(length), BigInt(device), BigInt(at.told), BigInt(at.acts),
+      BigInt(WEIGHED));
+  return answer === 0 ? new Uint8Array(call.memory.buffer, at.acts, bytes).slice().buffer : null;
+}
+
 // The lines about a place in the text: up to 40 before it (a whole block and more), that one, and up to 40 after it.
 function lines(offset, row) {
   const text = new Uint8Array(call.memory.buffer, at.text, size), found = [], FAR = 65536, LONG = 200;
@@ -160,13 +171,14 @@ function judge(options) {
       moved(listing.acts));
 }
 
-// What is told of the ranges that an answer left open, after that answer: what opens them, and the sums if nothing was
-// lost in so many bytes.
-function lookCloser({options, answer, length}) {
+// What is told of the ranges that an answer left open, after that answer: what opens them, the sums if nothing was lost
+// in so many bytes, and what the sums of these devices rest on.
+function lookCloser({options, answer, length, devices}) {
   const begin = performance.now();
   setOptions(options);
   const replayed = replay(length), rises = answer === 0 ? listRises() : null;
-  say({told: "done", replayed, rises, ms: performance.now() - begin});
+  const weights = Object.fromEntries(devices.map((device) => [device, weigh(device, length)]));
+  say({told: "done", replayed, rises, weights, ms: performance.now() - begin});
 }
 
 // Whether the module takes one block of the options alone.

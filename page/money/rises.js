@@ -9,6 +9,7 @@ import {capital, counted, listed, money, the} from "../texts.js";
 
 import {rangeWords, widthOf} from "./ranges.js";
 import {plainStory} from "./replayed.js";
+import {isEasilyOpen, lossesWords} from "./weights.js";
 
 const ACCOUNT_NAMES = Object.keys(ACCOUNTS), RISE_SIDES = ["device", "controller"];
 // The kinds of entries that are of an account.
@@ -147,8 +148,8 @@ export function openStory(it, name, a, d) {
   }
   for (const rise of risesOf(it, name).filter(({opened}) => opened < 0n).slice(0, TOLD_ACTS))
     told.push(fact(`${money(-rise.opened, d)} of it was settled by `, rowsAt(rise.row), "."));
-  told.push(...plainStory(it, name, d), nextStep(countNext(it, name)));
-  return told;
+  told.push(...plainStory(it, name, d), ...lossesWords(it, name, a, d).map((words) => fact(words)));
+  return isEasilyOpen(it, name, a) ? [...told, nextStep(countNext(it, name))] : told;
 }
 
 /** @type {(it: Answer, name: string) => string} */
