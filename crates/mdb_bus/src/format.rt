@@ -203,6 +203,7 @@ fn are_alike(reply: &Reply, command: &Command, bytes: &[u8]) -> bool
 }
 
 /// Whether they do in this reading. Only replies of a reader may differ.
+#[inline(always)]
 fn agrees(reading: Reading, reply: &Reply, command: &Command, bytes: &[u8]) -> bool
     requires some { AreSome command.now bytes.now reply.now }
     requires extended { is_extended reading ≡ true }

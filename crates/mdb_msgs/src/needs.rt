@@ -48,8 +48,6 @@ pub fn begins_options(prefix: &[u8]) -> bool
 }
 
 /// What a block needs whose first byte leaves it to the second.
-// Inlined, since each block of more than one byte asks for it.
-#[inline(always)]
 fn need_by_second(prefix: &[u8]) -> Need
     requires { 0 < length prefix.now }
     ensures { result ≡ needed prefix.now }

@@ -118,7 +118,6 @@ fn second_byte(scope: &Scope, bytes: &Begun, first: u8, word: Word) -> Result<Ju
 }
 
 /// A byte of a block after its first two.
-#[inline(always)]
 fn further_byte(bytes: &Begun, so_far: &[u8], word: Word) -> Result<Judged, Rule>
     requires is { bytes.now ≡ so_far.now }
     requires two { 2 ≤ length so_far.now }
