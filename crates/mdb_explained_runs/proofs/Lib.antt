@@ -23,3 +23,4 @@ pub mod ShorterPieces
 pub mod Steps
 pub mod Tracked
 pub mod Weights
+mod Words
