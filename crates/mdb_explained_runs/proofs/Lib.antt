@@ -22,3 +22,4 @@ pub mod Seeking
 pub mod Steps
 pub mod Tracked
 pub mod Weights
+mod Words
