@@ -36,6 +36,7 @@ READ = """(() => {
     entries: openMoneyOf(state).map(({until, ...one}) => ({...one, device: DEVICES[one.device],
       amounts: one.amounts.map(named), paid: one.paid && named(one.paid)})),
     table: by("statement-rows")?.textContent ?? "",
+    offer: by("survey-offer")?.textContent ?? "",
     total: text(document.querySelectorAll("#stretch-total tr[data-account='paid-out'] td")),
   });
 })()"""
@@ -329,7 +330,7 @@ def complaints():
     for name, gap, colour, found in (("28 s", 14, AMBER, [("restart", "1.00", "sent RESET")]), ("32 s", 16, GREEN, [])):
         yield Scene(f"a RESET {name} after a coin", Bus().changer().coin(4).polls(2, gap * 1_000_000).changer(), colour, found)
     price = card().approved().ack(0x13, 2, 0, 7).over().told([0x12], 3, 3, 0xE8).ack(0x13, 0, 0xFF, 0xFF, 0, 8).told([0x12], 5, 0xFF, 0xFF)
-    yield Scene("one sale with its amount, and one without", price.ack(0x13, 2, 0, 8).over(), GREEN, [], ("amount not told (item 8)",), ("655.35",))
+    yield Scene("one sale with its amount, and one without", price.ack(0x13, 2, 0, 8).over(), GREEN, [], ("amount not told (item 8)", "The other sales, as reported: 1.50."), ("655.35",))
     yield Scene("the reader ends the session before the sale", card().approved().told([0x12], 7).polls(3), AMBER,
                 [("approved", "1.50", "item 7", "the end of the session")], ("card company",), options=extended)
 
@@ -374,6 +375,7 @@ def try_scene(page, scene):
     page.wait(before)
     came = json.loads(page.browser.value(READ))
     compare_card(scene, came, scene.surveyed)
+    want("negative vend" not in scene.name or "Card reader 1 approved 0.25 in it (rows " in came["offer"], f"{scene.name}: {came['offer']}")
     is_unknown = len(came["total"]) == 1 and came["total"][0].startswith("not known from row")
     want(is_unknown == any(kind == "choice" for kind, *_ in scene.surveyed), f"{scene.name}: the total is {came['total']}")
 

@@ -59,7 +59,8 @@ function refusalsOf(it) {
 }
 
 function refusalWords(it, {parts, device, item, units, decimals, outcome}) {
-  const [first, end] = [parts[0], parts.at(-1)].map(({i}) => it.found.money[i]);
+  const said = parts.findLast(({part}) => part === (outcome === "cancelled" ? outcome : "denied"));
+  const [first, end] = [parts[0], said].map(({i}) => it.found.money[i]);
   const amount = units === null || first.isUntold ? "a price that isn't known" : money(units, decimals);
   const who = outcome === "cancelled" ? "The controller cancelled its request of" :
                                         `${capital(the(SHORT_NAMES[device]))} denied`;

@@ -9,7 +9,7 @@ const PAGE = 65536, CHUNK = 1 << 24;
 // The kind of the words of a block that is cut off.
 const CUT = 10;
 // So many acts have room at a time.
-const MOST_ACTS = 1200000;
+const MOST_ACTS = 1400000;
 // So many news are asked for at a time.
 const MOST_NEWS = 1000000;
 // The module's exports, the places in its memory, the bytes of the text, and how long it took to read them.

@@ -195,18 +195,20 @@ class OpenWalk {
     this.begin();
   }
   act(i) {
-    const {acts} = this, kind = acts.kind(i);
+    const {acts} = this, kind = acts.kind(i), device = acts.device(i);
     this.at = i;
-    if (this.taken && acts.device(i) === 1) this.heardChanger(i, kind);
-    if (acts.device(i) === 1 && kind === ACK && this.isPolled(i)) this.tubes.polled(false);
+    if (device === 1) {
+      if (this.taken) this.heardChanger(i, kind);
+      if (kind === ACK && this.tubes.isPending() && this.isPolled(i)) this.tubes.polled(false);
+    }
     if (kind === BREAK) {
       this.endAll("break");
       this.restart("break");
-    } else if (kind === ASK && acts.byte(i, 0) !== POLLS[acts.device(i)])
-      this.asked(i, acts.device(i), acts.bytes(i));
+    } else if (kind === ASK && acts.byte(i, 0) !== POLLS[device])
+      this.asked(i, device, acts.bytes(i));
     else if (kind === REPLY)
-      this.replied(i, acts.device(i), acts.bytes(i));
-    if (acts.device(i) > 2) this.hearReader(acts.device(i), kind, acts.start(i));
+      this.replied(i, device, acts.bytes(i));
+    if (device > 2) this.hearReader(device, kind, acts.start(i));
   }
   // Whether an act comes right after a POLL of its device.
   isPolled(i) {
@@ -215,14 +217,14 @@ class OpenWalk {
   }
   // Since when a reader doesn't answer, and which request was open then.
   hearReader(device, kind, time) {
-    if ([ACK, NAK, REPLY].includes(kind)) this.endQuiet(device, time);
+    if (kind === ACK || kind === NAK || kind === REPLY) this.endQuiet(device, time);
     if (kind !== ASK) return;
     this.quiet[device] ??= {from: time, last: time, entry: this.requests[device]};
     this.quiet[device].last = time;
   }
   endQuiet(device, to) {
-    const {from, entry} = this.quiet[device] ?? {};
-    if (entry && entry.silent === null && to >= from + SILENT) entry.silent = to - from;
+    const quiet = this.quiet[device], entry = quiet?.entry;
+    if (entry && entry.silent === null && to >= quiet.from + SILENT) entry.silent = to - quiet.from;
     this.quiet[device] = null;
   }
   asked(i, device, bytes) {
