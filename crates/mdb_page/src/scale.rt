@@ -173,6 +173,28 @@ fn added(gains: &Gains) -> [i64; SUMS] {
     ]
 }
 
+/// Takes in what a step from a state leads to: as the sums of the state after it, or, if there are
+/// some, beside them.
+// Not inlined, so that all devices share it.
+#[inline(never)]
+fn take_in(
+    sums: &mut [Sum; SUMS],
+    are_there: bool,
+    before: &[Sum; SUMS],
+    gains: &Gains,
+    choice: Choice,
+) {
+    let gains = added(gains);
+    for i in 0..SUMS {
+        let sum = before[i].after(gains[i], choice);
+        if are_there {
+            sums[i].join(&sum);
+        } else {
+            sums[i] = sum;
+        }
+    }
+}
+
 /// The sums in each state that is possible, by its code.
 #[derive(Drop)]
 struct States<const N: usize> {
@@ -200,19 +222,11 @@ impl<const N: usize> States<N> {
 
     /// Takes in what a step leads to.
     fn take(&mut self, code: usize, before: &[Sum; SUMS], gains: &Gains, choice: Choice) {
-        if code >= N {
-            return;
+        if code < N {
+            let sums = &mut self.sums[code];
+            take_in(sums, self.are_possible[code], before, gains, choice);
+            self.are_possible[code] = true;
         }
-        let gains = added(gains);
-        for i in 0..SUMS {
-            let sum = before[i].after(gains[i], choice);
-            if self.are_possible[code] {
-                self.sums[code][i].join(&sum);
-            } else {
-                self.sums[code][i] = sum;
-            }
-        }
-        self.are_possible[code] = true;
     }
 
     /// Whether none is possible.
@@ -238,6 +252,8 @@ impl<const N: usize> States<N> {
 }
 
 /// Sums, with those of a state taken in.
+// Not inlined either.
+#[inline(never)]
 fn joined(all: Option<[Sum; SUMS]>, more: &[Sum; SUMS]) -> [Sum; SUMS] {
     let Some(mut sums) = all else {
         return *more;
@@ -317,6 +333,8 @@ enum Goes {
 }
 
 /// Makes the states after an act from those before it, unless all stay.
+// Not inlined, since it is called for both tables.
+#[inline(never)]
 fn replace<P: Pair, const N: usize>(
     facts: &P::Facts,
     act: &Act,
@@ -372,6 +390,8 @@ fn take_steps<P: Pair, const N: usize>(
 }
 
 /// Takes in what the steps by an act under a choice lead to from the state of a code.
+// Not inlined, since it is called for both choices.
+#[inline(never)]
 fn take_chosen<P: Pair, const N: usize>(
     facts: &P::Facts,
     act: &Act,

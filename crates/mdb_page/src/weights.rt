@@ -6,7 +6,7 @@
 //! that the numbers are right. `tests/page-module` compares them with what `mdbcheck explain`
 //! writes, which is proved to be shortest.
 
-ghost use Rattle.std.specs.Prelude.{◌≡◌, ◌≤◌, length};
+ghost use Rattle.std.specs.Prelude.{◌≡◌, ◌<◌, None, length};
 
 use crate::answer::{BAD_OPTIONS, NO, PageTold, TOO_LONG, YES, line_answer};
 use crate::lines::{first_line, row_of, without_mark, without_return};
@@ -31,8 +31,8 @@ type SecondReader = ReaderByProfile<1>;
 /// sums are those of the device, of the controller, and the difference, of the first account and
 /// then of the second.
 ///
-/// It returns what `mdb_page_check` does, except 6. With 1 to 4 `ends` stays as it was. `told`
-/// shows where the reading ended.
+/// It returns what `mdb_page_check` does, except 6. With 1 to 5 `ends` stays as it was. `told` has
+/// the number of rows that were read, or of the row that ended it.
 #[unsafe(no_mangle)]
 pub extern "C" fn mdb_page_weights(
     options: &PageOptions,
@@ -76,61 +76,63 @@ fn weigh<P: Pair, const N: usize>(
 ) -> u32
     requires size { N ≡ P.CODES }
 {
+    let mut bus = Bus::scoped(scope);
     let mut rest = without_mark(text);
-    let answer = follow::<P, N>(&mut Bus::scoped(scope), scale, &mut rest, told);
-    told.offset = (text.len() - rest.len()) as u64;
-    if answer == YES {
-        if let Some(sums) = scale::sums(scale) {
-            put(&sums, ends);
-        }
-    }
-    answer
-}
-
-/// Leads a scale over the acts of the rows of a text, and leaves what stands from the line on that
-/// ends this.
-fn follow<P: Pair, const N: usize>(
-    bus: &mut Bus,
-    scale: &mut Scale<P::Facts, N>,
-    rest: &mut &[u8],
-    told: &mut PageTold,
-) -> u32
-    requires size { N ≡ P.CODES }
-    ensures left { length rest.new.now ≤ length rest.old.now }
-{
     let mut act = Act::Foreign;
     told.row = 0;
+    loop {
+        match next_act(&mut bus, &mut rest, told, &mut act) {
+            None => {
+                if !scale::lead::<P, N>(scale, &act) {
+                    return NO;
+                }
+            }
+            Some(YES) => {
+                put(scale::sums(scale), ends);
+                return YES;
+            }
+            Some(answer) => return answer,
+        }
+    }
+}
+
+/// Reads rows up to the next one that ends an act. Where none does, it answers how the reading
+/// ends.
+// Not inlined, so that the calls for all devices share it.
+#[inline(never)]
+fn next_act(bus: &mut Bus, rest: &mut &[u8], told: &mut PageTold, act: &mut Act) -> Option<u32>
+    ensures shorter { result ≡ None → length rest.new.now < length rest.old.now }
+{
     while !rest.is_empty() {
         let (line, after) = first_line(*rest);
         let line = without_return(line);
+        *rest = after;
         if !line.is_empty() {
             if told.row >= ROWS_MAX {
-                return TOO_LONG;
+                return Some(TOO_LONG);
             }
             told.row += 1;
             let event = match row_of(line) {
                 Ok(event) => event,
-                Err(fault) => return line_answer(told, fault),
+                Err(fault) => return Some(line_answer(told, fault)),
             };
-            match bus.feed_into(event, &mut act) {
-                Ok(true) => {
-                    if !scale::lead::<P, N>(scale, &act) {
-                        return NO;
-                    }
-                }
+            match bus.feed_into(event, act) {
+                Ok(true) => return None,
                 Ok(false) => {}
-                Err(_) => return NO,
+                Err(_) => return Some(NO),
             }
         }
-        *rest = after;
     }
-    YES
+    Some(YES)
 }
 
-/// Puts the ends of sums into a list, as far as there is room.
-fn put(sums: &[Sum; SUMS], ends: &mut [PageEnd]) {
+/// Puts the ends of sums, if there are some, into a list, as far as there is room.
+fn put(sums: Option<[Sum; SUMS]>, ends: &mut [PageEnd]) {
+    let Some(sums) = sums else {
+        return;
+    };
     let mut place = 0;
-    for sum in sums {
+    for sum in &sums {
         for end in &[sum.least, sum.greatest, sum.first, sum.other()] {
             if place < ends.len() {
                 ends[place] = *end;
