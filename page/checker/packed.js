@@ -203,10 +203,11 @@ export class FirstAndLast {
   parts() {
     return [...new Set([this.first, this.before, this.last])].filter(Boolean);
   }
-  // Leaves out what stands between the first acts and the last ones that another list has, of `all` acts, if both have
-  // too many records. Whether it did that.
-  /** @type {(other: FirstAndLast, all: number) => boolean} */
+  // Leaves out what stands between these acts and the last ones that another list has, of `all` acts, if both have too
+  // many records. Whether it did that.
+  /** @type {(other: FirstAndLast | null, all: number) => boolean} */
   skipTo(other, all) {
+    if (!other) return false;
     const parts = other.parts(), count = [...this.parts(), ...parts].reduce((sum, {records}) => sum + records.count, 0);
     if (!other.first.isFull() || count * 4 <= 3 * MOST * layout.act.size) return false;
     [this.last, this.before = null] = parts.slice(-2).reverse();

@@ -120,13 +120,16 @@ export function lastActs(count, give) {
   give(actsAt(0, end));
 }
 
-// Gives the acts of a part of the text after the first ones in their order, piece by piece. The module has no call for
-// them: it walks from the part's begin to a later row each time, and keeps the last acts.
-/** @type {(count: number, from: number, to: number, give: (acts: Uint8Array) => void) => void} */
-export function laterActs(count, from, to, give) {
+// Gives the acts of a part of the text after the first ones in their order, piece by piece, up to where that is enough.
+// The module has no call for them: it walks from the part's begin to a later row each time, and keeps the last acts.
+/**
+ * @type {(count: number, from: number, to: number, give: (acts: Uint8Array) => void,
+ *     isEnough?: (done: number) => boolean) => void}
+ */
+export function laterActs(count, from, to, give, isEnough = () => false) {
   const {room} = at, text = new Uint8Array(call.memory.buffer, at.text, size);
   let done = Math.min(count, room), place = from, step = Math.ceil((to - from) * 1.5 * room / count);
-  while (done < count) {
+  while (done < count && !isEnough(done)) {
     const far = place + step < to ? rowAfter(text, place + step) : to, end = far < 0 ? to : Math.min(to, far);
     const {acts} = list(room, 0, 0, from, end, 0), known = end < to ? acts - cutAtEnd(acts) : acts;
     if (acts - done > room) {
