@@ -37,6 +37,10 @@ export class PackedActs {
   isAnswer(i) {
     return (this.index[i] & 1) === 1;
   }
+  // Whether an act is a POLL without news. The next one answers it.
+  isQuiet(i) {
+    return this.index[i] >= IS_POLL && !this.isAnswer(i);
+  }
   u64(i, place) {
     const at = (this.record(i) + place) / 4;
     return this.words[at] + this.words[at + 1] * WORD;
