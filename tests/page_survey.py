@@ -130,12 +130,12 @@ class Survey:
 COUNTED = {"approved": "vend approved", "sold": "vend success"}
 
 
-def unknown_in(made, money, first=0, last=float("inf")):
+def unknown_in(choice, lost, money, first=0, last=float("inf")):
     """The row from which on an account isn't known in some rows, by account; those that are known aren't there."""
-    choice, lost, found = made.choice(), list(made.lost(money)), {}
-    if choice and first > choice or choice and not first:
+    found = {}
+    if choice and (first > choice or not first):
         found["paid-out"] = choice
-    for name in ACCOUNTS:
+    for name in ACCOUNTS if lost else ():
         kind, _, second = name.partition("-")
         for at, _, device, what, *_ in money:
             rows = [row for one, row, to in lost if one == device and at < to]
@@ -264,6 +264,7 @@ def compare_faults(made, came):
 
 
 def compare_stretches(made, came, money):
+    unknown = made.choice(), list(made.lost(money)), money
     stretches = [it for it in made.stretches if it["number"] <= MOST or it["number"] > len(made.faults)]
     want(len(came["stretches"]) == len(stretches), f"{len(came['stretches'])} stretches, wanted {len(stretches)}")
     for it, shown in zip(stretches, came["stretches"]):
@@ -271,7 +272,7 @@ def compare_stretches(made, came, money):
         head = [f"Stretch {it['number']}", span(it["first"], it["last"]), f"{seconds(made.time(it['first']))} to {seconds(made.time(it['last']))}"]
         head += notes_of(report)
         want(list(map(plain, shown["head"])) == list(map(plain, head)), f"{name}: {shown['head']}, wanted {head}")
-        wanted = list(sums_of(report, places_of(report), unknown_in(made, money, it["first"], it["last"])))
+        wanted = list(sums_of(report, places_of(report), unknown_in(*unknown, it["first"], it["last"])))
         want(shown["sums"] == wanted, f"{name}: {shown['sums']}, wanted {wanted}")
     if not made.totals:
         want(came["total"] is None, f"there are totals: {came['total']}")
@@ -279,7 +280,7 @@ def compare_stretches(made, came, money):
     places = total_places(made)
     changed = [f"the decimal places of {SENDERS[it]} changed: its sums here have none" for it in page_test.DEVICES if len(places[it]) > 1]
     want(came["total"]["head"] == ["All stretches", *notes_of(made.totals), *changed], f"the totals: {came['total']['head']}")
-    shared = list(sums_of(made.totals, lambda device: next(iter(places[device])) if len(places[device]) == 1 else 0, unknown_in(made, money)))
+    shared = list(sums_of(made.totals, lambda device: next(iter(places[device])) if len(places[device]) == 1 else 0, unknown_in(*unknown)))
     want(came["total"]["sums"] == shared, f"the totals: {came['total']['sums']}")
 
 
