@@ -187,7 +187,7 @@ function earlierSales(it, device) {
   if (!sale) return [nextStep(START_NEXT)];
   return [
     likely(
-        "Most likely it was approved before the recording began: item ", String(sale.type).replace("item ", ""),
+        "Most likely its approval came before the recording began: item ", String(sale.type).replace("item ", ""),
         inRows(rowsAt(sale.first, sale.last)), "."),
     nextStep(SALE_NEXT)
   ];

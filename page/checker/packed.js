@@ -37,6 +37,10 @@ export class PackedActs {
   isAnswer(i) {
     return (this.index[i] & 1) === 1;
   }
+  // Whether an act is a POLL without news. The next one answers it.
+  isQuiet(i) {
+    return this.index[i] >= IS_POLL && !this.isAnswer(i);
+  }
   u64(i, place) {
     const at = (this.record(i) + place) / 4;
     return this.words[at] + this.words[at + 1] * WORD;
@@ -200,9 +204,25 @@ export class FirstAndLast {
     if (this.last !== this.first) this.before = this.last;
     this.last = new Packing(MOST, this.count);
   }
+  parts() {
+    return [...new Set([this.first, this.before, this.last])].filter(Boolean);
+  }
+  // Leaves out what stands between these acts and the last ones that another list has, of `all` acts, if both have too
+  // many records. Whether it did that.
+  /** @type {(other: FirstAndLast | null, all: number) => boolean} */
+  skipTo(other, all) {
+    if (!other) return false;
+    const parts = other.parts(), count = [...this.parts(), ...parts].reduce((sum, {records}) => sum + records.count, 0);
+    if (!other.first.isFull() || count * 4 <= 3 * MOST * layout.act.size) return false;
+    [this.last, this.before = null] = parts.slice(-2).reverse();
+    this.all = all;
+    this.isWhole = false;
+    for (let i = 0; i < other.foreign.count; i++) this.foreign.push(other.foreign.all[i]);
+    return true;
+  }
   // What is listed, in its order, and the number of the act before which others aren't; −1 if all are.
   listed() {
-    const parts = [...new Set([this.first, this.before, this.last])].filter(Boolean);
+    const parts = this.parts();
     const acts = parts.length === 1 ? buffersOf(parts[0]) : joinedParts(parts);
     return {
       acts,

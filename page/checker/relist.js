@@ -5,7 +5,7 @@
 import {layout, putBlock, readerPlace, setupPlace, START_NUMBERS} from "./layout.js";
 import {isConfigAsk, READER_CONFIG, readerMessages, READING, sealed} from "./messages.js";
 import {FirstAndLast, moved} from "./packed.js";
-import {at, call, eachPiece, list, setOptions, size} from "./recording.js";
+import {at, call, firstActs, laterActs, list, setOptions, size} from "./recording.js";
 import {isEnd, ordersIn, rowAfter} from "./rows.js";
 import {say, tell} from "./say.js";
 
@@ -100,10 +100,12 @@ class Relisting {
       this.findSetups(bytes, told);
       this.addNews(addRows(bytes, layout.news, before));
     }
-    eachPiece(all, from, to, (acts) => {
+    const give = (acts) => {
       this.kept.add(acts, before);
       for (const device of [3, 4]) asks[device] = lastSetup(acts, device) ?? asks[device];
-    });
+    };
+    give(firstActs(all));
+    laterActs(all, from, to, give);
     this.learn(told, from);
     if (this.options[layout.options.extended]) this.learnLevels(asks, told);
   }

@@ -210,6 +210,14 @@ class OpenWalk {
       this.replied(i, device, acts.bytes(i));
     if (device > 2) this.hearReader(device, kind, acts.start(i));
   }
+  // Passes over a POLL without news and its answer, where nothing waits for such an answer. Most acts are such.
+  isPassed(i) {
+    if (!this.acts.isQuiet(i)) return false;
+    const device = this.acts.device(i), isAwaited = device === 1 && (this.taken || this.tubes.isPending());
+    if (isAwaited || this.quiet[device]) return false;
+    this.at = i + 1;
+    return true;
+  }
   // Whether an act comes right after a POLL of its device.
   isPolled(i) {
     const {acts} = this, isAsked = i > 0 && !this.gaps.has(i) && acts.kind(i - 1) === ASK;
@@ -605,7 +613,11 @@ export function openMoney(acts, {hole = -1, cuts = [], choices = [], orders = []
   let i = 0;
   for (const end of ends) {
     const row = gaps.get(end);
-    for (; i < end; i++) walk.act(i);
+    for (; i < end; i++)
+      if (!walk.isPassed(i))
+        walk.act(i);
+      else
+        i++;
     if (end > 0) walk.end(row ? "fault" : end < acts.count ? "gap" : "end", row ? [row, row] : null);
     for (const it of lost)
       if (actAfterRow(acts, it.row) === end) walk.lost.add(it.device);
