@@ -41,7 +41,7 @@ export const STRUCTURES = {
   fault: {row: [8, 1], offset: [8, 1]},
   lines: {count: [8, 1], bytes: [1, 1 << 22]},
   rise: {row: [8, 1], least: [8, 1], greatest: [8, 1], account: [1, 1], side: [1, 1]},
-  end: {value: [8, 1], lost: [4, 1], restarts: [4, 1], repeats: [4, 1]}
+  end: {value: [8, 1], lost: [8, 1], restarts: [4, 1], repeats: [4, 1]}
 };
 // For each structure its size, and the place of each field.
 /** @type {Record<string, Record<string, number>>} */

@@ -12,9 +12,8 @@ export function endsIn(buffer, sum) {
   const view = new DataView(buffer), {end} = layout;
   return Object.fromEntries(ENDS.map((word, i) => {
     const from = (ENDS.length * sum + i) * end.size;
-    const [lost, restarts, repeats] =
-        ["lost", "restarts", "repeats"].map((field) => view.getUint32(from + end[field], true));
-    const value = view.getBigInt64(from + end.value, true);
+    const value = view.getBigInt64(from + end.value, true), lost = Number(view.getBigUint64(from + end.lost, true));
+    const [restarts, repeats] = ["restarts", "repeats"].map((field) => view.getUint32(from + end[field], true));
     return [word, {value, lost, restarts, repeats, all: lost + restarts + repeats}];
   }));
 }

@@ -52,7 +52,7 @@ fn is_opening(rise: &PageRise, row: u64, account: u8, side: u8) -> bool {
 }
 
 /// The value of an end, its losses, and its other marks.
-fn weight(end: &PageEnd) -> (i64, u32, u64) {
+fn weight(end: &PageEnd) -> (i64, u64, u64) {
     (
         end.value,
         end.lost,

@@ -12,13 +12,14 @@ use mdb_machine::{Choice, Gains, Pair, other_choice};
 pub(crate) const SUMS: usize = 6;
 
 /// A sum to which a run may come, and the marks of one that does.
+// It has no unused byte, so that a table of it is cleared at once.
 #[repr(C)]
 #[derive(Clone, Copy)]
 pub struct PageEnd {
     /// The sum, in smallest units of money.
     pub value: i64,
     /// How many acknowledgements were lost.
-    pub lost: u32,
+    pub lost: u64,
     /// How many restarts went unseen.
     pub restarts: u32,
     /// How many approvals are the last one again.
@@ -49,7 +50,8 @@ impl PageEnd {
 
     /// How many marks there are.
     fn marks(&self) -> u64 {
-        u64::from(self.lost) + u64::from(self.restarts) + u64::from(self.repeats)
+        let others = u64::from(self.restarts) + u64::from(self.repeats);
+        self.lost.saturating_add(others)
     }
 
     /// Whether it has fewer marks than another, or as many, and more of them are losses.
@@ -68,8 +70,8 @@ pub(crate) struct Sum {
     pub(crate) greatest: PageEnd,
     /// The one with the fewest marks.
     pub(crate) first: PageEnd,
-    /// Of all others, the one with the fewest marks.
-    second: Option<PageEnd>,
+    /// Of all others, the one with the fewest marks; the same again if there is no other.
+    pub(crate) second: PageEnd,
 }
 
 impl Sum {
@@ -78,16 +80,8 @@ impl Sum {
         least: PageEnd::NOTHING,
         greatest: PageEnd::NOTHING,
         first: PageEnd::NOTHING,
-        second: None,
+        second: PageEnd::NOTHING,
     };
-
-    /// Another sum than the one with the fewest marks, or that one if there is no other.
-    pub(crate) fn other(&self) -> PageEnd {
-        match self.second {
-            Some(second) => second,
-            None => self.first,
-        }
-    }
 
     /// After a step, which adds so much by a choice.
     fn after(&self, gain: i64, choice: Choice) -> Sum {
@@ -95,10 +89,7 @@ impl Sum {
             least: self.least.after(gain, choice),
             greatest: self.greatest.after(gain, choice),
             first: self.first.after(gain, choice),
-            second: match self.second {
-                Some(second) => Some(second.after(gain, choice)),
-                None => None,
-            },
+            second: self.second.after(gain, choice),
         }
     }
 
@@ -116,29 +107,24 @@ impl Sum {
             self.greatest = more.greatest;
         }
         self.join_one(&more.first);
-        if let Some(second) = more.second {
-            self.join_one(&second);
-        }
+        self.join_one(&more.second);
     }
 
     /// Takes in a sum to which a run comes.
     fn join_one(&mut self, end: &PageEnd) {
         if end.is_lighter_than(&self.first) {
             if end.value != self.first.value {
-                self.second = Some(self.first);
+                self.second = self.first;
             }
             self.first = *end;
         } else if end.value != self.first.value && self.is_open_to(end) {
-            self.second = Some(*end);
+            self.second = *end;
         }
     }
 
     /// Whether a sum that isn't the one with the fewest marks has the fewest of all others.
     fn is_open_to(&self, end: &PageEnd) -> bool {
-        match &self.second {
-            Some(second) => end.is_lighter_than(second),
-            None => true,
-        }
+        self.second.value == self.first.value || end.is_lighter_than(&self.second)
     }
 }
 

@@ -18,12 +18,6 @@ use mdb_cashless::{ReaderByProfile, STATES_BY_PROFILE};
 use mdb_follow::ROWS_MAX;
 use mdb_machine::Pair;
 
-/// The reader at 10H.
-type FirstReader = ReaderByProfile<0>;
-
-/// The reader at 60H.
-type SecondReader = ReaderByProfile<1>;
-
 /// Weighs the sums of a device (1 changer, 2 bill, 3 and 4 the readers) in the recording that lies
 /// in memory as text. `ends` has four entries for each sum, as far as there is room: the least and
 /// the greatest end, the one with the fewest marks of all runs, and another one with the fewest
@@ -44,26 +38,52 @@ pub extern "C" fn mdb_page_weights(
     let Some(scope) = taken_so(options) else {
         return BAD_OPTIONS;
     };
-    let begins = &scope.begins;
     match device {
-        1 => {
-            let mut scale = scale::start::<Changer, CHANGER_STATES>(begins);
-            weigh::<Changer, _>(&scope, &mut scale, text, told, ends)
-        }
-        2 => {
-            let mut scale = scale::start::<Bill, BILL_STATES>(begins);
-            weigh::<Bill, _>(&scope, &mut scale, text, told, ends)
-        }
-        3 => {
-            let mut scale = scale::start::<FirstReader, STATES_BY_PROFILE>(begins);
-            weigh::<FirstReader, _>(&scope, &mut scale, text, told, ends)
-        }
-        4 => {
-            let mut scale = scale::start::<SecondReader, STATES_BY_PROFILE>(begins);
-            weigh::<SecondReader, _>(&scope, &mut scale, text, told, ends)
-        }
+        1 => weigh_changer(&scope, text, told, ends),
+        2 => weigh_bill(&scope, text, told, ends),
+        3 => weigh_first_reader(&scope, text, told, ends),
+        4 => weigh_second_reader(&scope, text, told, ends),
         _ => BAD_OPTIONS,
     }
+}
+
+/// Weighs the changer's sums.
+// Like the next ones not inlined, so that the tables of one device alone take room.
+#[inline(never)]
+fn weigh_changer(scope: &Scope, text: &[u8], told: &mut PageTold, ends: &mut [PageEnd]) -> u32 {
+    let mut scale = scale::start::<Changer, CHANGER_STATES>(&scope.begins);
+    weigh::<Changer, _>(scope, &mut scale, text, told, ends)
+}
+
+/// Weighs the validator's sums.
+#[inline(never)]
+fn weigh_bill(scope: &Scope, text: &[u8], told: &mut PageTold, ends: &mut [PageEnd]) -> u32 {
+    let mut scale = scale::start::<Bill, BILL_STATES>(&scope.begins);
+    weigh::<Bill, _>(scope, &mut scale, text, told, ends)
+}
+
+/// Weighs the sums of the reader at 10H.
+#[inline(never)]
+fn weigh_first_reader(
+    scope: &Scope,
+    text: &[u8],
+    told: &mut PageTold,
+    ends: &mut [PageEnd],
+) -> u32 {
+    let mut scale = scale::start::<ReaderByProfile<0>, STATES_BY_PROFILE>(&scope.begins);
+    weigh::<ReaderByProfile<0>, _>(scope, &mut scale, text, told, ends)
+}
+
+/// Weighs the sums of the reader at 60H.
+#[inline(never)]
+fn weigh_second_reader(
+    scope: &Scope,
+    text: &[u8],
+    told: &mut PageTold,
+    ends: &mut [PageEnd],
+) -> u32 {
+    let mut scale = scale::start::<ReaderByProfile<1>, STATES_BY_PROFILE>(&scope.begins);
+    weigh::<ReaderByProfile<1>, _>(scope, &mut scale, text, told, ends)
 }
 
 /// Weighs the sums of a device in the rows of a text, from a scale after no act.
@@ -133,7 +153,7 @@ fn put(sums: Option<[Sum; SUMS]>, ends: &mut [PageEnd]) {
     };
     let mut place = 0;
     for sum in &sums {
-        for end in &[sum.least, sum.greatest, sum.first, sum.other()] {
+        for end in &[sum.least, sum.greatest, sum.first, sum.second] {
             if place < ends.len() {
                 ends[place] = *end;
                 place += 1;
