@@ -1,5 +1,5 @@
 -- The transcript of an input that is replayed with a yes is one for which `check` says yes.
-use Rattle.std.proofs.Common.{arith, refl, ap, sym, ◌∙◌, ◌≡◌, ℕ, List, [], ◌∷◌, ◌++◌}
+use Rattle.std.proofs.Common.{arith, refl, ap, ◌∙◌, ◌≡◌, ℕ, List, [], ◌∷◌, ◌++◌}
 use Rattle.std.proofs.Common.{length, length-append, append_assoc, inl, inr, Result, Ok, Err}
 use Rattle.std.proofs.lemmas.List.{append-nil, take_all}
 use Rattle.mdb_words.specs.declared.event.Event.{Event}
@@ -63,15 +63,15 @@ module _ (scope : Scope) (limit : ℕ) (records : List (List (List ℕ))) (repor
   reached_after : FrontsAreReached scope → (rows : List Event) (fields : List (List ℕ))
       (event : Event) → RowAfter replayed.rows rows fields → IsRow fields event
       → IsReached scope (rows ++ event ∷ [])
-  reached_after fronts rows fields event after told =
-      let split : replayed.rows ≡ (rows ++ event ∷ []) ++ after.more =
-      after.split ∙ (ap (λ e. rows ++ e ∷ after.more)
-      (row_one fields after.event event after.told told)
-      ∙ sym (append_assoc rows (event ∷ []) after.more)) in
+  reached_after fronts rows fields event next told =
       let all : IsReached scope replayed.rows = (replayed.is.sums, replayed.is.reached.run) in
-      fronts (rows ++ event ∷ []) after.more (rw split at all)
+      fronts (rows ++ event ∷ []) next.more (rw (
+        next.split,
+        row_one fields next.event event next.told told,
+        ← append_assoc rows (event ∷ []) next.more,
+      ) at all)
 
-  -- and so does the row after them
+  -- the row after rows that lead up to a record
   after : {rows : List Event} {fields : List (List ℕ)}
       → LeadUpTo scope replayed.transcript rows fields → RowAfter replayed.rows rows fields
   after {rows = rows} {fields = fields} leads =
