@@ -39,12 +39,14 @@ use mdb_machine::laws as machine_laws;
 use mdb_msgs::laws as message_laws;
 
 /// Marks tell what is chosen of each act: choices with the same marks are the same.
+#[tactic(auto, using(crate::proofs::MarkedRuns::marks_tell))]
 pub fn marks_tell_what_is_chosen()
     ensures { (scope : Scope) (pieces : List Piece) (one other : Choices (acts_of pieces))
         → ArePieces scope pieces → marks_of pieces one ≡ marks_of pieces other → one ≡ other }
 {}
 
 /// Marks stand at rows of their pieces, and these rise: no two marks stand at one row.
+#[tactic(auto, using(crate::proofs::MarkedRuns::marks_rise, crate::proofs::MarkedRuns::all_within))]
 pub fn marks_rise()
     ensures rise { (scope : Scope) (pieces : List Piece) (chosen : Choices (acts_of pieces))
         → ArePieces scope pieces → Rise (marks_of pieces chosen) }

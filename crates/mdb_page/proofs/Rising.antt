@@ -2,7 +2,6 @@
 use Rattle.std.proofs.Common.{◌≡◌, ◌≢◌, ◌*◌, ◌^◌, ◌≤◌, ◌-ℤ◌, ℕ, Bool, true, false, List, [], ◌∷◌, ◌++◌, append-nil, flat_map, refl, sym, subst, ap, ◌∙◌, arith, Option, None, Some}
 use Rattle.std.proofs.lemmas.Bool.Decides.{Decides-int_eq}
 use Rattle.std.proofs.lemmas.Int.{ints}
-use Rattle.std.specs.Prelude.{IsSomeAnd}
 use Rattle.mdb_words.specs.declared.event.Event.{Event}
 use Rattle.mdb_bus.specs.declared.act.Act.{Act}
 use Rattle.mdb_bus.specs.declared.scope.Scope.{Scope}
@@ -66,10 +65,6 @@ row_of number before after name =
 abbrev between : List Account → Report → List PageRise
 between accounts after = flat_map (row_of after.rows accounts after.accounts) ALL
 
-between_alike : (one other after : Report) → one.accounts ≡ other.accounts
-    → rises_between one after ≡ rises_between other after
-between_alike one other after same = ap (λ accounts. between accounts after) same
-
 none_of : (number account side : ℕ) (range : Range) → rise_of number account side range range ≡ []
 none_of number account side range =
     let least = range.least -ℤ range.least in
@@ -112,12 +107,6 @@ pub record Follows (scope : Scope) (lines rest : List ℕ) (follower : Follower)
 abbrev pub Stands : Follower → Follower → Event → Type 0
 Stands follower next event =
     (events : List Event) → StandsFor follower events → StandsFor next (events ++ event ∷ [])
-
--- the offence by which a row is refused
-pub refused_by : {Refuses : Offence → Type 0} (met : Option Offence) → IsSomeAnd met Refuses
-    → (offence : Offence) × Refuses offence
-refused_by None refuses = absurd refuses
-refused_by (Some offence) refuses = (offence, refuses)
 
 -- why the next line is no row
 no_row_so : (scope : Scope) (rest bare after : List ℕ) (rows : List Event) (fault : LineFault)
@@ -263,9 +252,8 @@ module _ {scope : Scope} {lines rest : List ℕ} {follower : Follower} {skip : �
               last = refl;
               all = so.all ++ rises_between so.report more.last;
               rises = rises.row event so.report more.last so.rises so.is is;
-              listed = subst (λ made. HasListed skip (so.all ++ made) more before later)
-                  (between_alike listing.last so.report more.last so.last)
-                  (taken.1 skip so.all before so.listed);
+              listed = subst (λ accounts. HasListed skip (so.all ++ between accounts more.last) more
+                  before later) so.last (taken.1 skip so.all before so.listed);
             }
 
         -- whether it ends one, or none

@@ -9,6 +9,7 @@ use Rattle.mdb_bus.specs.declared.scope.Profile.{Profile}
 use Rattle.mdb_bus.specs.declared.scope.Scope.{Scope}
 use Rattle.mdb_bus.specs.ActLists.{Piece, Whole, AskTail, Position, InAsk, InReply, InRepeat, ArePieces, BlockMayCome, IsSaid, MayCome, MayStand, events_of, piece_events, left_by}
 use Rattle.mdb_bus.specs.Pieces.{IsTail, act_in}
+use Rattle.mdb_follow.proofs.Asks.{no-act}
 use Rattle.mdb_page.specs.Acts.{closed_pieces}
 use Rattle.mdb_page.specs.inner.Listing.{AreOf, HasAdded, HasBegun, HasListed, HasTakenPieces, Lengthens, open_events}
 use Rattle.mdb_page.specs.declared.acts.ActListing.{ActListing}
@@ -68,10 +69,6 @@ of_tail tail pieces is = (refl, refl)
 pub tail_is_none : (piece : Piece) → IsTail piece → act_in piece ≡ None
 tail_is_none (Whole act events) is = absurd is
 tail_is_none tail is = refl
-
-none_is_tail : (piece : Piece) → act_in piece ≡ None → IsTail piece
-none_is_tail (Whole act events) none = absurd cc
-none_is_tail tail none = tt
 
 -- the act of a whole piece
 pub whole_of : (piece : Piece) (act : Act) → act_in piece ≡ Some act
@@ -217,7 +214,7 @@ module _ {stay : ℕ} {before after : List PageAct} {pieces : List Piece} {listi
   row_taken {longer = longer} {new = new} turn added =
       let grown = turn.grown in
       let on = stands_on turn (λ is. is) in
-      let parts = of_tail grown.newest grown.earlier (none_is_tail grown.newest grown.ends) in
+      let parts = of_tail grown.newest grown.earlier (no-act grown.newest grown.ends) in
       let closed : closed_pieces longer ≡ closed_pieces pieces =
       ap closed_pieces grown.are ∙ (parts.0 ∙ sym on.0) in
       let opened : open_events longer ≡ open_events pieces ++ turn.row ∷ [] =

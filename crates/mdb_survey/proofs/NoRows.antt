@@ -1,7 +1,6 @@
 -- No rows have a report too: nothing has moved.
 use Rattle.std.proofs.Common.{arith, refl, ap, ◌≡◌, List, [], ◌∷◌, ◌++◌, length, length-append}
 use Rattle.mdb_words.specs.declared.event.Event.{Event}
-use Rattle.mdb_msgs.specs.declared.command.Device.{Device}
 use Rattle.mdb_bus.specs.ActLists.{ArePieces, Piece, events_of, piece_events}
 use Rattle.mdb_bus.specs.declared.scope.Scope.{Scope}
 use Rattle.mdb_follow.specs.declared.account_name.AccountName.{AccountName}
@@ -12,7 +11,7 @@ use Rattle.mdb_follow.specs.Follower.{StandsFor, scope_of}
 use Rattle.mdb_follow.specs.Ranges.{no_account}
 use Rattle.mdb_follow.specs.Report.{IsReport, report_of}
 use Rattle.mdb_follow.specs.Runs.{AllSums, IsReached, Run}
-use Rattle.mdb_follow.specs.Sums.{AccountSums, Sums, no_sums}
+use Rattle.mdb_follow.specs.Sums.{Sums}
 use Rattle.mdb_follow.proofs.Ends.{account-none}
 
 -- each piece has a row
@@ -36,20 +35,12 @@ none_are_reached reached fronts follower rows stands =
     fronts (scope_of follower) [] rows (reached follower rows stands)
 
 -- in a run of no rows nothing moves
-nothing_moves : (scope : Scope) (sums : AllSums) → Run scope [] sums → (device : Device)
-    → sums device ≡ no_sums
-nothing_moves scope sums run device =
-    let none = no_pieces scope run.pieces run.act_list.in_order run.act_list.whole in
-    let way = rw none at run.way in (way device).1
-
-abbrev pub no_account_sums : AccountSums
-no_account_sums = record { device = 0; controller = 0 }
-
 account_still : (scope : Scope) (account : AccountName) (sums : AllSums) → Run scope [] sums
-    → sums_of account sums ≡ no_account_sums
+    → sums_of account sums ≡ record { device = 0; controller = 0 }
 account_still scope account sums run =
-    ap (λ (s : Sums). s (account_slot account))
-    (nothing_moves scope sums run (account_device account))
+    let none = no_pieces scope run.pieces run.act_list.in_order run.act_list.whole in
+    let way = rw none at run.way in
+    ap (λ (s : Sums). s (account_slot account)) (way (account_device account)).1
 
 abbrev pub report_on_none : Scope → Report
 report_on_none scope = report_of scope 0 [] (λ account. no_account)

@@ -1,3 +1,4 @@
+-- No message so far is long.
 use Rattle.std.proofs.Common.{◌≡◌}
 use Rattle.std.specs.List.{list_any}
 use Rattle.mdb_msgs.specs.Reader.{has_long}

@@ -1,3 +1,4 @@
+-- No message so far has options.
 use Rattle.std.proofs.Common.{◌≡◌}
 use Rattle.std.specs.List.{list_any}
 use Rattle.mdb_page.specs.Acts.{has_options}

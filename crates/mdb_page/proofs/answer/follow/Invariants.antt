@@ -1,9 +1,9 @@
+-- The lines so far tell rows, and the judge stands for them.
 use Rattle.std.proofs.Common.{length, ◌≤◌, List}
 use Rattle.mdb_words.specs.declared.event.Event.{Event}
 use Rattle.mdb_page.specs.Lines.{HasRead}
 use Rattle.mdb_page.proofs.answer.follow.Given as goal
 
--- the lines so far tell rows, and the judge stands for them
 abbrev pub invariant-loop-line : goal.invariant-loop-line
 invariant-loop-line g l = record {
   left : length l.rest.now ≤ length l.initial.rest.now;

@@ -1,3 +1,4 @@
+-- What is answered, by how the reading ended.
 use Rattle.std.proofs.Common.{◌≢◌, ◌+◌, ap, ◌∙◌, arith, length, refl}
 use Rattle.mdb_page.specs.declared.answer.End.TheVariants as end
 use Rattle.mdb_page.proofs.answer.judge.Goals as goal

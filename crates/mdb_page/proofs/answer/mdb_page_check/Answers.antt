@@ -1,6 +1,4 @@
-use Rattle.std.proofs.Common.{subst}
-use Rattle.mdb_bus.specs.declared.scope.Scope.{Scope}
-use Rattle.mdb_follow.specs.Runs.{IsReached}
+-- The rows before one that is no row are reached.
 use Rattle.mdb_page.proofs.answer.mdb_page_check.Goals as goal
 
 pub returns-clause-bad_row : goal.returns-clause-bad_row
@@ -10,8 +8,7 @@ returns-clause-bad_row c = λ two.
       c.in-Some.ensures.taken,
       record {
         rows = bad.0;
-        reached =
-            subst (λ (scope : Scope). IsReached scope bad.0) bad.1.0
+        reached = rw bad.1.0 at
             (c.followers_stand_for_reached_rows.ensures c.judge.new.judge bad.0 bad.1.1);
         told_row = bad.2;
       },

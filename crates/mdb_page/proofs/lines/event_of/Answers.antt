@@ -1,3 +1,4 @@
+-- A line of one field, of two, or of more than three is no row.
 use Rattle.std.proofs.Common.{[], ◌∷◌, sym, ◌∙◌, arith}
 use Rattle.mdb_page.proofs.Fields.{alone, more, some_told, too_many}
 use Rattle.mdb_page.proofs.lines.event_of.Goals as goal

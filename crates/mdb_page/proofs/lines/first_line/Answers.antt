@@ -1,3 +1,4 @@
+-- A line ends at LF, or with the text.
 use Rattle.mdb_page.specs.Lines.{ended, last}
 use Rattle.mdb_page.proofs.lines.first_line.Goals as goal
 

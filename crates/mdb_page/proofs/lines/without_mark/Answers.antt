@@ -1,3 +1,4 @@
+-- A byte order mark in front is left out.
 use Rattle.std.proofs.Common.{arith}
 use Rattle.mdb_page.specs.Lines.{marked, unmarked}
 use Rattle.mdb_page.proofs.Ends.{no_third}

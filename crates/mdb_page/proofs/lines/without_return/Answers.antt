@@ -1,3 +1,4 @@
+-- A CR at the end of a line is left out.
 use Rattle.mdb_page.specs.Lines.{returned, unreturned}
 use Rattle.mdb_page.proofs.Ends.{no_end_of_none, none_told, other_end}
 use Rattle.mdb_page.proofs.lines.without_return.Goals as goal

@@ -1,3 +1,4 @@
+-- What is told of both readers is refused where that of one is.
 use Rattle.std.proofs.Common.{refl}
 use Rattle.mdb_page.proofs.OneOption.{no_second}
 use Rattle.mdb_page.proofs.options.add_readers.Goals as goal

@@ -1,3 +1,4 @@
+-- What is told of a reader is refused where a part of it is.
 use Rattle.std.proofs.Common.{refl}
 use Rattle.mdb_page.proofs.OneOption.{no_options}
 use Rattle.mdb_page.proofs.options.add_told.Goals as goal

@@ -1,3 +1,4 @@
+-- Answers are refused where that of one device is.
 use Rattle.mdb_page.proofs.options.answers_of.Goals as goal
 
 pub returns-in_default-clause-refused :

@@ -1,3 +1,4 @@
+-- Setup data are refused where answers or readers are.
 use Rattle.std.proofs.Common.{refl}
 use Rattle.mdb_page.proofs.options.setups_of.Goals as goal
 

@@ -1,3 +1,4 @@
+-- Options are refused where their setup data are.
 use Rattle.mdb_page.proofs.options.taken_so.Goals as goal
 
 pub returns-in_default-clause-refused : goal.returns-in_default-clause-refused

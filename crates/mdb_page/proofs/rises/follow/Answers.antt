@@ -1,7 +1,9 @@
 -- The rows of the lines so far are followed, by what each line is.
 use Rattle.std.proofs.Common.{arith, length}
 use Rattle.std.proofs.Math.Nat.{le_refl}
+use Rattle.mdb_follow.specs.Feeding.{HasRefused}
 use Rattle.mdb_follow.specs.Follower.{act_of, offence_of}
+use Rattle.mdb_follow.proofs.Following.{by-some}
 use Rattle.mdb_page.proofs.Rising as rising
 use Rattle.mdb_page.proofs.Walks.{blank_line_of, has_bytes, has_none, line_of}
 use Rattle.mdb_page.proofs.rises.follow.Goals as goal
@@ -81,10 +83,11 @@ returns-in-Err-clause-followed c =
 
 pub returns-in-None-clause-followed : goal.returns-in-None-clause-followed
 returns-in-None-clause-followed c =
-    let refused = rising.refused_by (offence_of c.feed_ending.new.self) c.in-None.ensures.refused in
-    rising.ends_broken c.loop-line.invariant.follows
-    (line_of c.first_line.ensures.line c.without_return-line.ensures) c.in-Ok.ensures.row _
-    refused.0 refused.1.offence
+    by-some (offence_of c.feed_ending.new.self)
+    (HasRefused c.loop-line.follower c.feed_ending.new.self c.in-Ok.event) _
+    (λ offence refused. rising.ends_broken c.loop-line.invariant.follows
+    (line_of c.first_line.ensures.line c.without_return-line.ensures) c.in-Ok.ensures.row _ offence
+    refused.offence) c.in-None.ensures.refused
 
 pub returns-clause-followed : goal.returns-clause-followed
 returns-clause-followed c =

@@ -1,3 +1,4 @@
+-- The entries of the lines so far are listed.
 use Rattle.std.proofs.Common.{length, ◌*◌, ◌≤◌}
 use Rattle.mdb_follow.specs.declared.follower.TheConstants.{ROWS_MAX}
 use Rattle.mdb_follow.specs.Follower.{rows_of, scope_of}
@@ -5,7 +6,6 @@ use Rattle.mdb_page.specs.inner.Rising.{IsNear}
 use Rattle.mdb_page.proofs.Rising.{Follows}
 use Rattle.mdb_page.proofs.rises.follow.Given as goal
 
--- the entries of the lines so far are listed
 abbrev pub invariant-loop-line : goal.invariant-loop-line
 invariant-loop-line l = record {
   left : length l.rest.now ≤ length l.fn.rest.now;

@@ -1,3 +1,4 @@
+-- The first report is near, and is that of no rows.
 use Rattle.std.proofs.Common.{[], arith}
 use Rattle.mdb_follow.specs.Follower.{rows_of}
 use Rattle.mdb_page.proofs.Rising.{near}

@@ -1,3 +1,4 @@
+-- The ends of ranges that are near rise by their difference.
 use Rattle.mdb_page.proofs.RiseLists.{rises_so}
 use Rattle.mdb_page.proofs.rises.risen.Goals as goal
 

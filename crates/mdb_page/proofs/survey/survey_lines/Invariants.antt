@@ -1,3 +1,4 @@
+-- The lines so far are surveyed.
 use Rattle.std.proofs.Common.{length, ◌≡◌, ◌≤◌}
 use Rattle.mdb_stretches.specs.Surveyor.{rows_of}
 use Rattle.mdb_follow.specs.declared.follower.TheConstants.{ROWS_MAX}
@@ -5,7 +6,6 @@ use Rattle.mdb_page.specs.declared.sheet.TheConstants.{LINES_ROOM}
 use Rattle.mdb_page.proofs.Surveys.{Reads}
 use Rattle.mdb_page.proofs.survey.survey_lines.Given as goal
 
--- the lines so far are surveyed
 abbrev pub invariant-loop-line : goal.invariant-loop-line
 invariant-loop-line l = record {
   left : length l.rest.now ≤ length l.fn.rest.now;

@@ -1,9 +1,9 @@
+-- The acts of the lines so far are listed.
 use Rattle.std.proofs.Common.{length, ◌≤◌}
 use Rattle.mdb_bus.specs.Bus.{scope_of}
 use Rattle.mdb_page.proofs.Walks.{Walks}
 use Rattle.mdb_page.proofs.walk.walk.Given as goal
 
--- the acts of the lines so far are listed
 abbrev pub invariant-loop-act : goal.invariant-loop-act
 invariant-loop-act l = record {
   left : length l.rest.now ≤ length l.initial.rest.now;

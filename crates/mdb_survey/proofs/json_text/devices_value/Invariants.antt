@@ -1,10 +1,10 @@
+-- The devices so far are members.
 use Rattle.std.proofs.Common.{◌≡◌, map, take}
 use Rattle.serde_json.specs.View.{members_view}
 use Rattle.mdb_json.specs.Reports.{members}
 use Rattle.mdb_survey.specs.SurveyJson.{device_member}
 use Rattle.mdb_survey.proofs.json_text.devices_value.Given as goal
 
--- the devices so far are members
 abbrev pub invariant-loop-device : goal.invariant-loop-device
 invariant-loop-device l =
     members_view l.devices.entries

@@ -1,3 +1,4 @@
+-- The value of a summary has no float.
 use Rattle.std.proofs.Common.{ap, ◌∙◌}
 use Rattle.serde_json.specs.Written.{has_float}
 use Rattle.mdb_survey.proofs.Floats.{of_summary}

@@ -1,3 +1,4 @@
+-- A new listing has listed no pieces.
 use Rattle.std.proofs.Common.{length, refl}
 use Rattle.mdb_page.proofs.Entries.{starts_empty}
 use Rattle.mdb_page.proofs.Ring.{starts_at}

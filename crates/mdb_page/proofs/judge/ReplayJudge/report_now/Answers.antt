@@ -1,3 +1,4 @@
+-- A replay that goes on has a report.
 use Rattle.std.proofs.Common.{[], true≢false, sym}
 use Rattle.mdb_page.proofs.judge.ReplayJudge.report_now.Goals as goal
 

@@ -1,3 +1,4 @@
+-- A replay without marks tells offences alone.
 use Rattle.std.proofs.Common.{[]}
 use Rattle.mdb_page.proofs.PlainReplays.{no_mark_fault, plain_offence}
 use Rattle.mdb_page.proofs.judge.ReplayJudge.take.Goals as goal

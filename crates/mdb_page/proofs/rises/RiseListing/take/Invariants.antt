@@ -1,10 +1,10 @@
+-- The entries of the accounts so far are listed.
 use Rattle.std.proofs.Common.{◌≡◌, ◌≤◌, ◌+◌, ◌*◌, ◌++◌, ℕ, List, flat_map, take}
 use Rattle.mdb_page.specs.Rises.{rises_in}
 use Rattle.mdb_page.specs.inner.Rising.{HasListed}
 use Rattle.mdb_page.specs.declared.rises.PageRise.{PageRise}
 use Rattle.mdb_page.proofs.rises.RiseListing.take.Given as goal
 
--- the entries of the accounts so far are listed
 abbrev pub invariant-loop-name : goal.invariant-loop-name
 invariant-loop-name l = record {
   last : l.self.last ≡ l.fn.self.last;

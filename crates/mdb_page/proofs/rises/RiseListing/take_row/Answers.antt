@@ -1,3 +1,4 @@
+-- The report after a row is near.
 use Rattle.mdb_follow.specs.Follower.{rows_of}
 use Rattle.mdb_page.proofs.Rising.{near}
 use Rattle.mdb_page.proofs.rises.RiseListing.take_row.Goals as goal

@@ -1,3 +1,4 @@
+-- The last lines are added, or a fault is handed on.
 use Rattle.mdb_bus.specs.Scopes.{profile_of}
 use Rattle.mdb_writing.specs.Output.{output}
 use Rattle.mdb_survey.specs.Survey.{survey_lines_in}

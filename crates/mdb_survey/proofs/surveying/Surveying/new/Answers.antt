@@ -1,3 +1,4 @@
+-- A new surveying has surveyed no rows.
 use Rattle.mdb_bus.specs.Scopes.{profile_of}
 use Rattle.mdb_survey.specs.Survey.{survey_lines_in}
 use Rattle.mdb_survey.proofs.Surveys.{begins}

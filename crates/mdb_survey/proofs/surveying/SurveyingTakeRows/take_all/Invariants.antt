@@ -1,3 +1,4 @@
+-- The rows before the rest are taken.
 use Rattle.std.proofs.Common.{◌≡◌, length}
 use Rattle.mdb_bus.specs.declared.scope.Scope.{Scope}
 use Rattle.mdb_bus.specs.Scopes.{profile_of}
@@ -7,7 +8,6 @@ use Rattle.mdb_survey.specs.Survey.{survey_lines_in}
 use Rattle.mdb_survey.proofs.Surveys.{Goes}
 use Rattle.mdb_survey.proofs.surveying.SurveyingTakeRows.take_all.Given as goal
 
--- the rows before the rest are taken
 abbrev pub invariant-loop-ended : goal.invariant-loop-ended
 invariant-loop-ended g l = record {
   goes : Goes (survey_lines_in l.fn.self.form (profile_of l.fn.self.scope.begins))
