@@ -106,14 +106,7 @@ module _ {pieces : List Piece} {stay : ℕ} {before after : List PageAct} (piece
 shows_with : {kind device reading break : ℕ} {block : List ℕ} (entry : PageAct) (rows : Rows)
     → Shows entry kind device block reading break
     → Shows (with_rows entry rows) kind device block reading break
-shows_with entry rows shows = record {
-  same_kind = shows.same_kind;
-  same_device = shows.same_device;
-  count = shows.count;
-  bytes = shows.bytes;
-  read = shows.read;
-  long = shows.long;
-}
+shows_with entry rows shows = search
 
 shows_act_with : (entry : PageAct) (rows : Rows) (act : Option Act) → ShowsAct entry act
     → ShowsAct (with_rows entry rows) act
