@@ -1,3 +1,4 @@
+-- The records of a text are read as its records alone.
 use Rattle.std.proofs.Common.{List, length, ℕ, ◌<◌}
 use Rattle.std.proofs.lemmas.Option.{IfSome_then}
 use Rattle.csv.specs.Reading.{default_config, records, strip_bom}

@@ -16,4 +16,4 @@ loop-name-preserved g c =
 pub returns : goal.returns
 returns g c =
     all_parts (λ name. codes "total " ++ account_line name (total_of name c.args.totals.now)) _ _ []
-    ALL c.loop-name.name-index c.loop-name-test.false c.loop-name.invariant
+    ALL _ c.loop-name-test.false c.loop-name.invariant

@@ -14,4 +14,4 @@ loop-name-preserved g c =
 pub returns : goal.returns
 returns g c =
     all_parts (λ name. account_line name (account_of name c.args.report.now)) _ _ [] ALL
-    c.loop-name.name-index c.loop-name-test.false c.loop-name.invariant
+    _ c.loop-name-test.false c.loop-name.invariant
