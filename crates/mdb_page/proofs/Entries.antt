@@ -1,12 +1,12 @@
 -- How one entry more is listed.
-use Rattle.std.proofs.Common.{◌≡◌, ◌≢◌, ◌+◌, ◌<◌, ◌≤◌, ℕ, List, [], ◌∷◌, length, refl, sym, subst, ap, ◌∙◌, arith, inl, inr, get_or, set, get_or-set_same, get_or-set_other, length-set, Option, Some, None}
+use Rattle.std.proofs.Common.{◌≡◌, ◌≢◌, ◌+◌, ◌<◌, ◌≤◌, ℕ, List, [], ◌∷◌, length, refl, ap, ◌∙◌, arith, inl, inr, get_or, set, get_or-set_same, get_or-set_other, length-set, Option, Some, None}
 use Rattle.mdb_bus.specs.declared.act.Act.{Act}
 use Rattle.mdb_bus.specs.declared.act.Act.TheVariants as acts
 use Rattle.mdb_bus.specs.ActLists.{Piece, events_of, piece_events}
 use Rattle.mdb_bus.specs.Pieces.{act_in}
 use Rattle.mdb_follow.specs.declared.follower.TheConstants.{ROWS_MAX}
 use Rattle.mdb_page.specs.Acts.{AreListed, HasRows, IsKept, IsOfPiece, Shows, ShowsAct, place_in}
-use Rattle.mdb_page.specs.inner.Listing.{AreOf, HasListed, IsNextPlace, Moves, with_rows}
+use Rattle.mdb_page.specs.inner.Listing.{AreOf, HasListed, Moves, with_rows}
 use Rattle.mdb_page.specs.declared.acts.ActListing.{ActListing}
 use Rattle.mdb_page.specs.declared.acts.PageAct.{PageAct}
 use Rattle.mdb_page.specs.declared.rows.Rows.{Rows}

@@ -5,8 +5,8 @@ use Rattle.std.proofs.lemmas.List.{length-append, map-append, take_more_set}
 use Rattle.mdb_stretches.specs.declared.stretch.Ended.{Ended}
 use Rattle.mdb_survey_text.specs.Lines.{ended_lines, lines_of}
 use Rattle.mdb_survey_text.specs.SurveyText.{text_lines}
-use Rattle.mdb_page.specs.Surveys.{AreListed, HasNoRoom, IsPlace, rows_of_faults, written_lines}
-use Rattle.mdb_page.specs.inner.Surveying.{AreLater, HasListed}
+use Rattle.mdb_page.specs.Surveys.{HasNoRoom, IsPlace, rows_of_faults, written_lines}
+use Rattle.mdb_page.specs.inner.Surveying.{HasListed}
 use Rattle.mdb_page.specs.declared.faults.FaultListing.{FaultListing}
 use Rattle.mdb_page.specs.declared.faults.PageFault.{PageFault}
 use Rattle.mdb_page.specs.declared.sheet.PageLines.{PageLines}

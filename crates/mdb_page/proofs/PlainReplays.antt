@@ -1,9 +1,8 @@
 -- What a replay without marks tells.
 use Rattle.std.specs.Prelude.{◌≡◌, List, [], None, ℕ}
-use Rattle.std.proofs.Common.{subst}
 use Rattle.mdb_words.specs.declared.event.Event.{Event}
 use Rattle.mdb_bus.specs.declared.scope.Scope.{Scope}
-use Rattle.mdb_explained_runs.specs.ReplayFaults.{IsMarkFault, IsReplayFault}
+use Rattle.mdb_explained_runs.specs.ReplayFaults.{IsReplayFault}
 use Rattle.mdb_explained_runs.specs.declared.replay.ReplayFault.{ReplayFault}
 use Rattle.mdb_explained_runs.specs.declared.replay.ReplayFault.TheVariants as faults
 use Rattle.mdb_follow.specs.declared.offence.Offence.{Offence}

@@ -1,5 +1,5 @@
 -- How entries of rises are listed.
-use Rattle.std.proofs.Common.{◌≡◌, ◌+◌, ◌<◌, ◌≤◌, ◌⊎◌, ℕ, List, [], ◌∷◌, ◌++◌, length, refl, sym, subst, ap, ◌∙◌, arith, inl, inr, get_or, set, get_or-set_same, get_or-set_other, length-set, length-append, ◌^◌, ◌-ℤ◌, ◌≤ℤ◌, ℤ, pos, negsuc, neg_ℤ, SFits, of_z, to_z, w64, Bool, true, false, cond, append-nil, append_assoc, flat_map, take, Option, Some, None}
+use Rattle.std.proofs.Common.{◌≡◌, ◌+◌, ◌<◌, ◌≤◌, ◌⊎◌, ℕ, List, [], ◌∷◌, ◌++◌, length, refl, sym, subst, ap, ◌∙◌, arith, inl, inr, get_or, set, get_or-set_same, get_or-set_other, length-set, length-append, ◌^◌, ◌-ℤ◌, ◌≤ℤ◌, ℤ, pos, negsuc, neg_ℤ, SFits, of_z, to_z, w64, true, false, cond, append-nil, append_assoc, flat_map, take, Some, None}
 use Rattle.std.proofs.Math.Seq.{get_or-append_seam}
 use Rattle.std.proofs.lemmas.Int.{ints, to_z-of_z}
 use Rattle.std.proofs.lemmas.List.{flat_map_more, get_or_append_left, take_all, take_more}

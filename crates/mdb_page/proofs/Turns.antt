@@ -1,5 +1,5 @@
 -- How a row goes on with pieces.
-use Rattle.std.proofs.Common.{◌≡◌, ◌≢◌, ◌+◌, ◌<◌, ◌≤◌, ◌⊎◌, ℕ, List, [], ◌∷◌, ◌++◌, length, map, refl, sym, subst, ap, ◌∙◌, arith, inl, inr, Option, Some, None, length-append}
+use Rattle.std.proofs.Common.{◌≡◌, ◌≢◌, ◌+◌, ◌<◌, ◌≤◌, ℕ, List, [], ◌∷◌, ◌++◌, length, map, refl, sym, ap, ◌∙◌, arith, inl, inr, Option, Some, None, length-append}
 use Rattle.std.proofs.lemmas.List.{append-nil, map-append, nil_from_length}
 use Rattle.mdb_words.specs.declared.event.Event.{Event}
 use Rattle.mdb_words.specs.Event.{start_of}
@@ -7,9 +7,8 @@ use Rattle.mdb_bus.specs.declared.act.Act.{Act}
 use Rattle.mdb_bus.specs.declared.act.Act.TheVariants as acts
 use Rattle.mdb_bus.specs.declared.scope.Profile.{Profile}
 use Rattle.mdb_bus.specs.declared.scope.Scope.{Scope}
-use Rattle.mdb_bus.specs.ActLists.{Piece, Whole, AskTail, ReplyTail, RepeatTail, Position, InAsk, InReply, InRepeat, ArePieces, BlockMayCome, IsPiece, IsSaid, MayCome, MayStand, events_of, piece_events, left_by}
+use Rattle.mdb_bus.specs.ActLists.{Piece, Whole, AskTail, Position, InAsk, InReply, InRepeat, ArePieces, BlockMayCome, IsSaid, MayCome, MayStand, events_of, piece_events, left_by}
 use Rattle.mdb_bus.specs.Pieces.{IsTail, act_in}
-use Rattle.mdb_bus.specs.Bus.{Grown}
 use Rattle.mdb_page.specs.Acts.{closed_pieces}
 use Rattle.mdb_page.specs.inner.Listing.{AreOf, HasAdded, HasBegun, HasListed, HasTakenPieces, Lengthens, open_events}
 use Rattle.mdb_page.specs.declared.acts.ActListing.{ActListing}

@@ -1,8 +1,7 @@
 -- Which reader the block in which rows end asks for what isn't followed.
-use Rattle.std.proofs.Common.{ap, ◌∙◌, refl, sym, subst, ◌≡◌, ◌++◌, inl, ℕ, List, [], ◌∷◌, Option, Some, None, Result, Ok, Err}
+use Rattle.std.proofs.Common.{ap, ◌∙◌, refl, sym, ◌≡◌, ℕ, List, [], ◌∷◌, Option, Some, None}
 use Rattle.mdb_words.specs.declared.event.Event.{Event}
-use Rattle.mdb_words.specs.declared.word.Line.TheVariants.{Controller}
-use Rattle.mdb_blocks.specs.Block.{block_of, words_on}
+use Rattle.mdb_blocks.specs.Block.{block_of}
 use Rattle.mdb_msgs.specs.declared.command.Command.TheVariants.{Reader}
 use Rattle.mdb_msgs.specs.declared.command.ReaderCommand.{ReaderCommand}
 use Rattle.mdb_msgs.specs.declared.command.ReaderCommand.TheVariants as readers
@@ -14,7 +13,6 @@ use Rattle.mdb_bus.specs.declared.act.Act.TheVariants as acts
 use Rattle.mdb_bus.specs.declared.fault.Rule.{Rule}
 use Rattle.mdb_bus.specs.declared.fault.Rule.TheVariants as rules
 use Rattle.mdb_bus.specs.declared.scope.Scope.{Scope}
-use Rattle.mdb_bus.specs.Acts.{Say}
 use Rattle.mdb_bus.specs.ActLists.{IsActList, Piece, Whole, AskTail, ReplyTail, RepeatTail, events_of, first_position, left_open, position_of}
 use Rattle.mdb_bus.specs.Bus.{open_block}
 use Rattle.mdb_bus.proofs.Lists.{at_first}

@@ -17,7 +17,7 @@ use Rattle.mdb_bus.specs.declared.fault.Rule.TheVariants as rules
 use Rattle.mdb_bus.specs.declared.scope.Profile.{Profile}
 use Rattle.mdb_bus.specs.declared.scope.Profile.TheVariants.{Base, Extended}
 use Rattle.mdb_bus.specs.declared.scope.Scope.{Scope}
-use Rattle.mdb_bus.specs.ActLists.{Piece, acts_of, position_of}
+use Rattle.mdb_bus.specs.ActLists.{acts_of, position_of}
 use Rattle.mdb_bus.specs.Bus.{open_block}
 use Rattle.mdb_bus.specs.LinkFaults.{blame_on}
 use Rattle.mdb_bus.specs.Scopes.{IsFollowed, profile_of}
@@ -28,7 +28,6 @@ use Rattle.mdb_follow.specs.Offences.{IsOffence}
 use Rattle.mdb_stretches.specs.declared.stretch.Ended.{Ended}
 use Rattle.mdb_stretches.specs.declared.stretch.Stretch.{Stretch}
 use Rattle.mdb_stretches.specs.declared.told.Told.{Told}
-use Rattle.mdb_stretches.specs.OtherMoney.{OtherMoneyIsAsked}
 use Rattle.mdb_stretches.specs.Parts.{EndBefore, EndInBlock, IsReaderAsked, IsReaderBeyond}
 use Rattle.mdb_stretches.specs.Stretches.{GoesOnAfter, IsCutAt, IsSurvey, LeadFrom, StretchStart, first_place, left_out_asked, left_out_by_profile, left_out_for}
 use Rattle.mdb_stretches.specs.Told.{is_told_below_2, told_after}

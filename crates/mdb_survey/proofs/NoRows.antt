@@ -1,5 +1,5 @@
 -- No rows have a report too: nothing has moved.
-use Rattle.std.proofs.Common.{arith, refl, ap, subst, ◌≡◌, ◌+◌, List, [], ◌∷◌, ◌++◌, length, length-append}
+use Rattle.std.proofs.Common.{arith, refl, ap, ◌≡◌, List, [], ◌∷◌, ◌++◌, length, length-append}
 use Rattle.mdb_words.specs.declared.event.Event.{Event}
 use Rattle.mdb_msgs.specs.declared.command.Device.{Device}
 use Rattle.mdb_bus.specs.ActLists.{ArePieces, Piece, events_of, piece_events}
@@ -11,7 +11,7 @@ use Rattle.mdb_follow.specs.AccountNames.{account_device, account_slot, sums_of}
 use Rattle.mdb_follow.specs.Follower.{StandsFor, scope_of}
 use Rattle.mdb_follow.specs.Ranges.{no_account}
 use Rattle.mdb_follow.specs.Report.{IsReport, report_of}
-use Rattle.mdb_follow.specs.Runs.{AllSums, IsReached, IsWay, Run}
+use Rattle.mdb_follow.specs.Runs.{AllSums, IsReached, Run}
 use Rattle.mdb_follow.specs.Sums.{AccountSums, Sums, no_sums}
 use Rattle.mdb_follow.proofs.Ends.{account-none}
 

@@ -1,5 +1,5 @@
 -- What the survey is, by how the reading of rows ended.
-use Rattle.std.proofs.Common.{arith, refl, ap, sym, inl, inr, ◌∙◌, ◌≡◌, ◌+◌, ◌-◌, ℕ, List, [], ◌∷◌, ◌++◌, Result, Ok, Err, append_assoc}
+use Rattle.std.proofs.Common.{arith, refl, inl, inr, ◌∙◌, ◌≡◌, ◌+◌, ◌-◌, ℕ, List, [], ◌∷◌, ◌++◌, Result, Ok, Err, append_assoc}
 use Rattle.std.specs.Prelude.{IfErr}
 use Rattle.mdb_words.specs.declared.event.Event.{Event}
 use Rattle.mdb_words.specs.Row.{IsRow}
@@ -19,7 +19,7 @@ use Rattle.mdb_verdict.specs.Ending.{AreRead, FindsUpTo, HasEnded, IsStopped, Is
 use Rattle.mdb_verdict.proofs.Rows.{are_rows, read_before}
 use Rattle.mdb_verdict.proofs.Tellings.{not_taken_of_output}
 use Rattle.mdb_verdict.specs.Telling.{IsNotTaken, IsOfOutput}
-use Rattle.mdb_writing.specs.Output.{Breaks, Output, Puts}
+use Rattle.mdb_writing.specs.Output.{Output, Puts}
 use Rattle.mdb_writing.proofs.Outputs.{break_both, put_both}
 use Rattle.mdb_survey.specs.inner.SurveySteps.{HasAddedEnd, HasAddedLast, HasStopped, HasSurveyed, LeadInto, PutsSurveying}
 use Rattle.mdb_survey_text.specs.Lines.{LineForm, lines_of}

@@ -9,7 +9,7 @@ use Rattle.mdb_stretches.specs.Stretches.{LeadFrom, first_place, stretch_at}
 use Rattle.mdb_stretches.specs.Surveyor.{EndsAmong, StandsFor, rows_of}
 use Rattle.mdb_stretches.proofs.Parts.{cut_at}
 use Rattle.mdb_verdict.specs.declared.fault.RunFault.{RunFault}
-use Rattle.mdb_verdict.specs.declared.fault.RunFault.TheVariants.{BadRow, TooLong, Read, Write, Memory}
+use Rattle.mdb_verdict.specs.declared.fault.RunFault.TheVariants.{Write, Memory}
 use Rattle.mdb_verdict.specs.Telling.{IsNotTaken}
 use Rattle.mdb_writing.specs.Output.{Output, Puts, begun, output}
 use Rattle.mdb_writing.proofs.Outputs.{break_both, put_begun, put_both}

@@ -1,5 +1,5 @@
 -- The rows are taken up to each that ends a stretch, and then the others.
-use Rattle.std.proofs.Common.{ap, sym}
+use Rattle.std.proofs.Common.{ap}
 use Rattle.mdb_bus.specs.declared.scope.Scope.{Scope}
 use Rattle.mdb_text.specs.declared.form.Form.{Form}
 use Rattle.mdb_writing.specs.Output.{begun, output}
