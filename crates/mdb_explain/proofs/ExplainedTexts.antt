@@ -3,7 +3,9 @@ use Rattle.std.proofs.Common.{refl, ap, sym, ◌∙◌, ◌≡◌, ℕ, List, []
 use Rattle.std.proofs.Common.{map}
 use Rattle.std.proofs.lemmas.List.{append-nil}
 use Rattle.std.proofs.lemmas.List.Concat.{flat_map-append}
+use Rattle.std.proofs.lemmas.Option.{IfSome_then}
 use Rattle.std.specs.List.{flat_map}
+use Rattle.std.specs.Prelude.{◌<◌, IfSome, length}
 use Rattle.mdb_words.specs.declared.event.Event.{Event}
 use Rattle.mdb_words.specs.RowsWritten.{row_fields}
 use Rattle.mdb_bus.specs.declared.scope.Scope.{Scope}
@@ -19,6 +21,7 @@ use Rattle.mdb_explain.specs.Explain.{IsExplainText, IsExplained, LeavesNo, expl
 use Rattle.mdb_verdict.specs.Headline.{IfYes}
 use Rattle.mdb_text.specs.Text.{report_text}
 use Rattle.mdb_verdict.specs.Verdict.{IsAnswer, IsNoYes}
+use Rattle.mdb_verdict.specs.declared.verdict.TheConstants.{BYTES_MAX}
 use Rattle.mdb_writing.specs.Written.{HasTaken}
 use Rattle.mdb_explain.specs.inner.Explaining.{IsNoText, IsTold, marks_text, rows_text}
 use Rattle.mdb_writing.specs.Output.{Breaks, Output, Puts, begun, output}
@@ -28,6 +31,12 @@ use Rattle.mdb_writing.proofs.Outputs.{break_both, put_both, taken_longer}
 pub if_yes : (outcome : Outcome) (P : Type 0) → P → IfYes outcome (λ report. P)
 if_yes (Yes report) P holds = holds
 if_yes (No offence) P holds = tt
+
+-- a text that is too long has no yes
+pub no_whole : {Over Answer : Type 0} (known : Option (List ℕ))
+    → IfSome known (λ text. BYTES_MAX < length text → Over) → (Over → Answer)
+    → IfSome known (λ text. BYTES_MAX < length text → Answer)
+no_whole known over none = IfSome_then known over (λ text is long. none (is long))
 
 -- What is told of an outcome.
 module _ {W : Type 0} (contents : W → Option (List ℕ)) (before after : W)

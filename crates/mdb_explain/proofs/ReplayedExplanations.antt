@@ -27,7 +27,6 @@ use Rattle.mdb_explain.proofs.OneReplayAnswer.{IsUpTo, MarkLaws, rising_run, upt
 
 -- what the laws of explanations and of replays say
 pub record ExplainLaws (scope : Scope) : Type 0 where
-  pub marks : MarkLaws scope
   pub reported : (rows : List Event) (marks : List (ℕ × Mark)) → HasMarkedRun scope rows marks
       → (report : Report) × IsReplayReport scope rows marks report
   pub comes : (rows : List Event) (goal : Goal) (marks : List (ℕ × Mark))
@@ -91,7 +90,7 @@ module _ (scope : Scope) (laws : MarkLaws scope) (goal : Goal) (records : List (
       omega (arith, upto_run scope laws is.rows is.marks reached k mark lt, few_rows)
 
   -- it is replayed to a yes that comes to the end of its goal
-  comes_to : ExplainLaws scope → (answer : Result Outcome MarkedFault)
+  pub comes_to : ExplainLaws scope → (answer : Result Outcome MarkedFault)
       → IsReplayAnswer scope ROWS_MAX (read_records default_config (strip_bom text)) answer
       → IsOwnReplay answer → ComesTo goal checked answer
   comes_to more answer replayed own =
@@ -116,7 +115,7 @@ module _ (scope : Scope) (laws : MarkLaws scope) (goal : Goal) (records : List (
       (rw one_rows at possible.is) reported.1)
 
   -- and is within the limit of bytes
-  short_text : ExplanationsAreShort → length text ≤ BYTES_MAX
+  pub short_text : ExplanationsAreShort → length text ≤ BYTES_MAX
   short_text short = omega (
     arith,
     ap length is.is,
@@ -124,20 +123,3 @@ module _ (scope : Scope) (laws : MarkLaws scope) (goal : Goal) (records : List (
     few_marks,
     few_rows,
   )
-
-pub replayed_to_goals : (scope : Scope) → ExplainLaws scope
-    → (goal : Goal) (records : List (List (List ℕ))) (text : List ℕ) (checked : Report)
-    (answer : Result Outcome MarkedFault)
-    → IsAnswer scope ROWS_MAX records (Ok (Yes checked))
-    → IsExplanation scope goal records text
-    → IsReplayAnswer scope ROWS_MAX (read_records default_config (strip_bom text)) answer
-    → IsOwnReplay answer → ComesTo goal checked answer
-replayed_to_goals scope laws goal records text checked answer possible is =
-    comes_to scope laws.marks goal records text checked possible is laws answer
-
-pub within_limit : (scope : Scope) → MarkLaws scope → ExplanationsAreShort → (goal : Goal)
-    (records : List (List (List ℕ))) (text : List ℕ) (checked : Report)
-    → IsAnswer scope ROWS_MAX records (Ok (Yes checked))
-    → IsExplanation scope goal records text → length text ≤ BYTES_MAX
-within_limit scope laws short goal records text checked possible is =
-    short_text scope laws goal records text checked possible is short

@@ -71,35 +71,28 @@ module _ (scope : Scope) (limit : ℕ) (records : List (List (List ℕ))) (repor
       let all : IsReached scope replayed.rows = (replayed.is.sums, replayed.is.reached.run) in
       fronts (rows ++ event ∷ []) after.more (rw split at all)
 
-  says_yes : FrontsAreReached scope → (answer : Result Outcome RunFault)
+  -- and so does the row after them
+  after : {rows : List Event} {fields : List (List ℕ)}
+      → LeadUpTo scope replayed.transcript rows fields → RowAfter replayed.rows rows fields
+  after {rows = rows} {fields = fields} leads =
+      row_after scope replayed.transcript replayed.rows rows fields replayed.are_rows leads
+
+  -- so the answer to it is a yes
+  pub says_yes : FrontsAreReached scope → (answer : Result Outcome RunFault)
       → IsAnswer scope limit replayed.transcript answer → IsOwnAnswer answer
       → (checked : Report) × (answer ≡ Ok (Yes checked))
   says_yes fronts (Ok (Yes checked)) is own = (checked, refl)
-  says_yes fronts (Ok (No offence)) is own =
-      let after = row_after scope replayed.transcript replayed.rows is.rows is.fields
-      replayed.are_rows is.stops in
-      absurd (is.is.not_reached (reached_after fronts is.rows is.fields is.row after is.told))
-  says_yes fronts (Err (run.BadRow row fault)) is own =
-      let after = row_after scope replayed.transcript replayed.rows is.rows is.fields
-      replayed.are_rows is.stops in
-      absurd (row_not_refused is.fields after.event fault after.told is.refused)
+  says_yes fronts (Ok (No offence)) is own = absurd (is.is.not_reached
+      (reached_after fronts is.rows is.fields is.row (after is.stops) is.told))
+  says_yes fronts (Err (run.BadRow row fault)) is own = absurd (row_not_refused is.fields
+      (after is.stops).event fault (after is.stops).told is.refused)
   says_yes fronts (Err run.TooLong) is own =
-      let after = row_after scope replayed.transcript replayed.rows is.rows is.fields
-      replayed.are_rows is.stops in
+      let next = after is.stops in
       absurd (omega (
         arith,
-        ap length after.split,
-        length-append is.rows (after.event ∷ after.more),
+        ap length next.split,
+        length-append is.rows (next.event ∷ next.more),
         replayed.few_rows,
         is.full,
       ))
   says_yes fronts (Err fault) is own = absurd own
-
--- so the answer to it is a yes
-pub replayed_says_yes : (scope : Scope) → FrontsAreReached scope → (limit : ℕ)
-    (records : List (List (List ℕ))) (report : Report) (answer : Result Outcome RunFault)
-    (replayed : IsReplayed scope limit records report)
-    → IsAnswer scope limit replayed.transcript answer → IsOwnAnswer answer
-    → (checked : Report) × (answer ≡ Ok (Yes checked))
-replayed_says_yes scope fronts limit records report answer replayed =
-    says_yes scope limit records report replayed fronts answer

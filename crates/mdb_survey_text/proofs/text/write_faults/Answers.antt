@@ -1,3 +1,4 @@
+-- The line of the faults is written in three parts.
 use Rattle.std.proofs.Common.{◌++◌}
 use Rattle.std.proofs.KnownBytes.{Appends-trans}
 use Rattle.mdb_text.proofs.Texts.{then_written}

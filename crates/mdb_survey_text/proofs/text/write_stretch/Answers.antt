@@ -1,3 +1,4 @@
+-- A stretch with rows has its line, and then those of its report.
 use Rattle.std.proofs.Common.{ap, subst, ◌∙◌}
 use Rattle.std.specs.Io.KnownBytes.{Appends}
 use Rattle.mdb_bus.specs.JoinedScopes.{joined}

@@ -1,3 +1,4 @@
+-- The totals come before the line of the faults, where there are rows.
 use Rattle.std.proofs.Common.{◌==◌, [], if◌then◌else◌}
 use Rattle.std.proofs.KnownBytes.{Appends-nil}
 use Rattle.std.specs.Io.KnownBytes.{Appends}

@@ -1,3 +1,4 @@
+-- The totals of the accounts have their lines, one after the other.
 use Rattle.std.proofs.Common.{[], ◌++◌, ap, codes}
 use Rattle.std.proofs.KnownBytes.{Appends-trans}
 use Rattle.mdb_follow.specs.declared.account_name.TheConstants.AccountName.{ALL}

@@ -1,3 +1,4 @@
+-- The parts of the totals are written one after the other.
 use Rattle.std.proofs.KnownBytes.{Appends-trans}
 use Rattle.mdb_text.proofs.Texts.{then_written}
 use Rattle.mdb_survey_text.proofs.text.write_totals.Goals as goal

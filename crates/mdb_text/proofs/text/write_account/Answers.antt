@@ -1,3 +1,4 @@
+-- The line of an account has a part for each side.
 use Rattle.std.proofs.KnownBytes.{Appends-trans}
 use Rattle.mdb_text.proofs.Texts.{then_written}
 use Rattle.mdb_text.proofs.text.write_account.Goals as goal

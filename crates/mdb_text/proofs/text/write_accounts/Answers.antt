@@ -1,3 +1,4 @@
+-- The accounts have their lines, one after the other.
 use Rattle.std.proofs.Common.{[], ap}
 use Rattle.mdb_follow.specs.declared.account_name.TheConstants.AccountName.{ALL}
 use Rattle.mdb_follow.specs.AccountNames.{account_of}

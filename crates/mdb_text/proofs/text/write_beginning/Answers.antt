@@ -1,3 +1,4 @@
+-- In mid-session two lines more are written: what is unvalued, and whose setup is known.
 use Rattle.mdb_text.proofs.Texts.{then_written}
 use Rattle.mdb_text.proofs.text.write_beginning.Goals as goal
 

@@ -1,3 +1,4 @@
+-- The line of counts has a part for each device.
 use Rattle.std.proofs.Common.{ap, get_or}
 use Rattle.std.proofs.lemmas.List.{append-nil}
 use Rattle.mdb_follow.specs.declared.report.TheConstants.Report.{DEVICES}

@@ -1,3 +1,4 @@
+-- The line of decimal places has a part for each device.
 use Rattle.std.proofs.Common.{codes, ap}
 use Rattle.mdb_follow.specs.declared.report.TheConstants.Report.{DEVICES}
 use Rattle.mdb_follow.specs.Report.{device_decimals}

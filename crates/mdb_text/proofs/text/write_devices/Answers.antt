@@ -1,3 +1,4 @@
+-- The line of devices has the word of each device in the set.
 use Rattle.std.proofs.Common.{rules, refl}
 use Rattle.std.proofs.lemmas.List.{append-nil}
 use Rattle.mdb_follow.specs.declared.report.TheConstants.Report.{DEVICES}

@@ -1,3 +1,4 @@
+-- The head of a report comes before its lines.
 use Rattle.mdb_text.proofs.Texts.{then_written}
 use Rattle.mdb_text.proofs.text.write_report.Goals as goal
 

@@ -1,3 +1,4 @@
+-- The parts of a report are written one after the other.
 use Rattle.std.proofs.KnownBytes.{Appends-trans}
 use Rattle.mdb_text.proofs.Texts.{then_written}
 use Rattle.mdb_text.proofs.text.write_report_lines.Goals as goal

@@ -1,3 +1,4 @@
+-- The line of rows out of their time is written in two parts.
 use Rattle.mdb_text.proofs.Texts.{then_written, untimely_first, untimely_parts, untimely_second}
 use Rattle.mdb_text.proofs.text.write_untimely_counts.Goals as goal
 
