@@ -103,6 +103,8 @@ interface Found {
   breaks: Happening[];
   silences: Silence[];
   setups: Happening[];
+  // The readers that approved an amount that isn't told.
+  untold?: Set<string>;
 }
 
 /** A line of the file; `whole` is whether `bytes` has all of its `length`. */
@@ -168,6 +170,15 @@ interface Levels {
   reader: number | null;
 }
 
+/** A sum to which a run comes, and that run's marks (checker/weighed.js). */
+interface WeighedEnd {
+  value: bigint;
+  lost: number;
+  restarts: number;
+  repeats: number;
+  all: number;
+}
+
 /** What the module answers to a recording, and what is known and shown of that. */
 interface Answer {
   answer?: number;
@@ -205,6 +216,7 @@ interface Answer {
   sha256?: string;
   replayed?: {answer: number, text: string, row: number} | null;
   rises?: {all: number, listed: ArrayBuffer} | null;
+  weights?: Record<number, ArrayBuffer | null>;
   survey?: Survey;
   atFirst?: Partial<Answer>;
   cuts?: number[];
@@ -308,9 +320,11 @@ interface OpenEntry {
   answer?: string;
   code?: number;
   silent?: number | null;
+  paid?: any;
 }
 
-/** An order to pay out of a device that isn't followed: its first and last row, and a recycler's bytes (rows.js). */
+/** An order to pay out of a device that isn't followed, or what a recycler says that it paid: its first and last row,
+ * and a recycler's bytes (rows.js). */
 interface Order {
   row: number;
   end: number;

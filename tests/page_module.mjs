@@ -1,7 +1,8 @@
 // Runs the page's module in node, for tests/page-module: by the worker that the page itself has, whose path is the first
 // word, and with the page's scripts that read what the worker gives. The worker has room for few acts and news, so that
 // lists come in pieces. Each line of standard input has a recording, and the answer is a line: what the worker says of it,
-// a survey, and the values of some expressions of the page's state. Where node can't run wasm64, the status is 77.
+// a survey, and the values of some expressions of the page's state; without these, what its sums rest on. Where node can't
+// run wasm64, the status is 77.
 import fs from "node:fs";
 import readline from "node:readline";
 import v8 from "node:v8";
@@ -9,6 +10,7 @@ import zlib from "node:zlib";
 import {Acts} from "../page/checker/acts.js";
 import {layout} from "../page/checker/layout.js";
 import {addPiece, noNews} from "../page/checker/news.js";
+import {endsIn} from "../page/checker/weighed.js";
 
 const PAGE = fs.readFileSync(process.argv[2], "utf8"), ROOMS = {MOST: 10, MOST_ACTS: 16, MOST_NEWS: 5};
 // A text between quotes of any kind.
@@ -81,9 +83,19 @@ function surveyed(options, most) {
   return {...end, text: text + worker.answerText(), faults};
 }
 
+// What the sums of all devices rest on, in the recording that was judged last: of each end its value and its marks.
+async function weighed(options) {
+  heard = [];
+  await worker.take({number: 2, closer: {options, answer: 0, length: worker.size(), devices: [1, 2, 3, 4]}});
+  const {weights} = heard.find(({told}) => told === "done" || told === "fault");
+  return Object.values(weights).map(
+      (its) => its && Array.from({length: 6}, (_, sum) => Object.values(endsIn(its, sum)).map((it) => [Number(it.value), it.all])));
+}
+
 async function answer({text, options, room, values}) {
   const bytes = Buffer.from(text, "base64"), way = Uint8Array.from(options), {said, state} = await judged(bytes, way);
   if (said.told === "fault") return said;
+  if (!values) return {...said, weights: await weighed(way)};
   const seen = values.map((it) => new Function("state", `return ${it};`)(state));
   return {...said, values: seen, survey: surveyed(way, room)};
 }

@@ -10,7 +10,8 @@ here:
 - an amount that isn't certain, and what the two sides counted, are the report's;
 - the acts that leave an amount open are those at which a range became wider, and what settles a part of it is where one
   became narrower, by `mdbcheck check` of the rows up to each row;
-- the sums if nothing was lost are those that `replay` prints of the rows without marks;
+- the sums if nothing was lost are those that `replay` prints of the rows without marks, and what another end of a range
+  takes is as much as `explain` writes;
 - what a sentence says is missing isn't there: an approval, an order, a report of a reset, a later event of a session;
 - a silence has as many commands without an answer as the sentence says;
 - each device that the card's story names is one of an act there, of the blame, or of a line of the report that isn't zero.
@@ -56,7 +57,8 @@ EXAMPLES = {
     "coin-behind-a-reset-message": [
         "0.25 isn't certain: a coin of 0.25 was reported in rows 32–34 and again in rows 38–41. It was one coin or two.",
         "The changer took 0.25 to 0.50; the controller counted 0.25.",
-        "If nothing was lost, the changer took 0.25 in coins, and the controller counted the same."],
+        "If nothing was lost, the changer took 0.25 in coins, and the controller counted the same.",
+        "The changer took 0.50 only if it restarted unseen."],
     "coin-in-mid-session": [
         "The changer reported a coin of 0.25 to a tube (rows 24–26).",
         "It hadn't reported its reset since the recording began, which must come first."],
@@ -66,7 +68,8 @@ EXAMPLES = {
     "coin-told-twice": [
         "0.25 isn't certain: a coin of 0.25 was reported in rows 32–34 and again in rows 38–40. It was one coin or two.",
         "The changer took 0.25 to 0.50; the controller counted 0.50.",
-        "If nothing was lost, the changer took 0.50 in coins, and the controller counted the same."],
+        "If nothing was lost, the changer took 0.50 in coins, and the controller counted the same.",
+        "The changer took 0.25 only if 1 acknowledgement was lost."],
     "coins-beside-a-level-3-reader": [
         "Card reader 1 reports feature level 3 in its answer to SETUP (rows 99–107), and so does the controller, with level 3 (rows 92–98).",
         "From level 2 on the messages of a session have other forms. The extended profile follows them."],
@@ -81,7 +84,8 @@ EXAMPLES = {
     "sale-answered-by-a-reset-message": [
         "0.10 isn't certain: card reader 1 answered the sale of item 5 (rows 55–59) with the report that it was reset (rows 60–61). Whether it had booked it by then isn't certain.",
         "Card reader 1 booked 0.00 to 0.10; the controller counted 0.10.",
-        "If nothing was lost, card reader 1 booked 0.10, and the controller counted the same."],
+        "If nothing was lost, card reader 1 booked 0.10, and the controller counted the same.",
+        "Card reader 1 booked 0.00 only if it restarted unseen."],
     "sale-by-card": ["The controller and the devices agree for certain: 1.00 approved by card reader 1 and 1.00 sold by card reader 1."],
     "sale-never-approved": [
         "The controller asked for 1.50 for item 8 (rows 58–64), and card reader 1 denied it (rows 68–69).",
@@ -256,7 +260,9 @@ def compare_rows(sentence, recording, report, row):
 
 
 def compare_phrases(sentence, recording):
-    """What a sentence says of items, amounts and events is said in the rows that it names."""
+    """What a sentence says of items, amounts and events is said in the rows that it names. (Sums are compared apart.)"""
+    if sentence["text"].startswith("If nothing was lost"):
+        return
     says = set().union(*(it["says"] for it in map(recording.at, sentence["rows"]) if it))
     for phrase, wanted in PHRASES:
         for found in re.finditer(phrase, sentence["text"], re.I):
@@ -377,7 +383,7 @@ def compare_plain(sentences, values, data, options):
     """What the sums are if nothing was lost, and that something was, is what `replay` prints of the rows without marks."""
     told = [it["text"] for it in sentences if it["text"].startswith("If nothing was lost")]
     lost = [it["rows"] for it in sentences if "or a device restarted unseen, for certain" in it["text"]]
-    wanted, wanted_lost = [], []
+    wanted, wanted_lost, wanted_losses = [], [], []
     is_open = {name: any(low != high for low, high in bounds(values[name])) for name in ACCOUNTS}
     if "--joined" not in options and any(is_open.values()):
         lines = [line.split(" ") for line in run(["replay", *left_out(options)], data).splitlines()]
@@ -391,8 +397,33 @@ def compare_plain(sentences, values, data, options):
                 (one, _), (other, _) = sums[name][:2]
                 rest = "the same" if one == other else amount(other, d)
                 wanted.append(f"If nothing was lost, {DID[name].format(amount(one, d))}, and the controller counted {rest}.")
+                wanted_losses += losses(name, values, d, data, options)
     want(told == wanted, f"if nothing was lost: {told}, and not {wanted}")
+    if wanted:
+        said = [(it["text"][0].lower() + it["text"][1:]).split(" only if ")[0] for it in sentences if " only if " in it["text"]]
+        marks = [count_of(words) for it in sentences for words in re.findall(r" only if (.*?)(?=;|\.$)", it["text"])]
+        want([said, marks] == [[it for it, _ in wanted_losses], [n for _, some in wanted_losses for n in some]], f"what an end takes: {said} {marks}, and not {wanted_losses}")
     want([[row.rpartition("–")[2].replace(",", "") for row in rows] for rows in lost] == wanted_lost, f"lost for certain: {lost}, and not {wanted_lost}")
+
+
+def count_of(words):
+    """How many losses the words tell of."""
+    restarts = re.search(r"restarted unseen(?: (\d+) times)?", words)
+    return sum(map(int, re.findall(r"(\d+) (?:ack|app)", words))) + (int(restarts[1] or 1) if restarts else 0)
+
+
+def losses(name, values, d, data, options):
+    """What is told of the ends of an account that take a mark: the first of each side, and how many marks each takes."""
+    found = []
+    for side, words, ends in zip(("device", "controller"), (DID[name].removesuffix(" in coins").removesuffix(" in bills"), "the controller counted {}"), bounds(values[name])):
+        if ends[0] == ends[1]:
+            continue
+        written = [run(["explain", name, side, bound, *left_out(options)], data) for bound in ("least", "greatest")]
+        marks = [len(re.findall(r"(?m)^[1-9]\d*,[LRC],-$", it)) for it in written]
+        told = sorted((n, i) for i, n in enumerate(marks) if n)
+        if told:
+            found.append((words.format(amount(ends[told[0][1]], d)), [n for n, _ in told]))
+    return found
 
 
 def compare_breaks(sentences, recording, data):

@@ -15,7 +15,8 @@ import {
   NO_PART
 } from "../import/made.js";
 import {openHead, openLead, openMoneyOf, openPart, withOpen} from "../money/open-list.js";
-import {isDiffering, isOpen} from "../money/ranges.js";
+import {isDiffering} from "../money/ranges.js";
+import {isEasilyOpen} from "../money/weights.js";
 import {asked} from "../run/asked.js";
 import {file, newest, recording} from "../run/now.js";
 import {BLAMES, capital, foundText, listed, number, REFUSED_LINE, shown, small, the} from "../texts.js";
@@ -113,10 +114,10 @@ const KEPT = "All devices kept the protocol";
 // What a yes leaves to do, in a few words; null if it leaves nothing.
 function yesHead(it) {
   const r = it.report, all = Object.entries(r.accounts);
-  const titles = (which) => listed(all.filter(([, a]) => which(a)).map(([name]) => small(ACCOUNTS[name].title)));
   const silent = DEVICES.filter((d) => r.silences[d]).map((d) => the(DEVICE_NAMES[DEVICES.indexOf(d)]));
   const differing = all.filter(([, a]) => isDiffering(a)).map(([name, a]) => differsWords(it, name, a));
-  const open = titles(isOpen);
+  const open =
+      listed(all.filter(([name, a]) => isEasilyOpen(it, name, a)).map(([name]) => small(ACCOUNTS[name].title)));
   return openHead(it) || (differing.length && `The books differ for certain: ${listed(differing)}`) ||
       (silent.length && `No answer of ${listed(silent)} for too long`) ||
       (open && `Not all of the money is certain: ${open}`) ||

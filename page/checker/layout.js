@@ -40,7 +40,8 @@ export const STRUCTURES = {
   },
   fault: {row: [8, 1], offset: [8, 1]},
   lines: {count: [8, 1], bytes: [1, 1 << 22]},
-  rise: {row: [8, 1], least: [8, 1], greatest: [8, 1], account: [1, 1], side: [1, 1]}
+  rise: {row: [8, 1], least: [8, 1], greatest: [8, 1], account: [1, 1], side: [1, 1]},
+  end: {value: [8, 1], lost: [4, 1], restarts: [4, 1], repeats: [4, 1]}
 };
 // For each structure its size, and the place of each field.
 /** @type {Record<string, Record<string, number>>} */
@@ -48,6 +49,8 @@ export const layout = {};
 // So many numbers the worker tells of a fault: its row, its place, the times of the row, the row before it and the row
 // after it, whether it is of alternative payout, and the reader of whose sale it is.
 export const FAULT_NUMBERS = 7;
+// So many ends the module weighs of a device: four of each sum, of which an account has three.
+export const WEIGHED = 24;
 // So many numbers the page gives the worker of a fault: its row, its place, whether it breaks a rule of the link, and
 // who is left out after it (a bit for each device).
 export const START_NUMBERS = 4;

@@ -1,14 +1,16 @@
 // @ts-check
 // The worker that runs the module on one recording: what the page asks for, one message after the other.
-import {FAULT_NUMBERS, layout, readerPlace, setupPlace} from "./layout.js";
+import {FAULT_NUMBERS, layout, readerPlace, setupPlace, WEIGHED} from "./layout.js";
 import {FirstAndLast, moved} from "./packed.js";
 import {
   answerText,
   at,
   call,
   check,
-  eachPiece,
+  firstActs,
   grow,
+  lastActs,
+  laterActs,
   list,
   load,
   prepare,
@@ -59,12 +61,23 @@ function sayNews(count) {
   if (count > 0) say({told: "news", news}, [news]);
 }
 
+// The last acts of a recording of which not all with news may fit; null of any other. They tell when those before them
+// needn't be looked at.
+function lastListed(kept, all) {
+  if (all <= 2 * at.room || !kept.first.isFull()) return null;
+  const last = new FirstAndLast();
+  lastActs(all, (acts) => last.add(acts, 0));
+  return last;
+}
+
 // The acts of the recording, and all news, piece by piece. One walk over the rows gives both; where there are many
 // news, further walks give the rest of them.
 function listAll() {
-  const {acts: all, news: allNews, answer, row, offset} = list(at.room, 0, at.roomNews), kept = new FirstAndLast();
+  const {acts: all, news: allNews, answer, row, offset} = list(at.room, 0, at.roomNews), kept = new FirstAndLast(all);
   sayNews(Math.min(at.roomNews, allNews));
-  eachPiece(all, 0, size, (acts) => kept.add(acts, 0));
+  kept.add(firstActs(all), 0);
+  const last = lastListed(kept, all);
+  laterActs(all, 0, size, (acts) => kept.add(acts, 0), (done) => done + at.room <= all && kept.skipTo(last, all));
   for (let got = at.roomNews; got < allNews; got += at.roomNews) {
     list(0, got, at.roomNews);
     sayNews(Math.min(at.roomNews, allNews - got));
@@ -84,6 +97,17 @@ function listRises() {
       BigInt(at.options), BigInt(at.text), BigInt(size), 0n, BigInt(at.told), BigInt(at.acts), BigInt(room));
   const all = told().news, listed = Math.min(all, room);
   return {all, listed: new Uint8Array(call.memory.buffer, at.acts, listed * wide).slice().buffer};
+}
+
+// What the ends of a device's sums rest on, in so many bytes. It lies in the place of the acts, as the rises do. Null
+// where the module doesn't say.
+function weigh(device, length) {
+  const bytes = WEIGHED * layout.end.size;
+  grow(at.acts + bytes);
+  const answer = call.mdb_page_weights(
+      BigInt(at.options), BigInt(at.text), BigInt(length), BigInt(device), BigInt(at.told), BigInt(at.acts),
+      BigInt(WEIGHED));
+  return answer === 0 ? new Uint8Array(call.memory.buffer, at.acts, bytes).slice().buffer : null;
 }
 
 // The lines about a place in the text: up to 40 before it (a whole block and more), that one, and up to 40 after it.
@@ -129,7 +153,7 @@ function judge(options) {
     most = (performance.now() - begin) * (size / FRONT);
   }
   tell("Listing", 0, most);
-  const begin = performance.now(), listing = listAll(), listed = performance.now();
+  const begin = performance.now(), {foreign, ...listing} = listAll(), listed = performance.now();
   tell("Checking", 0, most);
   const answer = check(size), end = told(), text = answer < 2 ? answerText() : "";
   const checked = performance.now();
@@ -148,8 +172,8 @@ function judge(options) {
     offset: end.offset,
     fault: end.fault,
     lines: stops ? lines(end.offset, end.row) : [],
-    orders: ordersIn(recording),
     ...listing,
+    orders: ordersIn(recording, foreign),
     // When the last row of the file began: what isn't read goes up to there.
     until: timeAt(recording, rowBefore(recording, size)),
     spoken: spokenIn(recording),
@@ -160,13 +184,14 @@ function judge(options) {
       moved(listing.acts));
 }
 
-// What is told of the ranges that an answer left open, after that answer: what opens them, and the sums if nothing was
-// lost in so many bytes.
-function lookCloser({options, answer, length}) {
+// What is told of the ranges that an answer left open, after that answer: what opens them, the sums if nothing was lost
+// in so many bytes, and what the sums of these devices rest on.
+function lookCloser({options, answer, length, devices}) {
   const begin = performance.now();
   setOptions(options);
   const replayed = replay(length), rises = answer === 0 ? listRises() : null;
-  say({told: "done", replayed, rises, ms: performance.now() - begin});
+  const weights = Object.fromEntries(devices.map((device) => [device, weigh(device, length)]));
+  say({told: "done", replayed, rises, weights, ms: performance.now() - begin});
 }
 
 // Whether the module takes one block of the options alone.

@@ -4,6 +4,7 @@ import {isValued, readerTold} from "../card/parts.js";
 import {DEVICE_NAMES, DEVICES} from "../checker/acts.js";
 import {ACCOUNTS, readReport} from "../checker/report.js";
 import {h, s, section, table} from "../elements.js";
+import {soldSums} from "../list/statement.js";
 import {capital, counted, listed, money, number, small, the} from "../texts.js";
 
 import {lacksWords} from "./open-list.js";
@@ -11,6 +12,7 @@ import {isZero, rangeWords} from "./ranges.js";
 import {remarks} from "./remarks.js";
 import {plainSums, plainWords} from "./replayed.js";
 import {hasUntold} from "./untold.js";
+import {weighedWords} from "./weights.js";
 import {whyButton} from "./why.js";
 
 // What the two books say, and whether they agree.
@@ -118,7 +120,8 @@ function rangeTable(name, a, d, isCut) {
 function accountArticle(r, name, a, d, isCut) {
   const {device, title, owner} = ACCOUNTS[name], isWide = SIDES.some((side) => !isSingle(a[side]));
   const isAgreed = !isWide && a.difference[0] === 0n, lacks = name === "paid-out" && r.lacks,
-        plain = r.plain && isWide ? [plainWords(name, r.plain[name], d)] : [];
+        weighed = isWide ? r.weighed(name, a, d) : [],
+        plain = r.plain && isWide && !weighed.length ? [plainWords(name, r.plain[name], d)] : weighed;
   const agreed = () =>
       h("p", {class: "agreed", "data-account": name}, h("strong", {class: "sum"}, money(a.device[0], d)),
         `${lacks ? "" : " for certain"}: ${small(owner)} and the controller counted the same${
@@ -133,16 +136,28 @@ function accountArticle(r, name, a, d, isCut) {
 }
 
 // An account with amounts that aren't on the bus.
-const untoldArticle = (name) =>
+const untoldArticle = (r, name) =>
     h("article", {class: "account", id: "account-" + name}, h("h3", {}, ACCOUNTS[name].title),
       h("p", {"data-untold": name}, h("strong", {}, "Amount not told: "),
-        "the reader approved FFFF, and takes the price from a list of its own. The text below counts FFFF as 65535."));
+        "the reader approved FFFF, and takes the price from a list of its own. The text below counts FFFF as 65535."),
+      besideWords(r, name));
+
+// The sum of the sales whose amount is told, as it was reported.
+function besideWords(r, name) {
+  const {device, owner} = ACCOUNTS[name], sums = name.startsWith("sold") && r.soldSums?.(DEVICES.indexOf(device));
+  if (!sums) return null;
+  const words = ({units, decimals}) => money(units, decimals ?? r.decimals[device]);
+  return h(
+      "p", {class: "beside"},
+      `The other sales, as reported: ${small(owner)} ${words(sums.device)}, the controller ${words(sums.controller)}.`);
+}
 
 // What the ranges mean.
 const RANGES = [
   "Each device counts, and the controller counts the same money for itself. “At least” and “at most” are the limits of what each may have counted.",
   "Where both limits are the same, the amount is certain, whatever was lost on the way. Where they differ, it depends on which words were received, and no recorder hears that.",
   "Use the difference as it is shown here: don't subtract the other two lines.",
+  "“Only if” names the fewest losses that lead to a limit. Others, as many or more, may lead there too.",
 ];
 const CUT_RANGES =
     "The rows end here in the middle of the traffic, perhaps between a report and its acknowledgement. The controller may then have counted that report a moment later.";
@@ -155,7 +170,7 @@ function accounts(r, isCut) {
     if (isZero(a))
       (d === null ? silent : zero).push(name);
     else {
-      moved.push(r.isUntold(name) ? untoldArticle(name) : accountArticle(r, name, a, d, isCut));
+      moved.push(r.isUntold(name) ? untoldArticle(r, name) : accountArticle(r, name, a, d, isCut));
       ranges.push(...SIDES.map((side) => a[side]));
     }
   }
@@ -195,7 +210,8 @@ function silentWords(r, silent) {
 export function moneySection(it) {
   const lacks = lacksWords(it);
   const isUntold = (name) => hasUntold(it, name);
-  const sums = {...it.report, plain: plainSums(it), lacks, isUntold};
+  const weighed = (name, a, d) => weighedWords(it, name, a, d);
+  const sums = {...it.report, plain: plainSums(it), weighed, lacks, isUntold, soldSums: (device) => soldSums(it, device)};
   return section("Where the money is", "money", ...accounts(sums, false), remarks(it));
 }
 
@@ -211,6 +227,7 @@ export function beforeSection(it) {
           {
             ...readReport(it.before),
             plain: plainSums(it),
+            weighed: (name, a, d) => weighedWords(it, name, a, d),
             lacks: lacksWords(it),
             isUntold: (name) => hasUntold(it, name)
           },

@@ -9,6 +9,7 @@ import {capital, counted, listed, money, the} from "../texts.js";
 
 import {rangeWords, widthOf} from "./ranges.js";
 import {plainStory} from "./replayed.js";
+import {isEasilyOpen, lossesWords} from "./weights.js";
 
 const ACCOUNT_NAMES = Object.keys(ACCOUNTS), RISE_SIDES = ["device", "controller"];
 // The kinds of entries that are of an account.
@@ -88,7 +89,8 @@ function readRises(buffer) {
 }
 
 function risesOf(it, name) {
-  it.risen ??= it.rises ? readRises(it.rises.listed) : [];
+  if (!it.rises) return [];
+  it.risen ??= readRises(it.rises.listed);
   return it.risen.filter(({account}) => account === name);
 }
 
@@ -108,9 +110,9 @@ function actsOf(it, name) {
 // The acts that leave an account open, each once: with the rise, the act of money up to its row, and the last one
 // before it of the same sort. A report and its acknowledgement are one.
 function openings(it, name) {
-  const acts = actsOf(it, name), made = [], latest = {};
+  const rises = risesOf(it, name), acts = rises.length ? actsOf(it, name) : [], made = [], latest = {};
   let next = 0, here = null, before = null;
-  for (const rise of risesOf(it, name)) {
+  for (const rise of rises) {
     while (next < acts.length && acts[next][0].last <= rise.row) {
       here = acts[next++];
       before = latest[SORTS[here[0].kind]] ?? null;
@@ -146,8 +148,8 @@ export function openStory(it, name, a, d) {
   }
   for (const rise of risesOf(it, name).filter(({opened}) => opened < 0n).slice(0, TOLD_ACTS))
     told.push(fact(`${money(-rise.opened, d)} of it was settled by `, rowsAt(rise.row), "."));
-  told.push(...plainStory(it, name, d), nextStep(countNext(it, name)));
-  return told;
+  told.push(...plainStory(it, name, d), ...lossesWords(it, name, a, d).map((words) => fact(words)));
+  return isEasilyOpen(it, name, a) ? [...told, nextStep(countNext(it, name))] : told;
 }
 
 /** @type {(it: Answer, name: string) => string} */

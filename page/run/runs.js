@@ -3,11 +3,13 @@
 // newest run alone, and of the file and the options that it was made with.
 import {ANSWERS} from "../checker/answers.js";
 import {module, start} from "../checker/checker.js";
+import {readReport} from "../checker/report.js";
 import {fillClock, tellClock} from "../clock.js";
 import {by} from "../elements.js";
 import {figures, showSum} from "../files/evidence.js";
 import {askToImport, recordingOf} from "../import/panel.js";
 import {beforeSection} from "../money/money.js";
+import {openDevices} from "../money/weights.js";
 import {show, showAgain} from "../show.js";
 import {shownName} from "../texts.js";
 
@@ -90,18 +92,20 @@ export async function run(given, isButton = !given) {
   }
 }
 
-// Adds to an answer with open ranges what opens them, and the sums if nothing was lost. They come after the answer.
+// Adds to an answer with open ranges what opens them, the sums if nothing was lost, and what their ends rest on. They
+// come after the answer.
 async function addCloser(it) {
   // (where the worker fails, the ranges stand without it)
   const {answer, size, offset, way: {bytes}} = it, length = answer === ANSWERS.YES ? size : offset;
-  const told = await checker.ask({closer: {options: bytes, answer, length}}).catch(() => null);
+  const devices = openDevices(answer === ANSWERS.YES ? it.report : readReport(it.before));
+  const told = await checker.ask({closer: {options: bytes, answer, length, devices}}).catch(() => null);
   if (state !== it) return;
   if (told) showCloser(it, told);
   noteShown();
 }
 
-function showCloser(it, {replayed, rises, ms}) {
-  Object.assign(it, {replayed, rises});
+function showCloser(it, {replayed, rises, weights, ms}) {
+  Object.assign(it, {replayed, rises, weights});
   it.ms.closer = ms;
   if (it.answer === ANSWERS.NO)
     by("before")?.replaceWith(beforeSection(it));

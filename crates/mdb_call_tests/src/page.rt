@@ -370,6 +370,7 @@ fn sizes_are_told(rt: HostRuntime) {
         fault: 0,
         lines: 0,
         rise: 0,
+        end: 0,
     };
     mdb_page_layout(&mut layout);
     assert_eq!(rt;
@@ -382,4 +383,5 @@ fn sizes_are_told(rt: HostRuntime) {
         (layout.fault, layout.lines, layout.rise),
         (16, 4_194_312, 32)
     );
+    assert_eq!(rt; layout.end, 24);
 }

@@ -1,6 +1,6 @@
-//! What the page's call for open ranges answers to small texts.
+//! What the page's calls for open ranges answer to small texts.
 
-use mdb_page::{PageOptions, PageRise, PageTold, mdb_page_rises};
+use mdb_page::{PageEnd, PageOptions, PageRise, PageTold, mdb_page_rises, mdb_page_weights};
 
 /// A changer that is reset, and reports its set-up and two equal coins (rows 32 to 34, and 38 to
 /// 40). It is the same coin if the first acknowledgement was lost. Then two equal payouts are
@@ -49,6 +49,15 @@ fn risen(options: &PageOptions, text: &[u8], skip: u64, rises: &mut [PageRise]) 
 fn is_opening(rise: &PageRise, row: u64, account: u8, side: u8) -> bool {
     (rise.row, rise.account, rise.side) == (row, account, side)
         && (rise.least, rise.greatest) == (0, 25)
+}
+
+/// The value of an end, its losses, and its other marks.
+fn weight(end: &PageEnd) -> (i64, u32, u64) {
+    (
+        end.value,
+        end.lost,
+        u64::from(end.restarts) + u64::from(end.repeats),
+    )
 }
 
 #[test]
@@ -124,6 +133,38 @@ fn entries_stand_for_the_rows_before_the_one_that_ends_the_reading(rt: HostRunti
         &mut rises,
     );
     assert_eq!(rt; (number, told.row, told.offset, told.news), (4, 2, 11, 0));
+}
+
+#[test]
+fn the_least_of_two_equal_coins_and_of_two_equal_payouts_takes_a_loss(rt: HostRuntime) {
+    let mut ends = [PageEnd {
+        value: 9,
+        lost: 9,
+        restarts: 9,
+        repeats: 9,
+    }; 25];
+    let (options, mut told) = (PageOptions::POWER_ON, NOTHING);
+    let number = mdb_page_weights(&options, OPEN, 1, &mut told, &mut ends);
+    assert_eq!(rt; (number, told.row), (0, 49));
+    // The changer's coins: least, greatest, first, and another.
+    assert_eq!(rt;
+        (weight(&ends[0]), weight(&ends[1])),
+        ((25, 1, 0), (50, 0, 0))
+    );
+    assert_eq!(rt;
+        (weight(&ends[2]), weight(&ends[3])),
+        ((50, 0, 0), (25, 1, 0))
+    );
+    // The controller's payouts.
+    assert_eq!(rt;
+        (weight(&ends[16]), weight(&ends[17])),
+        ((25, 1, 0), (50, 0, 0))
+    );
+    assert_eq!(rt; weight(&ends[24]), (9, 9, 18));
+    assert_eq!(rt;
+        mdb_page_weights(&options, OPEN, 5, &mut told, &mut ends),
+        5
+    );
 }
 
 #[test]

@@ -384,9 +384,10 @@ module _ (scope : Scope) (setups : Setups) where
       → (event : Event) (middle : List Event) → piece_events piece ≡ event ∷ middle ++ end
       → Cutting front end (piece ∷ pieces)
   cut_inside front end piece pieces are whole event middle is =
-      let words = foreign_end middle end (words_inside scope piece pieces are event middle end is) in
-      let late = rw (inside_others scope piece pieces are event middle end is) at (late_others profile
-      are.1.first are.1.others (rw are.1.begins at are.0.spaced)) in
+      let words = foreign_end middle end
+      (words_inside scope piece pieces are event middle end is) in
+      let late = rw (inside_others scope piece pieces are event middle end is) at
+      (late_others profile are.1.first are.1.others (rw are.1.begins at are.0.spaced)) in
       record {
         later = [];
         words = end;

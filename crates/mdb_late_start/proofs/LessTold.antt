@@ -101,13 +101,14 @@ or_less (Some level) one other less = refl
 
 -- so less known of both stays so with an act
 known_by : (profile : Profile) → StaysBy profile IsLessKnown
-known_by profile (acts.Ask (commands.Reader First (readers.SetupConfig level columns rows display)))
-    one other less =
+known_by profile (acts.Ask (commands.Reader First (readers.SetupConfig level _ _ _))) one other
+    less =
     record { first = record { asked = refl; told = less.first.told }; second = less.second }
-known_by profile (acts.Ask (commands.Reader Second (readers.SetupConfig level columns rows display)))
-    one other less =
+known_by profile (acts.Ask (commands.Reader Second (readers.SetupConfig level _ _ _))) one other
+    less =
     record { first = less.first; second = record { asked = refl; told = less.second.told } }
-known_by Extended (acts.Reply (commands.Reader First command) (replies.Reader list)) one other less =
+known_by Extended (acts.Reply (commands.Reader First command) (replies.Reader list)) one other
+    less =
     let now = last_level list.messages in
     let told = or_less now one.first.told other.first.told less.first.told in
     record { first = record { asked = less.first.asked; told = told }; second = less.second }

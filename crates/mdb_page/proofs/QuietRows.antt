@@ -63,8 +63,9 @@ stays scope laws rows row report is ended =
         act_list = ended.act_list;
         accounts = is.accounts;
         of_runs = λ account. account-moves (Run scope rows) (sums_of account)
-            (Run scope (rows ++ row ∷ [])) (sums_of account) (λ sums run. (sums, there sums run, refl))
-            (λ sums run. (sums, back sums run, refl)) _ (is.of_runs account);
+            (Run scope (rows ++ row ∷ [])) (sums_of account)
+            (λ sums run. (sums, there sums run, refl)) (λ sums run. (sums, back sums run, refl)) _
+            (is.of_runs account);
         telling = refl;
       },
       sym (ap (λ it. it.accounts) is.telling),

@@ -166,7 +166,8 @@ module _ (rows : List Event) (last : Stretch) (rest : List ℕ) (row fault : ℕ
         number = ends.1 ∙ counted;
         few = rw ends.1 stops.1;
         is = ends.0.is ∙ ap (λ s. stretch_text last ++ summary_text s) is;
-      }) (λ none. ends.0.faultless (all ∙ none)) (λ some. ends.0.faulty (λ none. some (sym all ∙ none)))
+      }) (λ none. ends.0.faultless (all ∙ none))
+      (λ some. ends.0.faulty (λ none. some (sym all ∙ none)))
   ends_so (Line (BadRow why)) ended summary count counted is stops ends = rw ends.3 (no_row why
       (record { number = ends.1 ∙ ap (λ n. n + 1) counted; is = ends.0 })
       (omega (arith, ends.1, stops.1)) stops.0 ends.2)

@@ -6,6 +6,7 @@ use crate::faults::PageFault;
 use crate::news::PageNews;
 use crate::options::{PageOptions, PageReader, PageSetup};
 use crate::rises::PageRise;
+use crate::scale::PageEnd;
 use crate::sheet::{PageLines, PageText};
 use std::mem::size_of;
 
@@ -33,6 +34,8 @@ pub struct PageLayout {
     pub lines: u64,
     /// That of `PageRise`.
     pub rise: u64,
+    /// That of `PageEnd`.
+    pub end: u64,
 }
 
 /// Tells the sizes of the structures of the calls.
@@ -49,5 +52,6 @@ pub extern "C" fn mdb_page_layout(layout: &mut PageLayout) {
         fault: size_of::<PageFault>() as u64,
         lines: size_of::<PageLines>() as u64,
         rise: size_of::<PageRise>() as u64,
+        end: size_of::<PageEnd>() as u64,
     };
 }

@@ -5,8 +5,8 @@
 //! nothing was lost. [`mdb_page_list`] puts there the acts, and the news: what the
 //! acts report of money, sales, resets, breaks and silences. [`mdb_page_survey`] puts there the
 //! lines of a survey and the places of its faults. [`mdb_page_rises`] puts there the rows by which
-//! a sum becomes uncertain, or certain again. [`mdb_page_layout`] has the sizes of what is put
-//! there.
+//! a sum becomes uncertain, or certain again. [`mdb_page_weights`] puts there how many marks the
+//! ends of the sums rest on. [`mdb_page_layout`] has the sizes of what is put there.
 //! The crate allocates nothing. Each call reads the whole text, and keeps nothing for the
 //! next call. Rows are numbered from 1, and times are in microseconds.
 #![tactic(auto)]
@@ -21,10 +21,12 @@ mod news;
 mod options;
 mod rises;
 mod rows;
+mod scale;
 mod sheet;
 mod survey;
 mod walk;
 mod watch;
+mod weights;
 mod worth;
 
 pub use acts::PageAct;
@@ -34,6 +36,8 @@ pub use layout::{PageLayout, mdb_page_layout};
 pub use news::PageNews;
 pub use options::{PageOptions, PageReader, PageSetup};
 pub use rises::{PageRise, mdb_page_rises};
+pub use scale::PageEnd;
 pub use sheet::{PageLines, PageText};
 pub use survey::mdb_page_survey;
 pub use walk::mdb_page_list;
+pub use weights::mdb_page_weights;

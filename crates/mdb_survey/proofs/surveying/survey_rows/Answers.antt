@@ -31,11 +31,10 @@ returns-in-Ok-None-clause-surveys g c all to_come =
     let now = output (g.W.Write.contents c.read_rows.new.out) taker.printer.page in
     let law = none_are_reached c.followers_stand_for_reached_rows.ensures
     c.fronts_of_reached_rows_are_reached.ensures in
-    subst (Told all (found_by c.read_rows.new.records - found_by c.args.records.now) before (output (g.W.Write.contents c.end.new.writer) c.end.new.self.printer.page)
-    c.end.result) c.read_rows.ensures.keeps
-    (surveyings.whole form taker.scope all taker.surveyor before now
-    (found_by c.read_rows.new.records - found_by c.args.records.now)
-    (output (g.W.Write.contents c.end.new.writer) c.end.new.self.printer.page)
+    let read = found_by c.read_rows.new.records - found_by c.args.records.now in
+    let later = output (g.W.Write.contents c.end.new.writer) c.end.new.self.printer.page in
+    subst (Told all read before later c.end.result) c.read_rows.ensures.keeps
+    (surveyings.whole form taker.scope all taker.surveyor before now read later
     (rw c.in-Ok-None.field-0-is at (c.in-Ok-None.ensures.ended all to_come)) law c.end.result
     c.end.ensures)
 
@@ -45,11 +44,10 @@ returns-in-Ok-Some-clause-surveys g c all to_come =
     let form = survey_lines_in taker.form (profile_of taker.scope.begins) in
     let before = begun (g.W.Write.contents c.args.writer.now) in
     let now = output (g.W.Write.contents c.read_rows.new.out) taker.printer.page in
-    subst (Told all (found_by c.read_rows.new.records - found_by c.args.records.now) before now
-    (Err c.in-Ok-Some.fault)) c.read_rows.ensures.keeps
-    (surveyings.lines_untaken form taker.scope all
-    (found_by c.read_rows.new.records - found_by c.args.records.now) before now c.in-Ok-Some.fault
-    (rw c.in-Ok-Some.field-0-is at (c.in-Ok-Some.ensures.ended all to_come)))
+    let read = found_by c.read_rows.new.records - found_by c.args.records.now in
+    subst (Told all read before now (Err c.in-Ok-Some.fault)) c.read_rows.ensures.keeps
+    (surveyings.lines_untaken form taker.scope all read before now
+    c.in-Ok-Some.fault (rw c.in-Ok-Some.field-0-is at (c.in-Ok-Some.ensures.ended all to_come)))
 
 pub returns-in_ok-stop-in-Err-clause-surveys : goal.returns-in_ok-stop-in-Err-clause-surveys
 returns-in_ok-stop-in-Err-clause-surveys g c all to_come =
@@ -57,12 +55,12 @@ returns-in_ok-stop-in-Err-clause-surveys g c all to_come =
     let form = survey_lines_in taker.form (profile_of taker.scope.begins) in
     let before = begun (g.W.Write.contents c.args.writer.now) in
     let now = output (g.W.Write.contents c.read_rows.new.out) taker.printer.page in
-    subst (Told all (found_by c.read_rows.new.records - found_by c.args.records.now) before (output (g.W.Write.contents c.stop.new.writer) c.stop.new.self.printer.page)
-    (Err c.in-Err.fault)) c.read_rows.ensures.keeps
+    let read = found_by c.read_rows.new.records - found_by c.args.records.now in
+    let later = output (g.W.Write.contents c.stop.new.writer) c.stop.new.self.printer.page in
+    subst (Told all read before later (Err c.in-Err.fault)) c.read_rows.ensures.keeps
     (surveyings.told_with_last form taker.scope all taker.surveyor before now
     (found_by c.args.records.now) (found_by c.read_rows.new.records) c.in-Err.fault (search rules)
-    (c.in-Err.ensures.ended all to_come) c.in-Err.ensures.counted
-    (output (g.W.Write.contents c.stop.new.writer) c.stop.new.self.printer.page)
+    (c.in-Err.ensures.ended all to_come) c.in-Err.ensures.counted later
     c.in_ok-stop-in-Err.field-0 c.in_ok-stop-in-Err.ensures)
 
 pub returns-in_err-stop-in-Err-clause-surveys : goal.returns-in_err-stop-in-Err-clause-surveys
@@ -75,8 +73,7 @@ returns-in_err-stop-in-Err-clause-surveys g c all to_come =
     let read = found_by c.read_rows.new.records - found_by c.args.records.now in
     let law = none_are_reached c.followers_stand_for_reached_rows.ensures
     c.fronts_of_reached_rows_are_reached.ensures in
-    subst (Told all (found_by c.read_rows.new.records - found_by c.args.records.now) before later
-    c.from_residual.result) c.read_rows.ensures.keeps
+    subst (Told all read before later c.from_residual.result) c.read_rows.ensures.keeps
     (handed_on (PutsSurveying form taker.scope all read before later) c.in_err-stop-in-Err.field-0.0
     (surveyings.last_refused form taker.scope all taker.surveyor before now
     (found_by c.args.records.now) (found_by c.read_rows.new.records) c.in-Err.fault (search rules)
@@ -92,11 +89,10 @@ returns-else-ne-clause-surveys g c all to_come =
     let now = output (g.W.Write.contents c.read_rows.new.out) taker.printer.page in
     let law = none_are_reached c.followers_stand_for_reached_rows.ensures
     c.fronts_of_reached_rows_are_reached.ensures in
-    subst (Told all (found_by c.read_rows.new.records - found_by c.args.records.now) before now
-    (Err c.in-Err.fault)) c.read_rows.ensures.keeps
-    (surveyings.out_of_memory form taker.scope all taker.surveyor before now law
-    (found_by c.read_rows.new.records - found_by c.args.records.now) c.in-Err.fault (search rules)
-    (c.in-Err.ensures.ended all to_come))
+    let read = found_by c.read_rows.new.records - found_by c.args.records.now in
+    subst (Told all read before now (Err c.in-Err.fault)) c.read_rows.ensures.keeps
+    (surveyings.out_of_memory form taker.scope all taker.surveyor before now law read
+    c.in-Err.fault (search rules) (c.in-Err.ensures.ended all to_come))
 
 pub returns-in-Ok-None-clause-reads : goal.returns-in-Ok-None-clause-reads
 returns-in-Ok-None-clause-reads g c =

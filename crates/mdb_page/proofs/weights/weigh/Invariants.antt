@@ -1,0 +1,5 @@
+use Rattle.std.proofs.Common.{length}
+use Rattle.mdb_page.proofs.weights.weigh.Given as goal
+
+abbrev pub decreases-loop-scale : goal.decreases-loop-scale
+decreases-loop-scale g l = length l.rest
