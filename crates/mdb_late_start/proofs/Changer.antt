@@ -24,46 +24,6 @@ Fits (CashBox coin) = coin < 16
 Fits (Tube coin) = coin < 16
 Fits (Dispensed count coin) = Unit {0}
 
--- what an ask or an ACK comes to is the same where the setup table is, and where it is no DISPENSE
-same_asked : (known : KnownFacts) (facts : Facts) (coins : ℕ) (gains_of : ℕ → Gains)
-    → (known.setup ≡ facts.setup) ⊎ (asks_coins (changer.Dispense coins) ≡ false)
-    → gains_of (dispensed_value known.setup coins) ≡ gains_of (dispensed_value facts.setup coins)
-same_asked known facts coins gains_of (inl same) =
-    ap (λ setup. gains_of (dispensed_value setup coins)) same
-same_asked known facts coins gains_of (inr none) = absurd cc
-
--- what the controller asks it may ask in the end
-asks : (known : KnownFacts) (facts : Facts) (command : ChangerCommand)
-    (before after : ChangerState) (gains : Gains) → AskStep facts command before after gains
-    → AlsoSteps (AskStep (in_end known facts) command before after)
-    ((known.setup ≡ facts.setup) ⊎ (asks_coins command ≡ false)) gains
-asks known facts (changer.Dispense coins) before after gains step =
-    let again = before.dispense_owed && is_last facts.last_asked coins in
-    record {
-      other = if again then no_gains
-          else controller_gains (in_slots (0 ∷ dispensed_value known.setup coins ∷ []));
-      step = (step.0, refl);
-      same = λ is. same_asked known facts coins
-          (λ value. if again then no_gains else controller_gains (in_slots (0 ∷ value ∷ []))) is
-          ∙ sym step.1;
-    }
-asks known facts _ before after gains step = as_it_is step
-
--- and so with what the changer takes
-acks : (known : KnownFacts) (facts : Facts) (command : ChangerCommand) (choice : Choice)
-    (before after : ChangerState) (gains : Gains)
-    → TakeStep facts command choice before after gains
-    → AlsoSteps (TakeStep (in_end known facts) command choice before after)
-    ((known.setup ≡ facts.setup) ⊎ (asks_coins command ≡ false)) gains
-acks known facts (changer.Dispense coins) choice before after gains step = record {
-  other = device_gains (in_slots (0 ∷ dispensed_value known.setup coins ∷ []));
-  step = (step.0, refl);
-  same = λ is. same_asked known facts coins (λ value. device_gains (in_slots (0 ∷ value ∷ []))) is
-      ∙ sym step.1;
-}
-acks known facts changer.Reset choice before after gains step = as_it_is step
-acks known facts _ choice before after gains step = as_it_is step
-
 -- what is kept of the messages of a reply that may answer a command
 kept_fit : (items : List ChangerMsg) → AllByRecursion IsChangerMsg items
     → AllByRecursion Fits (kept_of (map part_of items))
@@ -79,15 +39,57 @@ fits : (command : Command) (reply : Reply) → IsReply command reply
 fits command (replies.ChangerPoll list) is = kept_fit list.items is.answers.fields
 fits command _ is = tt
 
--- new deposits may be told in the end
-may_be_new : (known : KnownFacts) (facts : Facts) (news : List ChangerActivity)
-    → IsEnabledIn known facts → AllByRecursion Fits news → AllByRecursion (MayBeNew facts) news
-    → AllByRecursion (MayBeNew (in_end known facts)) news
-may_be_new known facts [] enabled fit may = tt
-may_be_new known facts (Dispensed count coin ∷ news) enabled fit may =
-    (tt, may_be_new known facts news enabled fit.1 may.1)
-may_be_new known facts (deposit ∷ news) enabled fit may =
-    (enabled _ fit.0 may.0, may_be_new known facts news enabled fit.1 may.1)
+module _ (known : KnownFacts) (facts : Facts) where
+  -- the setup table is the same, or a command is no DISPENSE
+  abbrev IsSame : ChangerCommand → Type 0
+  IsSame command = (known.setup ≡ facts.setup) ⊎ (asks_coins command ≡ false)
+
+  -- so what an ask or an ACK comes to is the same
+  same_asked : (coins : ℕ) (gains_of : ℕ → Gains) → IsSame (changer.Dispense coins)
+      → gains_of (dispensed_value known.setup coins)
+      ≡ gains_of (dispensed_value facts.setup coins)
+  same_asked coins gains_of (inl same) =
+      ap (λ setup. gains_of (dispensed_value setup coins)) same
+  same_asked coins gains_of (inr none) = absurd cc
+
+  module _ (before after : ChangerState) (gains : Gains) where
+    -- what the controller asks it may ask in the end
+    ask_in_end : (command : ChangerCommand) → AskStep facts command before after gains
+        → AlsoSteps (AskStep (in_end known facts) command before after) (IsSame command) gains
+    ask_in_end (changer.Dispense coins) step =
+        let again = before.dispense_owed && is_last facts.last_asked coins in
+        record {
+          other = if again then no_gains
+              else controller_gains (in_slots (0 ∷ dispensed_value known.setup coins ∷ []));
+          step = (step.0, refl);
+          same = λ is. same_asked coins
+              (λ value. if again then no_gains else controller_gains (in_slots (0 ∷ value ∷ [])))
+              is ∙ sym step.1;
+        }
+    ask_in_end _ step = as_it_is step
+
+    -- and so with what the changer takes
+    ack_in_end : (command : ChangerCommand) (choice : Choice)
+        → TakeStep facts command choice before after gains
+        → AlsoSteps (TakeStep (in_end known facts) command choice before after) (IsSame command)
+        gains
+    ack_in_end (changer.Dispense coins) choice step = record {
+      other = device_gains (in_slots (0 ∷ dispensed_value known.setup coins ∷ []));
+      step = (step.0, refl);
+      same = λ is. same_asked coins (λ value. device_gains (in_slots (0 ∷ value ∷ []))) is
+          ∙ sym step.1;
+    }
+    ack_in_end changer.Reset choice step = as_it_is step
+    ack_in_end _ choice step = as_it_is step
+
+  -- new deposits may be told in the end
+  may_be_new : IsEnabledIn known facts → (news : List ChangerActivity) → AllByRecursion Fits news
+      → AllByRecursion (MayBeNew facts) news → AllByRecursion (MayBeNew (in_end known facts)) news
+  may_be_new enabled [] fit may = tt
+  may_be_new enabled (Dispensed count coin ∷ news) fit may =
+      (tt, may_be_new enabled news fit.1 may.1)
+  may_be_new enabled (deposit ∷ news) fit may =
+      (enabled _ fit.0 may.0, may_be_new enabled news fit.1 may.1)
 
 -- it holds no messages by what is asked that it didn't hold before
 ask_holds : (facts : Facts) (command : ChangerCommand) (before after : ChangerState)
@@ -108,11 +110,13 @@ ack_holds facts _ choice before after gains step is = rw step.0 at is
 -- all that is so of its conduct
 steady : IsSteady tables conduct Fits
 steady = record {
-  asks = asks;
-  acks = acks;
+  asks = λ known facts command before after gains.
+      ask_in_end known facts before after gains command;
+  acks = λ known facts command choice before after gains.
+      ack_in_end known facts before after gains command choice;
   fits = fits;
   tells_news = λ known facts choice news before after enabled fit step.
-      (may_be_new known facts news enabled fit step.0, step.1);
+      (may_be_new known facts enabled news fit step.0, step.1);
   gain = λ one other same. ap (λ setup slot message. in_slots
       (deposited setup message ∷ paid_by_hand setup message ∷ []) slot) same;
   no_gain = λ facts slot message none. absurd cc;

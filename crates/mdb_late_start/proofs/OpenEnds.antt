@@ -326,11 +326,7 @@ module _ (scope : Scope) (setups : Setups) where
         let Known : List Piece → Type 0 = λ ps. IsLessKnown (levels_here here) (levels_there ps) in
         let parts = all ∙ ap (λ es. es ++ others) (sym cut.whole ∙ rows_begin cut.later cut.words)
         ∙ append_assoc cut.words (events_of cut.later) others in
-        let some : cut.later ≢ [] = λ none. cc (
-          ap (λ ps. position_of new (alone ps cut.words)) none,
-          foreign_position new cut.words [] refl,
-          at,
-        ) in
+        let some : cut.later ≢ [] = λ none. cc (foreign_position new cut.words [] refl, at) in
         subst Known (sym cut.order)
         (less_known profile (levels_before new) (levels_before scope) cut.later cut.words cut.before
         (tells cut.words (events_of cut.later ++ others) cut.before parts

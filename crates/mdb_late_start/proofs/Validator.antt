@@ -23,36 +23,25 @@ all_fit : (kept : List BillActivity) → AllByRecursion Fits kept
 all_fit [] = tt
 all_fit (message ∷ kept) = (tt, all_fit kept)
 
--- a type that is enabled is so in the end
-type_enabled : (known : KnownFacts) (facts : Facts) (type : BillType) (number : ℕ)
-    → IsEnabledIn known facts → type.number ≡ number → facts.enabled number ≡ true
-    → known.enabled number ≡ true
-type_enabled known facts type number enabled is on =
-    enabled number (rw is at type.few) on
+module _ (known : KnownFacts) (facts : Facts) (enabled : IsEnabledIn known facts) where
+  -- a type that is enabled is so in the end
+  type_enabled : (type : BillType) (number : ℕ) → type.number ≡ number
+      → facts.enabled number ≡ true → known.enabled number ≡ true
+  type_enabled type number is on = enabled number (rw is at type.few) on
 
--- bills may move in the end
-moves_in_end : (known : KnownFacts) (facts : Facts) (message : BillActivity)
-    (before after : Escrow) → IsEnabledIn known facts → MovesBill facts message before after
-    → MovesBill (in_end known facts) message before after
-moves_in_end known facts (activity.Returned number) before after enabled moves = moves
-moves_in_end known facts message before after enabled moves = (
-  moves.0,
-  moves.1,
-  type_enabled known facts moves.0 _ enabled moves.1 moves.2,
-  moves.3,
-  moves.4,
-)
+  -- bills may move in the end
+  moves_in_end : (message : BillActivity) (before after : Escrow)
+      → MovesBill facts message before after → MovesBill (in_end known facts) message before after
+  moves_in_end (activity.Returned number) before after moves = moves
+  moves_in_end message before after moves =
+      (moves.0, moves.1, type_enabled moves.0 _ moves.1 moves.2, moves.3, moves.4)
 
--- and so with bills in order
-all_move : (known : KnownFacts) (facts : Facts) (news : List BillActivity)
-    (before after : Escrow) → IsEnabledIn known facts → MovesBills facts news before after
-    → MovesBills (in_end known facts) news before after
-all_move known facts [] before after enabled move = move
-all_move known facts (message ∷ news) before after enabled move = (
-  move.0,
-  moves_in_end known facts message before move.0 enabled move.1,
-  all_move known facts news move.0 after enabled move.2,
-)
+  -- and so with bills in order
+  all_move : (news : List BillActivity) (before after : Escrow)
+      → MovesBills facts news before after → MovesBills (in_end known facts) news before after
+  all_move [] before after move = move
+  all_move (message ∷ news) before after move =
+      (move.0, moves_in_end message before move.0 move.1, all_move news move.0 after move.2)
 
 -- what tells of no bill that was stacked adds nothing
 no_bill : (facts : Facts) (slot : ℕ) (message : BillActivity) → is_stacked message ≡ false
@@ -78,7 +67,7 @@ steady = record {
   acks = λ known facts command choice before after gains step. as_it_is step;
   fits = λ command reply is. all_fit (kept_of (tables.parts_of reply));
   tells_news = λ known facts choice news before after enabled fit step.
-      (all_move known facts news _ after.escrow enabled step.0, step.1);
+      (all_move known facts enabled news _ after.escrow step.0, step.1);
   gain = λ one other same.
       ap (λ setup slot message. in_slots (stacked setup message ∷ []) slot) same;
   no_gain = no_bill;

@@ -101,6 +101,7 @@ pub fn act_lists_from_power_on_are_joined_ones()
 
 /// Every step of the changer from power-on is allowed in a recording that begins while it was
 /// running, by any profile.
+#[tactic(auto, using(crate::proofs::Changer::changer_stays))]
 pub fn the_changer_stays_in_mid_session()
     ensures { (begins : Beginning) (setups : Setups)
         → MayJoinLate begins setups devices.Changer }
@@ -108,6 +109,7 @@ pub fn the_changer_stays_in_mid_session()
 
 /// Every step of the validator from power-on is allowed in a recording that begins while it was
 /// running, by any profile.
+#[tactic(auto, using(crate::proofs::Validator::validator_stays))]
 pub fn the_validator_stays_in_mid_session()
     ensures { (begins : Beginning) (setups : Setups)
         → MayJoinLate begins setups devices.Bill }
@@ -115,6 +117,7 @@ pub fn the_validator_stays_in_mid_session()
 
 /// Every step of a reader from power-on is allowed in a recording that begins while it was running,
 /// by any profile, whatever is told of its levels.
+#[tactic(auto, using(crate::proofs::Readers::stays))]
 pub fn a_reader_stays_in_mid_session()
     ensures { (begins : Beginning) (setups : Setups) (unit : ReaderUnit)
         → MayJoinLate begins setups (devices.Reader unit) }
@@ -175,6 +178,7 @@ pub fn ends_are_reached_with_the_levels_told_in_front()
 }
 
 /// If the end of rows begins anew, each run of the rows passes the end of the rows before it.
+#[tactic(auto, using(crate::proofs::EndRuns::passes_front))]
 pub fn runs_pass_where_an_end_begins_anew()
     ensures { (scope : Scope) (front end : List Event) (sums : AllSums)
         (run : Run scope (front ++ end) sums) → BeginAnew end

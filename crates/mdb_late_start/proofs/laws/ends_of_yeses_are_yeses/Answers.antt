@@ -1,3 +1,4 @@
+-- A no would name a row that is reached.
 use Rattle.mdb_late_start.specs.Cuts.{joined_with}
 use Rattle.mdb_late_start.proofs.EndVerdicts.{end_says_yes}
 use Rattle.mdb_late_start.proofs.laws.ends_of_yeses_are_yeses.Goals as goal

@@ -1,3 +1,4 @@
+-- A no is one of the link, and by `Profile`.
 use Rattle.mdb_late_start.proofs.EndVerdicts.{end_says_yes_or_profile}
 use Rattle.mdb_late_start.proofs.laws.ends_of_yeses_are_yeses_or_end_at_profile.Goals as goal
 

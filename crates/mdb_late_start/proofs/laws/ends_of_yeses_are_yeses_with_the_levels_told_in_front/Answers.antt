@@ -1,3 +1,4 @@
+-- So too with the levels told.
 use Rattle.mdb_late_start.specs.Told.{told_later}
 use Rattle.mdb_late_start.proofs.EndVerdicts.{end_says_yes}
 use Rattle.mdb_late_start.proofs.laws.ends_of_yeses_are_yeses_with_the_levels_told_in_front.Goals as goal

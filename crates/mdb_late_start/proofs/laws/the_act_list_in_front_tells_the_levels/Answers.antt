@@ -1,3 +1,4 @@
+-- The act list of the rows in front is that of the cut.
 use Rattle.mdb_late_start.proofs.ToldCuts.{told_anew}
 use Rattle.mdb_late_start.proofs.laws.the_act_list_in_front_tells_the_levels.Goals as goal
 
