@@ -64,19 +64,14 @@ abbrev IsPast : ℕ → ℕ × Mark → Type 0
 IsPast row mark = row < mark.0
 
 -- marks fall in one way into those up to a row and those past it
-no_both : (row : ℕ) (mark : ℕ × Mark) (marks more : Marks) → All (IsUpTo row) (mark ∷ marks)
-    → All (IsPast row) (mark ∷ more) → ⊥
-no_both row mark marks more low high =
-    omega (arith, All-head (IsUpTo row) mark marks low, All-head (IsPast row) mark more high)
-
 parted : (row : ℕ) (front back start rest : Marks) → front ++ back ≡ start ++ rest
     → All (IsUpTo row) front → All (IsPast row) back → All (IsUpTo row) start
     → All (IsPast row) rest → (front ≡ start) × (back ≡ rest)
 parted row [] back [] rest same low high least most = (refl, same)
 parted row [] back (mark ∷ start) rest same low high least most =
-    absurd (no_both row mark start (start ++ rest) least (rw same at high))
+    absurd (omega (arith, least 0 mark (omega arith), (rw same at high) 0 mark (omega arith)))
 parted row (mark ∷ front) back [] rest same low high least most =
-    absurd (no_both row mark front (front ++ back) low (rw (sym same) at most))
+    absurd (omega (arith, low 0 mark (omega arith), (rw (sym same) at most) 0 mark (omega arith)))
 parted row (mark ∷ front) back (next ∷ start) rest same low high least most =
     let others = parted row front back start rest (cc same) (All-tail (IsUpTo row) mark front low)
     high (All-tail (IsUpTo row) next start least) most in
@@ -257,8 +252,8 @@ abbrev stop_answer : Result Offence MarkedFault → Answer
 stop_answer (Ok offence) = Ok (No offence)
 stop_answer (Err fault) = Err fault
 
--- A record is taken, or the reading stops at it: it is refused, or one too many; or it is a mark
--- row with which the marks don't rise, or a row that cannot be with its mark.
+-- A record is taken, or the reading stops at it. Then it is refused, or it is one too many. Or it
+-- is faulty: a mark row with which the marks don't rise, or a row that cannot be with its mark.
 data Way : Type 0 where
   Taken : Way
   Refused : Way
@@ -275,7 +270,8 @@ module _ (scope : Scope) (laws : ReplayLaws scope) (limit : ℕ) where
       (with_mark (length part.rows + 1) (mark_of part) part.passed)
 
   module _ (part : InputPart) (fields : Fields) where
-    -- what is answered at a record that is taken for a mark row: nothing, where it is taken
+    -- What is answered at a record with the fields of a mark row. At one that is taken it is
+    -- nothing.
     abbrev MarkNext : Option Answer → Way → Type 0
     MarkNext answer Taken = (mark : ℕ × Mark) × IsMarkRow fields mark × (part.rows ≡ [])
         × (length (all_marks part) < limit) × RiseAbove 0 (all_marks part ++ mark ∷ [])
@@ -287,7 +283,7 @@ module _ (scope : Scope) (laws : ReplayLaws scope) (limit : ℕ) where
     MarkNext answer Faulty =
         (row : ℕ) × DoesNotRise limit part fields row × (answer ≡ Some (Err (marked.Mark row)))
 
-    -- and at another one
+    -- The same of a record with other fields.
     abbrev RowNext : Option Answer → Way → Type 0
     RowNext answer Taken = (event : Event) × IsRow fields event × (length part.rows < limit)
         × HasRun part event × (answer ≡ None)
@@ -300,6 +296,7 @@ module _ (scope : Scope) (laws : ReplayLaws scope) (limit : ℕ) where
         × IsReplayFault scope part.rows part.passed event (mark_of part) fault
         × (answer ≡ Some (as_answer fault))
 
+    -- The same of any record.
     abbrev Next : Option Answer → Type 0
     Next answer = (IsForMark fields × (way : Way) × MarkNext answer way)
         ⊎ ((IsForMark fields → ⊥) × (way : Way) × RowNext answer way)
@@ -328,7 +325,7 @@ module _ (scope : Scope) (laws : ReplayLaws scope) (limit : ℕ) where
     )
     stop_of (Err (marked.Run fault)) is own = absurd own
 
-    -- there is one answer
+    -- Two ways of a record with the fields of a mark row have one answer.
     one_mark : (a b : Option Answer) (way other : Way) → MarkNext a way → MarkNext b other
         → a ≡ b
     one_mark a b Refused Refused p q =
@@ -341,12 +338,14 @@ module _ (scope : Scope) (laws : ReplayLaws scope) (limit : ℕ) where
         (q.0, q.1.mark) p.1 q.1.is_row q.1.before)
     one_mark a b way other p q = grind (arith, common_steps)
 
+    -- a faulty row has no run
     not_reached : (event : Event) (fault : ReplayFault)
         → IsReplayFault scope part.rows part.passed event (mark_of part) fault
         → HasRun part event → ⊥
     not_reached event (faults.Offence offence) is = is.not_reached
     not_reached event (faults.Mark row) is = is.not_reached
 
+    -- So have two ways of any other record.
     one_row : (a b : Option Answer) (way other : Way) → RowNext a way → RowNext b other → a ≡ b
     one_row a b Taken Taken p q = cc (p.4, q.4)
     one_row a b Refused Refused p q = cc (p.3, q.3, one_refusal fields p.0 q.0 p.1 q.1)
@@ -380,16 +379,14 @@ module _ (scope : Scope) (laws : ReplayLaws scope) (limit : ℕ) where
       let row : ℕ = length part.rows in
       let count : length (part.rows ++ event ∷ []) ≡ row + 1 =
       length-append part.rows (event ∷ []) in
-      let split : longer.rows ≡ (part.rows ++ event ∷ []) ++ more =
-      rows ∙ sym (append_assoc part.rows (event ∷ []) more) in
       let many : length longer.rows ≡ row + 1 + length more =
       omega (arith, ap length rows, length-append part.rows (event ∷ more)) in
       let cut = laws.fronts (part.rows ++ event ∷ []) more longer.passed
-      (rw split at may.reached) in
+      (rw (rows, ← append_assoc part.rows (event ∷ []) more) at may.reached) in
       let next = later_marks row part.later (mark_of part) refl can.beyond in
       let with_it : Marks = with_mark (row + 1) (mark_of part) part.passed in
       let whole : cut.front ++ (cut.back ++ longer.later) ≡ with_it ++ next.rest =
-      rw (sym (append_assoc cut.front cut.back longer.later), sym cut.are)
+      rw (← append_assoc cut.front cut.back longer.later, ← cut.are)
       (marks ∙ next.are part.passed) in
       let same = parted (row + 1) cut.front (cut.back ++ longer.later) with_it next.rest whole
       (rw count at cut.within)

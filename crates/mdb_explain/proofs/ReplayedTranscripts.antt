@@ -1,6 +1,6 @@
 -- The transcript of an input that is replayed with a yes is one for which `check` says yes.
 use Rattle.mdb_explain.proofs.Words
-use Words.{arith, refl, ap, sym, ◌∙◌, ◌≡◌, ℕ, List, [], ◌∷◌, ◌++◌, length, length-append}
+use Words.{arith, refl, ap, ◌∙◌, ◌≡◌, ℕ, List, [], ◌∷◌, ◌++◌, length, length-append}
 use Words.{append_assoc, inl, inr, Result, Ok, Err, append-nil, take_all, Event, IsRow, Scope}
 use Words.{Report, Outcome, Yes, No, RunFault, HaveRun, IsAnswer, IsOwnAnswer, LeadUpTo, AreRows}
 use Rattle.mdb_follow.specs.Runs.{IsReached}
@@ -54,15 +54,15 @@ module _ (scope : Scope) (limit : ℕ) (records : List (List (List ℕ))) (repor
   reached_after : FrontsAreReached scope → (rows : List Event) (fields : List (List ℕ))
       (event : Event) → RowAfter replayed.rows rows fields → IsRow fields event
       → IsReached scope (rows ++ event ∷ [])
-  reached_after fronts rows fields event after told =
-      let split : replayed.rows ≡ (rows ++ event ∷ []) ++ after.more =
-      after.split ∙ (ap (λ e. rows ++ e ∷ after.more)
-      (row_one fields after.event event after.told told)
-      ∙ sym (append_assoc rows (event ∷ []) after.more)) in
+  reached_after fronts rows fields event next told =
       let all : IsReached scope replayed.rows = (replayed.is.sums, replayed.is.reached.run) in
-      fronts (rows ++ event ∷ []) after.more (rw split at all)
+      fronts (rows ++ event ∷ []) next.more (rw (
+        next.split,
+        row_one fields next.event event next.told told,
+        ← append_assoc rows (event ∷ []) next.more,
+      ) at all)
 
-  -- and so does the row after them
+  -- the row after rows that lead up to a record
   after : {rows : List Event} {fields : List (List ℕ)}
       → LeadUpTo scope replayed.transcript rows fields → RowAfter replayed.rows rows fields
   after {rows = rows} {fields = fields} leads =

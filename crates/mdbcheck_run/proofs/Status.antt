@@ -84,7 +84,7 @@ says_explained scope goal contents all old new (Err fault) is leaves = record {
 says_explained scope goal contents all old new (Ok (Yes report)) is leaves = search arith
 says_explained scope goal contents all old new (Ok (No offence)) is leaves = search arith
 
--- a text that was written whole is a front of itself
+-- the writer took a front of a text, whether that was written whole or not
 cut_short : {Answer : Type 0} (Is : Result Answer RunFault → List ℕ → Type 0)
     {before after : Option (List ℕ)} {answer : Result Answer RunFault}
     → Tells Is before after answer → IsCutShort Is before after
