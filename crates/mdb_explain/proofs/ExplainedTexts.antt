@@ -1,30 +1,14 @@
 -- What is answered and written of rows that are kept, and the lines that are written.
-use Rattle.std.proofs.Common.{refl, ap, sym, ◌∙◌, ◌≡◌, ℕ, List, [], ◌∷◌, ◌++◌, Option, Result, Ok, Err, append_assoc}
-use Rattle.std.proofs.Common.{map}
-use Rattle.std.proofs.lemmas.List.{append-nil}
+use Rattle.mdb_explain.proofs.Words
+use Words.{refl, ap, sym, ◌∙◌, ◌≡◌, ℕ, List, [], ◌∷◌, ◌++◌, Option, Result, Ok, Err, append_assoc}
+use Words.{map, append-nil, IfSome_then, ◌<◌, IfSome, length, Event, row_fields, Scope, ROWS_MAX}
+use Words.{Goal, Mark, Offence, Outcome, Yes, No, RunFault, Write, Memory, IfYes, report_text}
+use Words.{IsAnswer, IsNoYes, BYTES_MAX, IsNoText, IsTold, marks_text, rows_text, Puts, output}
 use Rattle.std.proofs.lemmas.List.Concat.{flat_map-append}
-use Rattle.std.proofs.lemmas.Option.{IfSome_then}
 use Rattle.std.specs.List.{flat_map}
-use Rattle.std.specs.Prelude.{◌<◌, IfSome, length}
-use Rattle.mdb_words.specs.declared.event.Event.{Event}
-use Rattle.mdb_words.specs.RowsWritten.{row_fields}
-use Rattle.mdb_bus.specs.declared.scope.Scope.{Scope}
-use Rattle.mdb_follow.specs.declared.follower.TheConstants.{ROWS_MAX}
-use Rattle.mdb_follow.specs.declared.goal.Goal.{Goal}
-use Rattle.mdb_explained_runs.specs.declared.mark.Mark.{Mark}
-use Rattle.mdb_follow.specs.declared.offence.Offence.{Offence}
-use Rattle.mdb_text.specs.declared.outcome.Outcome.{Outcome}
-use Rattle.mdb_text.specs.declared.outcome.Outcome.TheVariants.{Yes, No}
-use Rattle.mdb_verdict.specs.declared.fault.RunFault.{RunFault}
-use Rattle.mdb_verdict.specs.declared.fault.RunFault.TheVariants.{Write, Memory}
 use Rattle.mdb_explain.specs.Explain.{IsExplainText, IsExplained, LeavesNo, explanation_text, mark_fields, record_line}
-use Rattle.mdb_verdict.specs.Headline.{IfYes}
-use Rattle.mdb_text.specs.Text.{report_text}
-use Rattle.mdb_verdict.specs.Verdict.{IsAnswer, IsNoYes}
-use Rattle.mdb_verdict.specs.declared.verdict.TheConstants.{BYTES_MAX}
 use Rattle.mdb_writing.specs.Written.{HasTaken}
-use Rattle.mdb_explain.specs.inner.Explaining.{IsNoText, IsTold, marks_text, rows_text}
-use Rattle.mdb_writing.specs.Output.{Breaks, Output, Puts, begun, output}
+use Rattle.mdb_writing.specs.Output.{Breaks, Output, begun}
 use Rattle.mdb_writing.proofs.Outputs.{break_both, put_both, taken_longer}
 
 -- what holds where the verdict is yes

@@ -1,18 +1,12 @@
 -- How many bytes the text of an explanation has at most.
-use Rattle.std.proofs.Common.{arith, ◌≡◌, ◌+◌, ◌*◌, ◌<◌, ◌≤◌, ◌^◌, ℕ, List, [], ◌∷◌, ◌++◌}
-use Rattle.std.proofs.Common.{length, length-append, map, All, flat_map}
+use Rattle.mdb_explain.proofs.Words.{arith, ◌≡◌, ◌+◌, ◌*◌, ◌<◌, ◌≤◌, ◌^◌, ℕ, List, [], ◌∷◌, ◌++◌}
+use Rattle.mdb_explain.proofs.Words.{length, length-append, map, All, All-head, All-tail, decimal}
+use Rattle.mdb_explain.proofs.Words.{Event, hex_word, row_fields, IsRow, break_letter, letter_of}
+use Rattle.mdb_explain.proofs.Words.{ROWS_MAX, Mark, dash, mark_letter, AreRows}
+use Rattle.std.proofs.Common.{flat_map}
 use Rattle.std.proofs.lemmas.Fmt.{length-decimal-le}
-use Rattle.std.proofs.lemmas.List.Elements.{All-head, All-tail}
-use Rattle.std.specs.Fmt.{decimal}
-use Rattle.mdb_words.specs.declared.event.Event.{Event}
 use Rattle.mdb_words.specs.declared.event.Event.TheVariants.{Word, Break}
-use Rattle.mdb_words.specs.RowsWritten.{hex_word, row_fields}
-use Rattle.mdb_words.specs.Row.{IsRow, break_letter, letter_of}
-use Rattle.mdb_follow.specs.declared.follower.TheConstants.{ROWS_MAX}
-use Rattle.mdb_explained_runs.specs.declared.mark.Mark.{Mark}
 use Rattle.mdb_explain.specs.Explain.{explanation_text, mark_fields, record_line}
-use Rattle.mdb_explain.specs.Replay.{dash, mark_letter}
-use Rattle.mdb_verdict.specs.Rows.{AreRows}
 use Rattle.mdb_words.proofs.Numerals.{IsDecimal-lt}
 
 -- the line of three fields, of which the second is a letter: with it two commas and a line feed

@@ -1,17 +1,11 @@
 -- The text of an explanation is read as the records of its marks and rows.
-use Rattle.std.proofs.Common.{arith, refl, ◌≡◌, ◌≤◌, ℕ, List, [], ◌∷◌, map, All}
-use Rattle.std.proofs.lemmas.List.Elements.{All-head, All-tail}
-use Rattle.std.specs.Fmt.{decimal}
-use Rattle.csv.specs.Reading.{default_config, strip_bom, records as read_records}
-use Rattle.mdb_words.specs.declared.event.Event.{Event}
+use Rattle.mdb_explain.proofs.Words.{arith, refl, ◌≡◌, ◌≤◌, ℕ, List, [], ◌∷◌, map, All, All-head}
+use Rattle.mdb_explain.proofs.Words.{All-tail, decimal, default_config, strip_bom, read_records}
+use Rattle.mdb_explain.proofs.Words.{Event, row_fields, ROWS_MAX, Mark, dash, mark_letter, AreRows}
 use Rattle.mdb_words.specs.Digits.{IsDecimal}
-use Rattle.mdb_words.specs.RowsWritten.{row_fields}
-use Rattle.mdb_follow.specs.declared.follower.TheConstants.{ROWS_MAX}
-use Rattle.mdb_explained_runs.specs.declared.mark.Mark.{Mark}
 use Rattle.mdb_explained_runs.specs.declared.mark.Mark.TheVariants.{Lost}
 use Rattle.mdb_explain.specs.Explain.{explanation_records, explanation_text, mark_fields}
-use Rattle.mdb_explain.specs.Replay.{AreMarkRows, IsMarkRow, dash, mark_letter}
-use Rattle.mdb_verdict.specs.Rows.{AreRows}
+use Rattle.mdb_explain.specs.Replay.{AreMarkRows, IsMarkRow}
 use Rattle.mdb_records.proofs.PlainRecords.{ArePlain, IsPlain, IsPlainByte, plain_append}
 use Rattle.mdb_records.proofs.PlainRecords.{read_of_lines}
 use Rattle.mdb_records.proofs.PlainRows.{one_plain, plain_of, row_written}

@@ -6,3 +6,4 @@ pub mod MarkSteps
 pub mod OneReplayAnswer
 pub mod ReplayedExplanations
 pub mod ReplayedTranscripts
+mod Words

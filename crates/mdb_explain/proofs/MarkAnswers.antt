@@ -1,31 +1,19 @@
 -- What is answered, by how the reading of entries ended.
-use Rattle.std.proofs.Common.{arith, ap, sym, ◌∙◌, ◌≡◌, ◌≢◌, inl, inr, ℕ, List, [], ◌∷◌, ◌++◌, map, Option, Result, Ok, Err, length}
-use Rattle.std.proofs.lemmas.List.{append-nil}
-use Rattle.std.specs.Prelude.{IfErr, IsErrAnd}
-use Rattle.mdb_words.specs.declared.event.Event.{Event}
-use Rattle.mdb_bus.specs.declared.scope.Scope.{Scope}
-use Rattle.mdb_follow.specs.declared.follower.TheConstants.{ROWS_MAX}
-use Rattle.mdb_explained_runs.specs.declared.mark.Mark.{Mark}
-use Rattle.mdb_follow.specs.declared.offence.Offence.{Offence}
-use Rattle.mdb_explain.specs.declared.entry.Entry.{Entry}
+use Rattle.mdb_explain.proofs.Words
+use Words.{arith, ap, sym, ◌∙◌, ◌≡◌, ◌≢◌, inl, inr, ℕ, List, [], ◌∷◌, ◌++◌, map, Option, Result, Ok}
+use Words.{Err, length, append-nil, IfErr, IsErrAnd, Event, Scope, ROWS_MAX, Mark, Offence, Entry}
+use Words.{Outcome, Yes, No, MarkedFault, RunFault, InputPart, all_marks, AreRows, IsEntry}
+use Words.{IsNoEntry, HasReplayed, HasStopped, parts_of, read_at, handed}
 use Rattle.mdb_explain.specs.declared.entry.Entry.TheVariants as entries
-use Rattle.mdb_text.specs.declared.outcome.Outcome.{Outcome}
-use Rattle.mdb_text.specs.declared.outcome.Outcome.TheVariants.{Yes, No}
-use Rattle.mdb_explain.specs.declared.fault.MarkedFault.{MarkedFault}
-use Rattle.mdb_verdict.specs.declared.fault.RunFault.{RunFault}
 use Rattle.mdb_explain.specs.declared.fault.MarkedFault.TheVariants as marked
 use Rattle.mdb_verdict.specs.declared.fault.RunFault.TheVariants as run
 use Rattle.mdb_explain.specs.declared.replaying.Replaying.{Replaying}
-use Rattle.mdb_explain.specs.Replay.{AreMarkRows, CanBe, HasMarkedCause, InputPart, IsReplayAnswer, LeadUpToPart, StopsAt, all_marks}
+use Rattle.mdb_explain.specs.Replay.{AreMarkRows, CanBe, HasMarkedCause, IsReplayAnswer, LeadUpToPart, StopsAt}
 use Rattle.mdb_records.specs.declared.ReadFault.{ReadFault}
-use Rattle.mdb_verdict.specs.Rows.{AreRows}
 use Rattle.mdb_verdict.specs.Batch.{AreAll}
 use Rattle.mdb_verdict.specs.Ending.{AreRead, HasEnded, IsStopped, IsTakenWhole}
-use Rattle.mdb_explain.specs.inner.Entries.{IsEntry, IsNoEntry}
-use Rattle.mdb_explain.specs.inner.Replaying.{Finishes, HasReplayed, HasStopped, entries_of, mark_entry}
+use Rattle.mdb_explain.specs.inner.Replaying.{Finishes, entries_of, mark_entry}
 use Rattle.mdb_explain.proofs.MarkSteps.{entries_count}
-use Rattle.mdb_verdict.proofs.Rows.{parts_of, read_at}
-use Rattle.mdb_verdict.proofs.Verdicts.{handed}
 
 -- Records that are read as the entries of a part are mark rows, and then rows.
 

@@ -1,32 +1,24 @@
 -- How the replay of entries goes on, and where it stops.
-use Rattle.std.proofs.Common.{arith, refl, ap, sym, ◌∙◌, ◌≡◌, ◌≢◌, ◌+◌, ◌<◌, ◌≤◌, ◌==◌, ◌↔◌, inl, inr, ℕ, List, [], ◌∷◌, ◌++◌, map, take, drop, get_or, suc, is_some, Bool, true, false, Option, Some, None, Result, Err, length, length-append, append_assoc}
-use Rattle.std.proofs.lemmas.List.{append-nil, length-map, map_push, take_more}
+use Rattle.mdb_explain.proofs.Words
+use Words.{arith, refl, ap, sym, ◌∙◌, ◌≡◌, ◌≢◌, ◌+◌, ◌<◌, ◌≤◌, inl, inr, ℕ, List, [], ◌∷◌, ◌++◌}
+use Words.{map, take, Option, Result, Err, length, length-append, append_assoc, append-nil}
+use Words.{length-map, map_push, take_more, if◌then◌else◌, HasTakenOrStopped, Event, Scope}
+use Words.{ROWS_MAX, Mark, Offence, with_mark, HasMarkedRun, IsReplayFault, Entry, MarkedFault}
+use Words.{InputPart, all_marks, dash, IsBadMark, IsEntry, stop_by, empty, HasReplayed, HasStopped}
+use Rattle.std.proofs.Common.{◌==◌, ◌↔◌, drop, get_or, suc, is_some, Bool, true, false, Some, None}
 use Rattle.std.proofs.lemmas.Bool.Decides.{nat_tests}
-use Rattle.std.specs.Prelude.{if◌then◌else◌}
 use Rattle.std.proofs.Math.Seq.{split_at}
-use Rattle.mdb_verdict.specs.Ending.{HasTakenOrStopped}
-use Rattle.mdb_words.specs.declared.event.Event.{Event}
 use Rattle.mdb_words.specs.declared.row.RowFault.{RowFault}
 use Rattle.mdb_words.specs.declared.row.RowFault.TheVariants.{BadTime, BadLine, BadValue}
-use Rattle.mdb_bus.specs.declared.scope.Scope.{Scope}
-use Rattle.mdb_follow.specs.declared.follower.TheConstants.{ROWS_MAX}
-use Rattle.mdb_explained_runs.specs.declared.mark.Mark.{Mark}
-use Rattle.mdb_follow.specs.declared.offence.Offence.{Offence}
 use Rattle.mdb_explained_runs.specs.declared.replay.ReplayFault.{ReplayFault}
 use Rattle.mdb_explained_runs.specs.declared.replay.ReplayFault.TheVariants as faults
-use Rattle.mdb_explained_runs.specs.Marks.{with_mark}
-use Rattle.mdb_explained_runs.specs.ReplayFaults.{HasMarkedRun, IsReplayFault}
 use Rattle.mdb_explained_runs.specs.Replays.{StandsFor, rows_of, scope_of}
-use Rattle.mdb_explain.specs.declared.entry.Entry.{Entry}
 use Rattle.mdb_explain.specs.declared.entry.Entry.TheVariants as entries
-use Rattle.mdb_explain.specs.declared.fault.MarkedFault.{MarkedFault}
 use Rattle.mdb_explain.specs.declared.fault.MarkedFault.TheVariants as marked
 use Rattle.mdb_verdict.specs.declared.fault.RunFault.TheVariants as run
 use Rattle.mdb_explain.specs.declared.replaying.Replaying.{Replaying}
-use Rattle.mdb_explain.specs.Replay.{InputPart, IsMarkRefusal, IsRefusedAfter, IsStopAt, RiseAbove, all_marks, dash, mark_at, records_in}
-use Rattle.mdb_explain.specs.inner.Entries.{IsBadMark, IsEntry, stop_by}
-use Rattle.mdb_verdict.proofs.Rows.{empty}
-use Rattle.mdb_explain.specs.inner.Replaying.{HasReplayed, HasStopped, HasTakenNext, IsStoppedAt, entries_of, mark_entry}
+use Rattle.mdb_explain.specs.Replay.{IsMarkRefusal, IsRefusedAfter, IsStopAt, RiseAbove, mark_at, records_in}
+use Rattle.mdb_explain.specs.inner.Replaying.{HasTakenNext, IsStoppedAt, entries_of, mark_entry}
 
 -- How many entries those of a part are.
 pub entries_count : (part : InputPart) → length (entries_of part) ≡ records_in part

@@ -1,36 +1,26 @@
 -- The records of an input of `replay` have one answer of their own.
-use Rattle.std.proofs.Common.{arith, refl, ap, sym, ◌∙◌, ◌≡◌, ◌⊎◌, inl, inr, ◌+◌, ◌<◌}
-use Rattle.std.proofs.Common.{◌≤◌, ℕ, List, [], ◌∷◌, ◌++◌, length, length-append, append_assoc}
-use Rattle.std.proofs.Common.{All, Option, Some, None, Result, Ok, Err}
-use Rattle.std.proofs.lemmas.Grind.{common_steps}
-use Rattle.std.proofs.lemmas.List.{append-nil}
-use Rattle.std.proofs.lemmas.List.Elements.{All-nil, All-cons, All-head, All-tail, All-append, All-push}
-use Rattle.mdb_words.specs.declared.event.Event.{Event}
+use Rattle.mdb_explain.proofs.Words
+use Words.{arith, refl, ap, sym, ◌∙◌, ◌≡◌, ◌⊎◌, inl, inr, ◌+◌, ◌<◌, ◌≤◌, ℕ, List, [], ◌∷◌, ◌++◌}
+use Words.{length, length-append, append_assoc, All, Option, Result, Ok, Err, common_steps}
+use Words.{append-nil, All-head, All-tail, Event, IsRow, Scope, Mark, Offence, Report, Rise}
+use Words.{StandsWithin, choices_in, marks_of, with_mark, HasMarkedRun, IsReplayFault, SplitAt}
+use Words.{Outcome, Yes, No, MarkedFault, IsForMark, InputPart, all_marks, dash, AreRows}
+use Rattle.std.proofs.Common.{Some, None}
+use Rattle.std.proofs.lemmas.List.Elements.{All-nil, All-cons, All-append, All-push}
 use Rattle.mdb_words.specs.declared.row.RowFault.{RowFault}
 use Rattle.mdb_words.specs.declared.row.RowFault.TheVariants.{FieldCount}
-use Rattle.mdb_words.specs.Row.{IsRow}
 use Rattle.mdb_words.specs.Refusals.{IsRefusal}
-use Rattle.mdb_bus.specs.declared.scope.Scope.{Scope}
 use Rattle.mdb_bus.specs.ActLists.{ArePieces, Piece, acts_of, events_of}
-use Rattle.mdb_explained_runs.specs.declared.mark.Mark.{Mark}
-use Rattle.mdb_follow.specs.declared.offence.Offence.{Offence}
 use Rattle.mdb_explained_runs.specs.declared.replay.ReplayFault.{ReplayFault}
 use Rattle.mdb_explained_runs.specs.declared.replay.ReplayFault.TheVariants as faults
-use Rattle.mdb_follow.specs.declared.report.Report.{Report}
 use Rattle.mdb_follow.specs.Choosing.{Choices}
-use Rattle.mdb_explained_runs.specs.Marks.{Rise, StandsWithin, choices_in, marks_of, with_mark}
-use Rattle.mdb_explained_runs.specs.ReplayFaults.{HasMarkedRun, IsReplayFault, SplitAt}
 use Rattle.mdb_explained_runs.specs.Replays.{IsReplayReport}
-use Rattle.mdb_text.specs.declared.outcome.Outcome.{Outcome}
-use Rattle.mdb_text.specs.declared.outcome.Outcome.TheVariants.{Yes, No}
-use Rattle.mdb_explain.specs.declared.fault.MarkedFault.{MarkedFault}
 use Rattle.mdb_explain.specs.declared.fault.MarkedFault.TheVariants as marked
 use Rattle.mdb_verdict.specs.declared.fault.RunFault.TheVariants as run
-use Rattle.mdb_explain.specs.Replay.{AreMarkRows, CanBe, DoesNotRise, IsForMark}
+use Rattle.mdb_explain.specs.Replay.{AreMarkRows, CanBe, DoesNotRise}
 use Rattle.mdb_explain.specs.Replay.{IsMarkRefusal, IsMarkRow}
-use Rattle.mdb_explain.specs.Replay.{InputPart, IsOwnReplay, IsReplayAnswer, IsReplayed, IsStopAt, LeadUpToPart}
-use Rattle.mdb_explain.specs.Replay.{RiseAbove, StopsAt, all_marks, dash, mark_at, records_in}
-use Rattle.mdb_verdict.specs.Rows.{AreRows}
+use Rattle.mdb_explain.specs.Replay.{IsOwnReplay, IsReplayAnswer, IsReplayed, IsStopAt, LeadUpToPart}
+use Rattle.mdb_explain.specs.Replay.{RiseAbove, StopsAt, mark_at, records_in}
 use Rattle.mdb_explain.proofs.MarkSteps.{later_marks}
 use Rattle.mdb_verdict.proofs.OneAnswer.{GoesOn, compared, one_refusal, row_not_refused, row_one}
 

@@ -1,27 +1,15 @@
 -- What an explanation is replayed to: the end of the range that it explains.
-use Rattle.std.proofs.Common.{arith, ap, subst, ◌≡◌, ◌+◌, ◌*◌, ◌≤◌, ℕ, List, [], ◌∷◌, map, length, All, Result, Ok}
-use Rattle.std.proofs.lemmas.List.Elements.{All-head, All-tail}
-use Rattle.csv.specs.Reading.{default_config, strip_bom, records as read_records}
-use Rattle.mdb_words.specs.declared.event.Event.{Event}
-use Rattle.mdb_words.specs.RowsWritten.{row_fields}
-use Rattle.mdb_bus.specs.declared.scope.Scope.{Scope}
-use Rattle.mdb_follow.specs.declared.follower.TheConstants.{ROWS_MAX}
-use Rattle.mdb_follow.specs.declared.goal.Goal.{Goal}
-use Rattle.mdb_explained_runs.specs.declared.mark.Mark.{Mark}
-use Rattle.mdb_follow.specs.declared.report.Report.{Report}
+use Rattle.mdb_explain.proofs.Words.{arith, ap, subst, ◌≡◌, ◌+◌, ◌*◌, ◌≤◌, ℕ, List, [], ◌∷◌, map}
+use Rattle.mdb_explain.proofs.Words.{length, All, Result, Ok, All-head, All-tail, default_config}
+use Rattle.mdb_explain.proofs.Words.{strip_bom, read_records, Event, row_fields, Scope, ROWS_MAX}
+use Rattle.mdb_explain.proofs.Words.{Goal, Mark, Report, HasMarkedRun, Outcome, Yes, MarkedFault}
+use Rattle.mdb_explain.proofs.Words.{BYTES_MAX, IsAnswer, AreRows}
 use Rattle.mdb_follow.specs.GoalEnds.{end_of}
 use Rattle.mdb_explained_runs.specs.Goals.{Explains}
-use Rattle.mdb_explained_runs.specs.ReplayFaults.{HasMarkedRun}
 use Rattle.mdb_explained_runs.specs.Replays.{IsReplayReport}
 use Rattle.mdb_follow.specs.Report.{IsReport}
-use Rattle.mdb_text.specs.declared.outcome.Outcome.{Outcome}
-use Rattle.mdb_text.specs.declared.outcome.Outcome.TheVariants.{Yes}
-use Rattle.mdb_explain.specs.declared.fault.MarkedFault.{MarkedFault}
-use Rattle.mdb_verdict.specs.declared.verdict.TheConstants.{BYTES_MAX}
 use Rattle.mdb_explain.specs.Explain.{ComesTo, IsExplanation, explanation_records, explanation_text, goal_range, mark_fields}
 use Rattle.mdb_explain.specs.Replay.{AreMarkRows, IsOwnReplay, IsReplayAnswer, IsReplayed, RiseAbove}
-use Rattle.mdb_verdict.specs.Verdict.{IsAnswer}
-use Rattle.mdb_verdict.specs.Rows.{AreRows}
 use Rattle.mdb_verdict.proofs.Headline.{one_list}
 use Rattle.mdb_explain.proofs.OneReplayAnswer.{IsUpTo, MarkLaws, rising_run, upto_run}
 

@@ -1,20 +1,11 @@
 -- The transcript of an input that is replayed with a yes is one for which `check` says yes.
-use Rattle.std.proofs.Common.{arith, refl, ap, ◌∙◌, ◌≡◌, ℕ, List, [], ◌∷◌, ◌++◌}
-use Rattle.std.proofs.Common.{length, length-append, append_assoc, inl, inr, Result, Ok, Err}
-use Rattle.std.proofs.lemmas.List.{append-nil, take_all}
-use Rattle.mdb_words.specs.declared.event.Event.{Event}
-use Rattle.mdb_words.specs.Row.{IsRow}
-use Rattle.mdb_bus.specs.declared.scope.Scope.{Scope}
-use Rattle.mdb_follow.specs.declared.report.Report.{Report}
+use Rattle.mdb_explain.proofs.Words
+use Words.{arith, refl, ap, ◌∙◌, ◌≡◌, ℕ, List, [], ◌∷◌, ◌++◌, length, length-append}
+use Words.{append_assoc, inl, inr, Result, Ok, Err, append-nil, take_all, Event, IsRow, Scope}
+use Words.{Report, Outcome, Yes, No, RunFault, HaveRun, IsAnswer, IsOwnAnswer, LeadUpTo, AreRows}
 use Rattle.mdb_follow.specs.Runs.{IsReached}
-use Rattle.mdb_text.specs.declared.outcome.Outcome.{Outcome}
-use Rattle.mdb_text.specs.declared.outcome.Outcome.TheVariants.{Yes, No}
-use Rattle.mdb_verdict.specs.declared.fault.RunFault.{RunFault}
 use Rattle.mdb_verdict.specs.declared.fault.RunFault.TheVariants as run
-use Rattle.mdb_verdict.specs.Headline.{HaveRun}
 use Rattle.mdb_explain.specs.Replay.{IsReplayed}
-use Rattle.mdb_verdict.specs.Verdict.{IsAnswer, IsOwnAnswer, LeadUpTo}
-use Rattle.mdb_verdict.specs.Rows.{AreRows}
 use Rattle.mdb_verdict.proofs.Headline.{FrontsAreReached, as_many}
 use Rattle.mdb_verdict.proofs.OneAnswer.{compared, row_not_refused, row_one}
 

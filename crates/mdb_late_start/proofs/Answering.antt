@@ -1,12 +1,8 @@
 -- That each answer in an act list stands right after what it answers.
 use Rattle.std.proofs.Common.{◌≡◌, inl, List, [], ◌∷◌}
-use Rattle.mdb_msgs.specs.declared.command.Command.{Command}
-use Rattle.mdb_bus.specs.declared.act.Act.{Act}
+use Rattle.mdb_late_start.proofs.Words.{Command, Act, at_first, Scope, AnswersLast}
 use Rattle.mdb_bus.specs.declared.act.Act.TheVariants as acts
 use Rattle.mdb_bus.specs.ActLists.{ArePieces, Asked, Piece, Whole, acts_of, position_of}
-use Rattle.mdb_bus.proofs.Lists.{at_first}
-use Rattle.mdb_bus.specs.declared.scope.Scope.{Scope}
-use Rattle.mdb_late_start.specs.MidSession.{AnswersLast}
 use Rattle.mdb_follow.proofs.Sales.{ends_in}
 
 -- pieces where a command is open end in its ask

@@ -1,17 +1,10 @@
 -- What the changer does, it may do in mid-session: what is so of its conduct.
 use Rattle.std.proofs.Common.{◌≡◌, ◌⊎◌, inl, inr, ℕ, ◌<◌, true, false, List, [], ◌∷◌, refl, ap, sym, ◌∙◌, ◌&&◌, if◌then◌else◌, map}
-use Rattle.std.specs.List.{AllByRecursion}
-use Rattle.mdb_msgs.specs.declared.command.Command.{Command}
+use Rattle.mdb_late_start.proofs.Words.{AllByRecursion, Command, Reply, Setups, IsReply, Beginning}
+use Rattle.mdb_late_start.proofs.Words.{Choice, Gains, kept_of, MayJoinLate, controller_gains}
+use Rattle.mdb_late_start.proofs.Words.{device_gains, in_slots, no_gains}
 use Rattle.mdb_msgs.specs.declared.command.Device.TheVariants as devices
-use Rattle.mdb_msgs.specs.declared.reply.Reply.{Reply}
 use Rattle.mdb_msgs.specs.declared.reply.Reply.TheVariants as replies
-use Rattle.mdb_msgs.specs.declared.setups.Setups.{Setups}
-use Rattle.mdb_bus.specs.Acts.{IsReply}
-use Rattle.mdb_bus.specs.declared.scope.Beginning.{Beginning}
-use Rattle.mdb_machine.specs.declared.choice.Choice.{Choice}
-use Rattle.mdb_machine.specs.declared.gains.Gains.{Gains}
-use Rattle.mdb_machine.specs.Kept.{kept_of}
-use Rattle.mdb_late_start.specs.MidSession.{MayJoinLate}
 use Rattle.mdb_late_start.proofs.Keepers.{AlsoSteps, IsEnabledIn, IsSteady, as_it_is, in_end, recorded, step_in_end, told_first, told_on}
 use Rattle.mdb_msgs.specs.Changer.{IsChangerMsg}
 use Rattle.mdb_msgs.specs.declared.command.ChangerCommand.{ChangerCommand}
@@ -24,7 +17,6 @@ use Rattle.mdb_cash.specs.declared.changer.state.ChangerState.{ChangerState}
 use Rattle.mdb_cash.specs.Changer.{AskStep, MayBeNew, TakeStep, asks_coins, conduct, deposited, dispensed_value, is_last, paid_by_hand}
 use Rattle.mdb_cash.specs.ChangerFacts.{Facts, KnownFacts, tables}
 use Rattle.mdb_cash.specs.ChangerMessages.{part_of}
-use Rattle.mdb_machine.specs.Gains.{controller_gains, device_gains, in_slots, no_gains}
 
 -- a deposit is of a type below 16
 abbrev Fits : ChangerActivity → Type 0

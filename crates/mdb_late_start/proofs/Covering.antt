@@ -3,25 +3,17 @@
 -- is enabled in the end. Lists of acts stand newest first.
 use Rattle.std.proofs.Common.{◌≡◌, ℕ, ◌<◌, Bool, true, false, not, ◌&&◌, ◌||◌, List, [], ◌∷◌, ◌++◌, Option, Some, None, refl, ap, sym, ◌∙◌, option_map, if◌then◌else◌}
 use Rattle.std.specs.Prelude.{ltb}
-use Rattle.std.specs.List.{list_any}
+use Rattle.mdb_late_start.proofs.Words.{list_any, append-nil, Command, Setups, Act, Beginning}
+use Rattle.mdb_late_start.proofs.Words.{PowerOn, Joined, profile_of, Part, has_reset, kept_of}
+use Rattle.mdb_late_start.proofs.Words.{Known, Is, known_before, last_list, last_told, or_else}
+use Rattle.mdb_late_start.proofs.Words.{unless_empty, IsNothingOr, first_of_three}
 use Rattle.std.proofs.lemmas.Bool.{lt-ltb}
-use Rattle.std.proofs.lemmas.List.{append-nil}
 use Rattle.std.proofs.lemmas.List.Folds.{list_any-append}
-use Rattle.mdb_msgs.specs.declared.command.Command.{Command}
-use Rattle.mdb_msgs.specs.declared.setups.Setups.{Setups}
-use Rattle.mdb_bus.specs.declared.act.Act.{Act}
-use Rattle.mdb_bus.specs.declared.scope.Beginning.{Beginning}
-use Rattle.mdb_bus.specs.declared.scope.Beginning.TheVariants.{PowerOn, Joined}
-use Rattle.mdb_bus.specs.Scopes.{profile_of}
-use Rattle.mdb_machine.specs.declared.kept.Part.{Part}
 use Rattle.mdb_machine.specs.declared.past.Effect.{Effect}
 use Rattle.mdb_machine.specs.Enabled.{disables, enabled_of, enables, known_enabled}
-use Rattle.mdb_machine.specs.Kept.{has_reset, kept_of}
 use Rattle.mdb_machine.specs.Keeper.{KnownFacts, Tables, asked_by, effect_of, known_of, parts_by}
-use Rattle.mdb_machine.specs.Known.{Known, Unknown, Is, known_before, known_by}
-use Rattle.mdb_machine.specs.Past.{acts_from, effect_by, known_past, last_list, last_told, or_else, powers_on, runs_on, unless_empty}
-use Rattle.mdb_late_start.specs.MidSession.{IsNothingOr}
-use Rattle.mdb_cashless.specs.shared.ReaderWays.{first_of_three}
+use Rattle.mdb_machine.specs.Known.{Unknown, known_by}
+use Rattle.mdb_machine.specs.Past.{acts_from, effect_by, known_past, powers_on, runs_on}
 
 -- what one knows, the other knows too
 abbrev pub Covers : {X : Type 0} → Known X → Known X → Type 0

@@ -1,27 +1,20 @@
 -- The words of pieces where a transcript is cut: all but the first of a piece are foreign words,
 -- and the first is one, or begins a block or a break.
 use Rattle.std.proofs.Common.{arith, sym, ◌∙◌, ◌≡◌, ◌++◌, ◌⊎◌, inl, inr, ℕ, List, [], ◌∷◌, ◌+◌, Option}
-use Rattle.std.specs.List.{AllByRecursion}
+use Rattle.mdb_late_start.proofs.Words.{AllByRecursion, Event, Break, Controller, Peripheral, Scope}
+use Rattle.mdb_late_start.proofs.Words.{IsBlockWord, IsForeign, IsForeignWord, Say, reply_words}
+use Rattle.mdb_late_start.proofs.Words.{IsBreakEvent, AreForeignWords, word_waits, block_waits}
+use Rattle.mdb_late_start.proofs.Words.{Profile, profile_of, rest_after}
 use Rattle.mdb_words.specs.declared.limits.TheConstants.{WORD_GAP_MIN}
-use Rattle.mdb_words.specs.declared.event.Event.{Event}
-use Rattle.mdb_words.specs.declared.event.Event.TheVariants.{Break}
-use Rattle.mdb_words.specs.declared.word.Line.TheVariants.{Controller, Peripheral}
 use Rattle.mdb_blocks.specs.Answer.{answer_word}
 use Rattle.mdb_blocks.specs.Block.{block_of, controller_words}
 use Rattle.mdb_blocks.specs.declared.answer.Answer.TheVariants as answers
 use Rattle.mdb_msgs.specs.Commands.{IsByte, command_bytes}
 use Rattle.mdb_bus.specs.declared.act.Act.TheVariants as acts
-use Rattle.mdb_bus.specs.declared.scope.Scope.{Scope}
-use Rattle.mdb_bus.specs.Acts.{IsBlockWord, IsForeign, IsForeignWord, Say, reply_words}
 use Rattle.mdb_bus.specs.ActLists.{Piece, Whole, AskTail, ReplyTail, RepeatTail, Position, InForeign, ForeignMayCome, IsSaid, MayCome, NotBefore, piece_events, Quiet}
-use Rattle.mdb_late_start.specs.Cuts.{IsBreakEvent}
 use Rattle.mdb_msgs.proofs.CommandBytes.{begun_low, whole_low}
-use Rattle.mdb_bus.proofs.LeftOutWords.{AreForeignWords, low_words, peripheral_foreign, answer_foreign, word_waits}
-use Rattle.mdb_bus.proofs.LeftOutOrder.{block_waits}
+use Rattle.mdb_bus.proofs.LeftOutWords.{low_words, peripheral_foreign, answer_foreign}
 use Rattle.mdb_bus.proofs.Lists.{heard}
-use Rattle.mdb_bus.specs.declared.scope.Profile.{Profile}
-use Rattle.mdb_bus.specs.Scopes.{profile_of}
-use Rattle.mdb_bus.specs.Times.{rest_after}
 
 -- so are those of two lists together
 pub foreign_both : (events others : List Event) → AreForeignWords events → AreForeignWords others

@@ -2,29 +2,15 @@
 -- the pieces that begin in it stand there as they stood, and what is left of the others stands as
 -- foreign words.
 use Rattle.std.proofs.Common.{ap, refl, sym, subst, ◌∙◌, ◌≡◌, ◌≢◌, ◌++◌, ◌⊎◌, arith, inl, inr, List, [], ◌∷◌, All, Option, Some, None, append_assoc, ℕ}
-use Rattle.std.proofs.lemmas.List.{append-nil}
-use Rattle.std.specs.List.{AllByRecursion}
-use Rattle.std.proofs.lemmas.List.Elements.{All-from_recursion}
-use Rattle.mdb_words.specs.declared.event.Event.{Event}
-use Rattle.mdb_words.specs.declared.event.Event.TheVariants.{Word, Break}
-use Rattle.mdb_words.specs.declared.word.Line.TheVariants.{Controller}
-use Rattle.mdb_msgs.specs.declared.setups.Setups.{Setups}
+use Rattle.mdb_late_start.proofs.Words
+use Words.{append-nil, AllByRecursion, All-from_recursion, Event, Word, Break, Controller, Setups}
+use Words.{Joined, Scope, IsBlockWord, IsForeignWord, with_foreign, levels_before, no_levels}
+use Words.{profile_of, BeginAnew, IsBreakEvent, SplitsAt, joined_with, IsNothingOr, last_push}
+use Words.{foreign_rows, AreForeignWords, word_waits, answer_most, rest_after, Profile}
 use Rattle.mdb_bus.specs.declared.act.Act.TheVariants as acts
-use Rattle.mdb_bus.specs.declared.scope.Beginning.TheVariants.{Joined}
-use Rattle.mdb_bus.specs.declared.scope.Scope.{Scope}
-use Rattle.mdb_bus.specs.Acts.{IsBlockWord, IsForeignWord}
 use Rattle.mdb_bus.specs.ActLists.{Piece, Whole, AskTail, Position, InAsk, InReply, InRepeat, InForeign, ArePieces, AreSpaced, BlockMayCome, IsActList, MayCome, NotBefore, PieceFits, events_of, last_of, levels_of, piece_events, position_of, NotPast}
-use Rattle.mdb_bus.specs.LeavingOut.{with_foreign}
-use Rattle.mdb_bus.specs.Scopes.{levels_before, no_levels, profile_of}
-use Rattle.mdb_late_start.specs.Cuts.{BeginAnew, IsBreakEvent, SplitsAt, joined_with}
-use Rattle.mdb_late_start.specs.MidSession.{IsNothingOr}
 use Rattle.mdb_late_start.proofs.CutWords.{Kind, foreign_both, foreign_end, kind}
 use Rattle.mdb_late_start.proofs.Said.{said_stays}
-use Rattle.mdb_bus.proofs.Lists.{last_push}
-use Rattle.mdb_bus.proofs.LeftOutOrder.{foreign_rows}
-use Rattle.mdb_bus.proofs.LeftOutWords.{AreForeignWords, word_waits}
-use Rattle.mdb_bus.specs.Times.{answer_most, rest_after}
-use Rattle.mdb_bus.specs.declared.scope.Profile.{Profile}
 
 -- A list of two parts is divided at another place: in the first part, or after an element of the
 -- second.

@@ -1,32 +1,16 @@
 -- Runs of ends. Lists of pieces are written newest first, lists of events oldest first.
 use Rattle.std.proofs.Common.{ap, sym, ◌∙◌, ◌≡◌, ◌++◌, List, [], ◌∷◌}
-use Rattle.std.proofs.lemmas.List.{append-nil, append_cancel_right}
-use Rattle.mdb_words.specs.declared.event.Event.{Event}
-use Rattle.mdb_msgs.specs.declared.command.Device.{Device}
-use Rattle.mdb_msgs.specs.declared.setups.Setups.{Setups}
-use Rattle.mdb_bus.specs.declared.levels.Levels.{Levels}
-use Rattle.mdb_bus.specs.declared.scope.Beginning.{Beginning}
-use Rattle.mdb_bus.specs.declared.scope.Beginning.TheVariants.{Joined}
-use Rattle.mdb_bus.specs.declared.scope.Scope.{Scope}
+use Rattle.mdb_late_start.proofs.Words
+use Words.{append-nil, append_cancel_right, Event, Device, Setups, Levels, Beginning, Joined, Scope}
+use Words.{with_foreign, no_levels, profile_of, Arrives, machine_of, unvalued_of, AllSums}
+use Words.{IsReached, Run, States, Sums, MayBeReadAlone, BeginAnew, Passes, both_sums}
+use Words.{TellsOnlyWhatIsSo, AreToldBy, WereTold, told_later, EndLaws}
 use Rattle.mdb_bus.specs.ActLists.{Piece, Whole, ArePieces, IsActList, acts_of}
-use Rattle.mdb_bus.specs.LeavingOut.{with_foreign}
-use Rattle.mdb_bus.specs.Scopes.{no_levels, profile_of}
-use Rattle.mdb_follow.specs.Arrivals.{Arrives}
 use Rattle.mdb_follow.specs.Tables.{EachArrives}
-use Rattle.mdb_follow.specs.Machines.{machine_of}
-use Rattle.mdb_follow.specs.Report.{unvalued_of}
-use Rattle.mdb_follow.specs.Runs.{AllSums, IsReached, Run, States}
-use Rattle.mdb_follow.specs.Sums.{Sums}
-use Rattle.mdb_late_start.specs.Alone.{MayBeReadAlone}
-use Rattle.mdb_late_start.specs.Cuts.{BeginAnew}
-use Rattle.mdb_late_start.specs.Ends.{Passes, both_sums}
-use Rattle.mdb_late_start.specs.MidSession.{TellsOnlyWhatIsSo}
-use Rattle.mdb_late_start.specs.Told.{AreToldBy, WereTold, told_later}
 use Rattle.mdb_late_start.proofs.Answering.{all_answer}
 use Rattle.mdb_late_start.proofs.Foreign.{after_foreign, words_are}
 use Rattle.mdb_late_start.proofs.Cutting.{pass_at}
 use Rattle.mdb_late_start.proofs.InEnds.{AllName, InEnd, holds_there, in_end, name_later}
-use Rattle.mdb_late_start.specs.inner.EndLaws.{EndLaws}
 use Rattle.mdb_late_start.proofs.Onward.{acts_in_two, all_in_two, each_goes_on, in_two}
 
 -- pieces in front are in order

@@ -1,28 +1,21 @@
 -- The answer to the end of a recording that was answered with yes.
 use Rattle.std.proofs.Common.{ap, refl, sym, ◌∙◌, ◌≡◌, inl, inr, ℕ, List, [], ◌∷◌, ◌++◌, length, arith, Result, Ok, Err}
 use Rattle.std.proofs.lemmas.List.{append_assoc, length-append}
-use Rattle.mdb_words.specs.declared.event.Event.{Event}
+use Rattle.mdb_late_start.proofs.Words.{Event, Setups, Rule, Scope, HasActList, IsLinkFault, Report}
+use Rattle.mdb_late_start.proofs.Words.{IsReached, MayBeReadAlone, TellsLevelsOfFront, joined_with}
 use Rattle.mdb_words.specs.Row.{IsRow}
-use Rattle.mdb_msgs.specs.declared.setups.Setups.{Setups}
 use Rattle.mdb_bus.specs.declared.fault.Blame.{Blame}
-use Rattle.mdb_bus.specs.declared.fault.Rule.{Rule}
 use Rattle.mdb_bus.specs.declared.fault.Rule.TheVariants as rule
-use Rattle.mdb_bus.specs.declared.scope.Scope.{Scope}
 use Rattle.mdb_bus.specs.ActLists.{IsActList, Piece}
-use Rattle.mdb_bus.specs.Pieces.{HasActList}
-use Rattle.mdb_bus.specs.LinkFaults.{IsLinkFault}
 use Rattle.mdb_follow.specs.declared.offence.Offence.{Offence}
 use Rattle.mdb_follow.specs.Offences.{IsOffence}
-use Rattle.mdb_follow.specs.declared.report.Report.{Report}
-use Rattle.mdb_follow.specs.Runs.{IsReached}
 use Rattle.mdb_text.specs.declared.outcome.Outcome.{Outcome}
 use Rattle.mdb_text.specs.declared.outcome.Outcome.TheVariants.{Yes, No}
 use Rattle.mdb_verdict.specs.declared.fault.RunFault.{RunFault}
 use Rattle.mdb_verdict.specs.declared.fault.RunFault.TheVariants.{BadRow, TooLong}
 use Rattle.mdb_verdict.specs.Verdict.{IsAnswer, IsOwnAnswer, LeadUpTo}
 use Rattle.mdb_verdict.specs.Rows.{AreRows}
-use Rattle.mdb_late_start.specs.Alone.{IsYesOrByProfile, MayBeReadAlone, TellsLevelsOfFront, TellsRecordsOfFront}
-use Rattle.mdb_late_start.specs.Cuts.{joined_with}
+use Rattle.mdb_late_start.specs.Alone.{IsYesOrByProfile, TellsRecordsOfFront}
 use Rattle.mdb_verdict.proofs.Headline.{one_list}
 use Rattle.mdb_verdict.proofs.OneAnswer.{row_not_refused, row_one}
 use Rattle.mdb_late_start.proofs.OpenFaults.{first_rows}

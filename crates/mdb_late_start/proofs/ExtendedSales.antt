@@ -1,12 +1,9 @@
 -- The sale under way in the end of a recording by itself, and in the whole recording, by the
 -- extended profile.
 use Rattle.std.proofs.Common.{◌≡◌, ℕ, Bool, true, false, not, ◌&&◌, List, [], ◌∷◌, Option, Some, refl, inl, inr, ap}
-use Rattle.mdb_msgs.specs.declared.command.ReaderCommand.{ReaderCommand}
+use Rattle.mdb_late_start.proofs.Words.{ReaderCommand, ReaderMsg, ReaderConfig, Sale}
 use Rattle.mdb_msgs.specs.declared.command.ReaderCommand.TheVariants as reader
-use Rattle.mdb_msgs.specs.declared.reply.reader.ReaderMsg.{ReaderMsg}
 use Rattle.mdb_msgs.specs.declared.reply.reader.ReaderMsg.TheVariants as messages
-use Rattle.mdb_msgs.specs.declared.setups.ReaderConfig.{ReaderConfig}
-use Rattle.mdb_cashless.specs.declared.approvals.sale.Sale.{Sale}
 use Rattle.mdb_cashless.specs.declared.approvals.sale.Sale.TheVariants.{Unknown, Unawaited, Nothing, Awaited, Asked, Approved, Sold}
 use Rattle.mdb_cashless.specs.ExtendedFacts.{sale_all_heard, sale_asked, sale_heard, unawaited}
 use Rattle.mdb_cashless.specs.ExtendedReader.{IsSale, approved_to}

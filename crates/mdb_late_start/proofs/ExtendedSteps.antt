@@ -1,44 +1,23 @@
 -- What a reader does in the course of a recording, it may do in the end of that by itself, by the
 -- extended profile. Lists of acts stand newest first.
 use Rattle.std.proofs.Common.{◌≡◌, ◌⊎◌, ℕ, Bool, true, false, not, ◌&&◌, ◌||◌, List, [], ◌∷◌, ◌++◌, Option, Some, None, drop, length, if◌then◌else◌, unwrap_or, refl, inl, inr, arith, ap, sym, subst, ◌∙◌}
-use Rattle.std.specs.Option.{is_none}
+use Rattle.mdb_late_start.proofs.Words
+use Words.{is_none, Command, ReaderCommand, ReaderUnit, Reply, ReaderMsg, ReaderConfig, Setups}
+use Words.{config_known, Act, Beginning, PowerOn, Joined, profile_of, Choice, Again, Gains}
+use Words.{controller_gains, device_gains, in_slots, Known, known_before, last_told, or_else}
+use Words.{tells_out_of_sequence, one_if, Sale, value, asks_sale, messages_of, own, first_of_three}
 use Rattle.std.proofs.Math.Seq.{drop-nil}
-use Rattle.mdb_msgs.specs.declared.command.Command.{Command}
-use Rattle.mdb_msgs.specs.declared.command.ReaderCommand.{ReaderCommand}
 use Rattle.mdb_msgs.specs.declared.command.ReaderCommand.TheVariants as reader
-use Rattle.mdb_msgs.specs.declared.command.ReaderUnit.{ReaderUnit}
-use Rattle.mdb_msgs.specs.declared.reply.Reply.{Reply}
-use Rattle.mdb_msgs.specs.declared.reply.reader.ReaderMsg.{ReaderMsg}
 use Rattle.mdb_msgs.specs.declared.reply.reader.ReaderMsg.TheVariants as messages
-use Rattle.mdb_msgs.specs.declared.setups.ReaderConfig.{ReaderConfig}
-use Rattle.mdb_msgs.specs.declared.setups.Setups.{Setups}
-use Rattle.mdb_msgs.specs.Setups.{config_known}
-use Rattle.mdb_bus.specs.declared.act.Act.{Act}
 use Rattle.mdb_bus.specs.declared.act.Act.TheVariants as acts
-use Rattle.mdb_bus.specs.declared.scope.Beginning.{Beginning}
-use Rattle.mdb_bus.specs.declared.scope.Beginning.TheVariants.{PowerOn, Joined}
-use Rattle.mdb_bus.specs.Scopes.{profile_of}
-use Rattle.mdb_machine.specs.declared.choice.Choice.{Choice}
-use Rattle.mdb_machine.specs.declared.choice.Choice.TheVariants.{Again}
-use Rattle.mdb_machine.specs.declared.gains.Gains.{Gains}
-use Rattle.mdb_machine.specs.Gains.{controller_gains, device_gains, in_slots}
-use Rattle.mdb_machine.specs.Known.{Known, known_before}
-use Rattle.mdb_machine.specs.Past.{last_told, or_else, tells_out_of_sequence}
 use Rattle.mdb_machine.specs.KnownMore.{known_more}
-use Rattle.mdb_machine.specs.Unvalued.{one_if}
-use Rattle.mdb_cashless.specs.declared.approvals.sale.Sale.{Sale}
 use Rattle.mdb_cashless.specs.declared.approvals.sale.Sale.TheVariants.{Unknown, Unawaited, Nothing, Awaited, Asked, Approved, Sold}
 use Rattle.mdb_cashless.specs.declared.approvals.state.ApprovalState.{ApprovalState}
 use Rattle.mdb_cashless.specs.ExtendedFacts.{Facts, approvals_in, facts_after, facts_of}
 use Rattle.mdb_cashless.specs.ExtendedReader.{AckStep, AskStep, IsEarlier, MayAsk, MaySell, ReaderStep, ReplyStep, VmcAckStep, approved_to, last_value, may_be_again, may_be_either, news, read, sold, sold_by, worth}
 use Rattle.mdb_cashless.specs.ExtendedAmounts.{unvalued, unvalued_by}
 use Rattle.mdb_cashless.specs.ReaderAmounts as reader_amounts
-use Rattle.mdb_cashless.specs.Reader.{value}
-use Rattle.mdb_cashless.specs.ReaderAmounts.{asks_sale}
 use Rattle.mdb_cashless.specs.ReaderFacts.{amount_by, config_by, known_of, own_messages}
-use Rattle.mdb_cashless.specs.ReaderMessages.{messages_of}
-use Rattle.mdb_cashless.specs.Units.{own}
-use Rattle.mdb_cashless.specs.shared.ReaderWays.{first_of_three}
 use Rattle.mdb_late_start.proofs.Covering.{Covers as IsKnownToo}
 use Rattle.mdb_late_start.proofs.Keepers.{AlsoSteps, allowed_end, as_it_is, as_same, by_own}
 use Rattle.mdb_late_start.proofs.ExtendedSales.{IsEarlierSale, IsSaleThere, hears_here, there_asked, there_heard, there_nothing}

@@ -1,20 +1,11 @@
 -- Foreign words in front of a recording: they change nothing. Lists of acts and of pieces stand
 -- newest first.
 use Rattle.std.proofs.Common.{ap, refl, sym, ◌≡◌, List, [], ◌∷◌, ◌++◌, if◌then◌else◌}
-use Rattle.mdb_words.specs.declared.event.Event.{Event}
-use Rattle.mdb_msgs.specs.declared.command.Device.{Device}
-use Rattle.mdb_msgs.specs.declared.setups.Setups.{Setups}
-use Rattle.mdb_bus.specs.declared.act.Act.{Act}
+use Rattle.mdb_late_start.proofs.Words.{Event, Device, Setups, Act, Joined, Profile, has_part}
+use Rattle.mdb_late_start.proofs.Words.{with_foreign, own_acts, Arrives, StateOf, machine_of, Sums}
 use Rattle.mdb_bus.specs.declared.act.Act.TheVariants as acts
-use Rattle.mdb_bus.specs.declared.scope.Beginning.TheVariants.{Joined}
-use Rattle.mdb_bus.specs.declared.scope.Profile.{Profile}
 use Rattle.mdb_bus.specs.ActLists.{Piece, Whole, acts_of}
-use Rattle.mdb_bus.specs.LeavingOut.{has_part, with_foreign}
-use Rattle.mdb_machine.specs.Pair.{own_acts}
 use Rattle.mdb_machine.specs.shared.OwnWays.{with_other, with_own}
-use Rattle.mdb_follow.specs.Arrivals.{Arrives}
-use Rattle.mdb_follow.specs.Machines.{StateOf, machine_of}
-use Rattle.mdb_follow.specs.Sums.{Sums}
 use Rattle.mdb_follow.proofs.Machines.{is_machine_of}
 use Rattle.mdb_follow.proofs.OwnWays.{ways_alike}
 use Rattle.mdb_late_start.proofs.CutWords.{IsForeignAct}

@@ -1,31 +1,13 @@
 -- Runs from power-on, as runs in mid-session. Lists of pieces are written newest first.
 use Rattle.std.proofs.Common.{ap, refl, sym, ◌∙◌, ◌≡◌, List, [], ◌∷◌}
-use Rattle.std.proofs.lemmas.List.{append-nil}
-use Rattle.mdb_words.specs.declared.event.Event.{Event}
-use Rattle.mdb_msgs.specs.declared.command.Device.{Device}
-use Rattle.mdb_msgs.specs.declared.device_set.DeviceSet.{DeviceSet}
-use Rattle.mdb_msgs.specs.declared.setups.Setups.{Setups}
-use Rattle.mdb_bus.specs.declared.act.Act.{Act}
-use Rattle.mdb_bus.specs.declared.scope.Beginning.TheVariants.{PowerOn, Joined}
-use Rattle.mdb_bus.specs.declared.scope.Profile.{Profile}
+use Rattle.mdb_late_start.proofs.Words
+use Words.{append-nil, Event, Device, DeviceSet, Setups, Act, PowerOn, Joined, Profile, Loss}
+use Words.{from_power_on, joined_by, Choice, Gains, IsNotKnown, StateOf, machine_of, AllSums, IsWay}
+use Words.{Run, States, added, no_sums, AreAlike, MayBeReadAlone, GoesOnInEnd, HasToldWhatItHolds}
+use Words.{NamesAReply, EndLaws, Beginning}
 use Rattle.mdb_bus.specs.ActLists.{Piece, Whole, IsActList, acts_of}
-use Rattle.mdb_bus.specs.Loss.{Loss}
-use Rattle.mdb_bus.specs.Scopes.{from_power_on}
-use Rattle.mdb_bus.specs.JoinedScopes.{joined_by}
-use Rattle.mdb_machine.specs.declared.choice.Choice.{Choice}
-use Rattle.mdb_machine.specs.declared.gains.Gains.{Gains}
-use Rattle.mdb_follow.specs.LeavingOut.{IsNotKnown}
-use Rattle.mdb_follow.specs.Machines.{StateOf, machine_of}
-use Rattle.mdb_follow.specs.Runs.{AllSums, IsWay, Run, States}
-use Rattle.mdb_follow.specs.Sums.{added, no_sums}
-use Rattle.mdb_late_start.specs.Ends.{AreAlike}
-use Rattle.mdb_late_start.specs.Alone.{MayBeReadAlone}
-use Rattle.mdb_late_start.specs.MidSession.{GoesOnInEnd, HasToldWhatItHolds}
-use Rattle.mdb_bus.specs.Pieces.{NamesAReply}
-use Rattle.mdb_late_start.specs.inner.EndLaws.{EndLaws}
 use Rattle.mdb_late_start.proofs.EndRuns.{all_name}
 use Rattle.mdb_late_start.proofs.InEnds.{AllName, holds_there}
-use Rattle.mdb_bus.specs.declared.scope.Beginning.{Beginning}
 
 module _ (laws : EndLaws) (profile : Profile) (setups : Setups) where
   abbrev begins : Beginning

@@ -1,28 +1,16 @@
 -- What a device does in the course of a recording is a way of its end by itself, and gains the same
 -- there where its amounts have a value. Lists of acts and of pieces stand newest first.
 use Rattle.std.proofs.Common.{ap, refl, sym, ◌∙◌, ◌≡◌, List, [], ◌∷◌, ◌++◌, ℕ, arith, slice_index}
-use Rattle.mdb_msgs.specs.declared.command.Device.{Device}
+use Rattle.mdb_late_start.proofs.Words
+use Words.{Device, Setups, Act, Beginning, Joined, Profile, NamesAReply, profile_of, Gains, Arrives}
+use Words.{StateOf, machine_of, unvalued_of, Sums, added, no_sums, AccountSums, both_sums}
+use Words.{HasToldWhatItHolds, MayJoinLate, TellsOnlyWhatIsSo, Machine, fun_ext}
 use Rattle.mdb_msgs.specs.declared.command.Device.TheVariants as devices
-use Rattle.mdb_msgs.specs.declared.setups.Setups.{Setups}
-use Rattle.mdb_bus.specs.declared.act.Act.{Act}
-use Rattle.mdb_bus.specs.declared.scope.Beginning.{Beginning}
-use Rattle.mdb_bus.specs.declared.scope.Beginning.TheVariants.{Joined}
-use Rattle.mdb_bus.specs.declared.scope.Profile.{Profile}
 use Rattle.mdb_bus.specs.declared.scope.Profile.TheVariants.{Base, Extended}
-use Rattle.mdb_bus.specs.Pieces.{NamesAReply}
-use Rattle.mdb_bus.specs.Scopes.{profile_of}
-use Rattle.mdb_machine.specs.declared.gains.Gains.{Gains}
-use Rattle.mdb_follow.specs.Arrivals.{Arrives}
-use Rattle.mdb_follow.specs.Machines.{StateOf, machine_of}
-use Rattle.mdb_follow.specs.Report.{unvalued_of}
-use Rattle.mdb_follow.specs.Sums.{Sums, added, no_sums, AccountSums}
-use Rattle.mdb_late_start.specs.Ends.{both_sums, both_accounts}
-use Rattle.mdb_late_start.specs.MidSession.{HasToldWhatItHolds, MayJoinLate, TellsOnlyWhatIsSo}
+use Rattle.mdb_late_start.specs.Ends.{both_accounts}
 use Rattle.mdb_late_start.proofs.Answering.{AllAnswer}
 use Rattle.mdb_late_start.proofs.Onward.{GoesOnTo}
-use Rattle.mdb_machine.specs.Machine.{Machine}
 use Rattle.std.proofs.Math.Nat.{add-zero, add_assoc}
-use Rattle.std.proofs.Math.Path.{fun_ext}
 
 -- with nothing, sums are what they are
 and_nothing : (sums : Sums) → sums ≡ both_sums sums no_sums

@@ -1,17 +1,10 @@
 -- The act list of a transcript from power-on is one of the same rows as a recording that begins in
 -- mid-session: from power-on rows begin anew, so that all pieces begin in the end that they are.
 use Rattle.std.proofs.Common.{ap, refl, sym, ◌∙◌, ◌≡◌, ◌++◌, inl, inr, List, [], ◌∷◌, None}
-use Rattle.mdb_words.specs.declared.event.Event.{Event}
-use Rattle.mdb_msgs.specs.declared.device_set.DeviceSet.{DeviceSet}
-use Rattle.mdb_msgs.specs.declared.setups.Setups.{Setups}
-use Rattle.mdb_bus.specs.declared.scope.Profile.{Profile}
-use Rattle.mdb_bus.specs.declared.scope.Scope.{Scope}
+use Rattle.mdb_late_start.proofs.Words.{Event, DeviceSet, Setups, Profile, Scope, with_foreign}
+use Rattle.mdb_late_start.proofs.Words.{from_power_on, joined_by, MayBeReadAlone, BeginAnew}
+use Rattle.mdb_late_start.proofs.Words.{SplitsAt}
 use Rattle.mdb_bus.specs.ActLists.{Piece, Quiet, ArePieces, IsActList, events_of, first_position, piece_events}
-use Rattle.mdb_bus.specs.LeavingOut.{with_foreign}
-use Rattle.mdb_bus.specs.Scopes.{from_power_on}
-use Rattle.mdb_bus.specs.JoinedScopes.{joined_by}
-use Rattle.mdb_late_start.specs.Alone.{MayBeReadAlone}
-use Rattle.mdb_late_start.specs.Cuts.{BeginAnew, SplitsAt}
 use Rattle.mdb_late_start.proofs.Cutting.{anew_still}
 use Rattle.mdb_late_start.proofs.CutWords.{first_anew}
 

@@ -2,38 +2,21 @@
 -- steps of the end of that by itself. This is shown once for changer and validator, from what is
 -- so of their conduct. Lists of acts stand newest first.
 use Rattle.std.proofs.Common.{◌≡◌, ◌⊎◌, inl, inr, ℕ, ◌<◌, Bool, true, false, ◌&&◌, List, [], ◌∷◌, ◌++◌, Option, Some, None, refl, ap, sym, subst, ◌∙◌, arith, if◌then◌else◌, sum_by}
-use Rattle.std.specs.List.{AllByRecursion}
-use Rattle.std.proofs.lemmas.List.Sums.{sum_by-cons}
-use Rattle.mdb_msgs.specs.declared.command.Command.{Command}
-use Rattle.mdb_msgs.specs.declared.reply.Reply.{Reply}
-use Rattle.mdb_msgs.specs.declared.setups.Setups.{Setups}
-use Rattle.mdb_bus.specs.Acts.{IsReply}
-use Rattle.mdb_bus.specs.Pieces.{NamesAReply}
-use Rattle.mdb_bus.specs.declared.act.Act.{Act}
+use Rattle.mdb_late_start.proofs.Words
+use Words.{AllByRecursion, sum_by-cons, Command, Reply, Setups, IsReply, NamesAReply, Act}
+use Words.{Beginning, PowerOn, Joined, profile_of, Choice, Lost, Restart, fun_ext, Gains, Part}
+use Words.{controller_gains, device_gains, IsNew, has_reset, holds_after, kept_of, Known, Is}
+use Words.{known_before, StartsIn, last_list, last_told, or_else, unless_empty, one_if, AnswersLast}
+use Words.{HasTold, IsNothingOr, GoesOnInEnd, TellsOnlyWhatIsSo, Device, IsNotKnown, StateOf}
+use Words.{machine_of, unvalued_of}
 use Rattle.mdb_bus.specs.declared.act.Act.TheVariants as acts
-use Rattle.mdb_bus.specs.declared.scope.Beginning.{Beginning}
-use Rattle.mdb_bus.specs.declared.scope.Beginning.TheVariants.{PowerOn, Joined}
-use Rattle.mdb_bus.specs.Scopes.{profile_of}
-use Rattle.mdb_machine.specs.declared.choice.Choice.{Choice}
-use Rattle.mdb_machine.specs.declared.choice.Choice.TheVariants.{Lost, Restart}
-use Rattle.std.proofs.Math.Path.{fun_ext}
-use Rattle.mdb_machine.specs.declared.gains.Gains.{Gains}
-use Rattle.mdb_machine.specs.declared.kept.Part.{Part}
-use Rattle.mdb_machine.specs.Gains.{controller_gains, device_gains}
 use Rattle.mdb_machine.specs.Keeper.{Facts, KnownFacts, Tables, known_of, parts_by, setup_by}
 use Rattle.mdb_machine.specs.KeeperSteps.{AckStep, Conduct, KeeperStep, ReplyStep, StepKnowing, VmcAckStep, worth}
-use Rattle.mdb_machine.specs.Kept.{IsNew, has_reset, held, holds_acked, holds_after, holds_read, kept_of}
-use Rattle.mdb_machine.specs.Known.{Allows, AllowsKept, Known, Unknown, Is, known_before, known_by}
-use Rattle.mdb_machine.specs.Machine.{StartsIn}
-use Rattle.mdb_machine.specs.Past.{last_list, last_told, or_else, unless_empty}
+use Rattle.mdb_machine.specs.Kept.{held, holds_acked, holds_read}
+use Rattle.mdb_machine.specs.Known.{Allows, AllowsKept, Unknown, known_by}
 use Rattle.mdb_machine.specs.Steps.{ForOwn}
-use Rattle.mdb_machine.specs.Unvalued.{amounts_in, one_if, unvalued}
-use Rattle.mdb_late_start.specs.MidSession.{AnswersLast, HasTold, IsNothingOr, GoesOnInEnd, TellsOnlyWhatIsSo}
+use Rattle.mdb_machine.specs.Unvalued.{amounts_in, unvalued}
 use Rattle.mdb_late_start.proofs.Covering.{Covers, known_in_end, known_over, same_over}
-use Rattle.mdb_msgs.specs.declared.command.Device.{Device}
-use Rattle.mdb_follow.specs.LeavingOut.{IsNotKnown}
-use Rattle.mdb_follow.specs.Machines.{StateOf, machine_of}
-use Rattle.mdb_follow.specs.Report.{unvalued_of}
 
 -- The facts of a step as the end of a recording has them, where this is known there: what was asked
 -- last and the last kept list are what they were.

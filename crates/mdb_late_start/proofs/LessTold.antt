@@ -1,30 +1,17 @@
 -- Levels of which less is known, or less was told: so it stays with each act. By the base profile a
 -- reply fits as it did, where less was told.
 use Rattle.std.proofs.Common.{refl, ◌≡◌, ◌++◌, ◌⊎◌, inl, inr, ℕ, List, [], ◌∷◌, Option, Some, None}
-use Rattle.std.specs.Option.{option_or}
-use Rattle.mdb_words.specs.declared.event.Event.{Event}
-use Rattle.mdb_msgs.specs.declared.command.Command.{Command}
+use Rattle.mdb_late_start.proofs.Words.{option_or, Event, Command, First, Second, Setups, Act}
+use Rattle.mdb_late_start.proofs.Words.{Levels, Beginning, Joined, Profile, levels_for}
+use Rattle.mdb_late_start.proofs.Words.{with_foreign, first_levels, profile_of, IsNothingOr}
+use Rattle.mdb_late_start.proofs.Words.{IsLessTold, IsLessKnown, foreign_levels}
 use Rattle.mdb_msgs.specs.declared.command.Command.TheVariants as commands
 use Rattle.mdb_msgs.specs.declared.command.ReaderCommand.TheVariants as readers
-use Rattle.mdb_msgs.specs.declared.command.ReaderUnit.TheVariants.{First, Second}
-use Rattle.mdb_msgs.specs.declared.setups.Setups.{Setups}
 use Rattle.mdb_msgs.specs.declared.reply.Reply.TheVariants as replies
 use Rattle.mdb_msgs.specs.ExtendedLevels.{last_level}
-use Rattle.mdb_bus.specs.declared.act.Act.{Act}
 use Rattle.mdb_bus.specs.declared.act.Act.TheVariants as acts
-use Rattle.mdb_bus.specs.declared.levels.Levels.{Levels}
-use Rattle.mdb_bus.specs.declared.scope.Beginning.{Beginning}
-use Rattle.mdb_bus.specs.declared.scope.Beginning.TheVariants.{Joined}
-use Rattle.mdb_bus.specs.declared.scope.Profile.{Profile}
 use Rattle.mdb_bus.specs.declared.scope.Profile.TheVariants.{Base, Extended}
 use Rattle.mdb_bus.specs.ActLists.{Piece, Whole, IsLow, PieceFits, levels_by, levels_of}
-use Rattle.mdb_bus.specs.Formats.{levels_for}
-use Rattle.mdb_bus.specs.LeavingOut.{with_foreign}
-use Rattle.mdb_bus.specs.Scopes.{first_levels, profile_of}
-use Rattle.mdb_late_start.specs.MidSession.{IsNothingOr}
-use Rattle.mdb_late_start.specs.Told.{IsLessTold}
-use Rattle.mdb_late_start.specs.Alone.{IsLessKnown}
-use Rattle.mdb_bus.proofs.LeftOutOrder.{foreign_levels}
 
 -- a profile is one of the two
 pub by_profile : (profile : Profile) → (profile ≡ Base) ⊎ (profile ≡ Extended)

@@ -26,3 +26,4 @@ pub mod Said
 pub mod ToldCuts
 pub mod Truth
 pub mod Validator
+mod Words

@@ -1,38 +1,21 @@
 -- Rows that have foreign words in front of a middle, and tails after it: a run of the middle is one
 -- of the rows. Lists of acts and of pieces stand newest first, lists of events oldest first.
 use Rattle.std.proofs.Common.{ap, refl, ◌∙◌, ◌≡◌, inl, inr, List, [], ◌∷◌, ◌++◌, All}
-use Rattle.std.specs.List.{AllByRecursion}
-use Rattle.std.proofs.lemmas.List.{append-nil}
-use Rattle.std.proofs.lemmas.List.Elements.{recursion_from_All}
-use Rattle.mdb_words.specs.declared.event.Event.{Event}
-use Rattle.mdb_msgs.specs.declared.command.Device.{Device}
-use Rattle.mdb_msgs.specs.declared.setups.Setups.{Setups}
+use Rattle.mdb_late_start.proofs.Words
+use Words.{AllByRecursion, append-nil, recursion_from_All, Event, Device, Setups, Levels, Joined}
+use Words.{Scope, Profile, IsForeignWord, IsTail, with_foreign, own_acts, AllSums, Run, HasMiddle}
+use Words.{told_later, EndLaws, IsLessKnown, MayBeReadAlone, AreForeignWords, first_levels}
+use Words.{levels_before, no_levels, profile_of, Beginning}
 use Rattle.mdb_bus.specs.declared.act.Act.TheVariants as acts
-use Rattle.mdb_bus.specs.declared.levels.Levels.{Levels}
-use Rattle.mdb_bus.specs.declared.scope.Beginning.TheVariants.{Joined}
-use Rattle.mdb_bus.specs.declared.scope.Scope.{Scope}
-use Rattle.mdb_bus.specs.declared.scope.Profile.{Profile}
 use Rattle.mdb_bus.specs.declared.scope.Profile.TheVariants.{Base, Extended}
-use Rattle.mdb_bus.specs.Acts.{IsForeignWord}
 use Rattle.mdb_bus.specs.ActLists.{Piece, Whole, InForeign, ArePieces, IsActList, acts_of, events_of, first_position, last_of, levels_of, piece_events, position_of}
-use Rattle.mdb_bus.specs.Pieces.{IsTail}
-use Rattle.mdb_bus.specs.LeavingOut.{with_foreign}
-use Rattle.mdb_machine.specs.Pair.{own_acts}
-use Rattle.mdb_follow.specs.Runs.{AllSums, Run}
-use Rattle.mdb_late_start.specs.Middle.{HasMiddle}
-use Rattle.mdb_late_start.specs.Told.{told_later}
-use Rattle.mdb_late_start.specs.inner.EndLaws.{EndLaws}
-use Rattle.mdb_late_start.specs.Alone.{IsLessKnown, MayBeReadAlone}
 use Rattle.mdb_late_start.proofs.CutWords.{foreign_both, foreign_end, first_anew}
 use Rattle.mdb_late_start.proofs.LessTold.{as_told, by_profile}
 use Rattle.mdb_late_start.proofs.ToldCuts.{other_levels}
 use Rattle.mdb_late_start.proofs.EndRuns.{front_in_order, run_by}
 use Rattle.mdb_late_start.proofs.Foreign.{own_later, AreForeign, after_foreign, none_of_its}
 use Rattle.mdb_late_start.proofs.Onward.{acts_in_two}
-use Rattle.mdb_bus.proofs.LeftOutWords.{AreForeignWords}
-use Rattle.mdb_bus.specs.Scopes.{first_levels, levels_before, no_levels, profile_of}
 use Rattle.mdb_late_start.proofs.Cutting.{none_or_same, begins_nothing}
-use Rattle.mdb_bus.specs.declared.scope.Beginning.{Beginning}
 
 -- foreign words, by recursion
 are_words : (words : List Event) → All IsForeignWord words → AreForeignWords words

@@ -1,17 +1,9 @@
 -- Ways that go on from a state after some acts: of all devices, and of each. Lists of acts and of
 -- pieces stand newest first.
 use Rattle.std.proofs.Common.{ap, refl, ◌≡◌, List, [], ◌∷◌, ◌++◌}
-use Rattle.mdb_msgs.specs.declared.command.Device.{Device}
-use Rattle.mdb_bus.specs.declared.act.Act.{Act}
-use Rattle.mdb_bus.specs.declared.scope.Beginning.{Beginning}
+use Rattle.mdb_late_start.proofs.Words.{Device, Act, Beginning, Loss, Machine, Arrives, ArrivesBy}
+use Rattle.mdb_late_start.proofs.Words.{machine_of, AllSums, IsWay, States, Sums, RunGoesOnThrough}
 use Rattle.mdb_bus.specs.ActLists.{Piece, Whole, acts_of}
-use Rattle.mdb_bus.specs.Loss.{Loss}
-use Rattle.mdb_machine.specs.Machine.{Machine}
-use Rattle.mdb_follow.specs.Arrivals.{Arrives, ArrivesBy}
-use Rattle.mdb_follow.specs.Machines.{machine_of}
-use Rattle.mdb_follow.specs.Runs.{AllSums, IsWay, States}
-use Rattle.mdb_follow.specs.Sums.{Sums}
-use Rattle.mdb_late_start.specs.Ends.{RunGoesOnThrough}
 
 -- a device goes on through acts, from a state and sums after the acts in front
 abbrev pub GoesOnTo : {State : Type 0} → Machine State → List Act → List Act → State → Sums → State

@@ -1,47 +1,29 @@
 -- Where the end of a transcript has an act list by itself, by the extended profile, its replies are
 -- those of the whole: what is read there with less known of levels is what is read with more.
 use Rattle.std.proofs.Common.{arith, ap, refl, sym, subst, ◌∙◌, ◌≡◌, ◌≢◌, ◌++◌, ◌⊎◌, ◌+◌, ◌%◌, inl, inr, ℕ, Bool, true, false, nat_lt, ◌||◌, sum, List, [], ◌∷◌, length, Option, Some, None, if◌then◌else◌, append_assoc}
-use Rattle.std.proofs.lemmas.List.{same_from_push}
-use Rattle.mdb_words.specs.declared.event.Event.{Event}
-use Rattle.mdb_words.specs.declared.event.Event.TheVariants.{Word}
-use Rattle.mdb_words.specs.declared.word.Line.TheVariants.{Peripheral}
-use Rattle.mdb_msgs.specs.declared.command.Command.{Command}
+use Rattle.mdb_late_start.proofs.Words
+use Words.{same_from_push, Event, Word, Peripheral, Command, First, Second, Reply, Setups}
+use Words.{IsReplyTo, reply_bytes, Format, Or, Open, Levels, Beginning, PowerOn, Joined, Scope}
+use Words.{IsReply, Say, reply_words, HasActList, IsReadAs, format_by, format_for, situation_of}
+use Words.{IsExtended, OpenAgrees, levels_before, no_levels, profile_of, joined_with, IsNothingOr}
+use Words.{IsLessTold, IsLessKnown, MayBeReadAlone, TellsLevelsOfFront, front_and_last, Profile}
 use Rattle.mdb_msgs.specs.declared.command.Command.TheVariants.{Reader}
-use Rattle.mdb_msgs.specs.declared.command.ReaderUnit.TheVariants.{First, Second}
 use Rattle.mdb_msgs.specs.declared.reading.Ids.TheVariants.{ByNext, Full}
 use Rattle.mdb_msgs.specs.declared.reading.Reading.{Reading}
-use Rattle.mdb_msgs.specs.declared.reply.Reply.{Reply}
-use Rattle.mdb_msgs.specs.declared.setups.Setups.{Setups}
-use Rattle.mdb_msgs.specs.Replies.{IsReplyTo, reply_bytes}
 use Rattle.mdb_bus.specs.declared.act.Act.TheVariants as acts
-use Rattle.mdb_bus.specs.declared.format.Format.{Format}
-use Rattle.mdb_bus.specs.declared.format.Format.TheVariants.{Or, Open}
-use Rattle.mdb_bus.specs.declared.levels.Levels.{Levels}
-use Rattle.mdb_bus.specs.declared.scope.Beginning.{Beginning}
-use Rattle.mdb_bus.specs.declared.scope.Beginning.TheVariants.{PowerOn, Joined}
 use Rattle.mdb_bus.specs.declared.scope.Profile.TheVariants.{Base, Extended}
-use Rattle.mdb_bus.specs.declared.scope.Scope.{Scope}
-use Rattle.mdb_bus.specs.Acts.{IsReply, Say, reply_words, said_by}
+use Rattle.mdb_bus.specs.Acts.{said_by}
 use Rattle.mdb_bus.specs.ActLists.{AnswerMayCome, ArePieces, AreSpaced, Asked, IsActList, IsReplyFront, Piece, ReplyFits, ReplyTail, Whole, events_of, last_of, levels_of, position_of, Position}
-use Rattle.mdb_bus.specs.Pieces.{HasActList}
-use Rattle.mdb_bus.specs.Formats.{IsReadAs, format_by, format_for}
 use Rattle.mdb_bus.specs.ExtendedFormats.{by_asked, by_told, format_at, long, long_format, short, IsFirst, untold_format}
-use Rattle.mdb_bus.specs.LinkFaults.{situation_of}
-use Rattle.mdb_bus.specs.OpenReplies.{IsExtended, OpenAgrees}
-use Rattle.mdb_bus.specs.Scopes.{levels_before, no_levels, profile_of}
 use Rattle.mdb_bus.specs.shared.Grammar.{OpenIsAFront}
 use Rattle.mdb_bus.specs.shared.Step.{Step}
 use Rattle.mdb_bus.specs.shared.Step as step
 use Rattle.mdb_bus.specs.shared.Steps.{Leads}
-use Rattle.mdb_late_start.specs.Cuts.{joined_with}
-use Rattle.mdb_late_start.specs.MidSession.{IsNothingOr}
-use Rattle.mdb_late_start.specs.Told.{IsLessTold}
-use Rattle.mdb_late_start.specs.Alone.{IsLessKnown, IsReadAlone, MayBeReadAlone, TellsLevelsOfFront}
+use Rattle.mdb_late_start.specs.Alone.{IsReadAlone}
 use Rattle.mdb_late_start.proofs.Cutting.{AllFitAlone, ComesAlone, Cutting, FitsAlone, all_foreign, alone, anew_still, foreign_position, rows_begin}
 use Rattle.mdb_late_start.proofs.LessTold.{by_profile, less_before, less_known, less_told, levels_fit}
 use Rattle.mdb_bus.proofs.Backward.{backward}
-use Rattle.mdb_bus.proofs.Lists.{first_stays, front_and_last, heard, inside, peripheral_push, say_last, say_length}
-use Rattle.mdb_bus.specs.declared.scope.Profile.{Profile}
+use Rattle.mdb_bus.proofs.Lists.{first_stays, heard, inside, peripheral_push, say_last, say_length}
 
 -- what mdb_bus says of act lists
 pub record LinkLaws : Type 0 where

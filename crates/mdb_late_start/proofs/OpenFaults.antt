@@ -1,39 +1,23 @@
 -- Where the end of a transcript has no act list by itself, by the extended profile, its first fault
 -- on the link is that a reply is left out: one that open doesn't read.
 use Rattle.std.proofs.Common.{ap, refl, sym, subst, ◌∙◌, ◌≡◌, ◌≢◌, ◌++◌, ◌⊎◌, inl, inr, ℕ, Bool, true, false, List, [], ◌∷◌, Some, append_assoc}
-use Rattle.std.proofs.lemmas.List.{append-nil, same_from_push}
-use Rattle.mdb_words.specs.declared.event.Event.{Event}
-use Rattle.mdb_words.specs.declared.event.Event.TheVariants.{Word}
-use Rattle.mdb_words.specs.declared.word.Line.TheVariants.{Peripheral}
-use Rattle.mdb_msgs.specs.declared.command.Command.{Command}
+use Rattle.mdb_late_start.proofs.Words
+use Words.{append-nil, same_from_push, Event, Word, Peripheral, Command, Reply, Setups, IsReplyTo}
+use Words.{reply_bytes, Rule, Format, Or, Levels, Scope, HasActList, HasFault, IsReadAs, format_for}
+use Words.{IsLinkFault, situation_of, OpenLeavesOut, levels_before, profile_of, IsLessKnown}
+use Words.{TellsLevelsOfFront, SplitsAt, joined_with, front_and_last, last_push, Profile}
 use Rattle.mdb_msgs.specs.declared.fault.MsgFault.{MsgFault}
 use Rattle.mdb_msgs.specs.declared.fault.MsgFault.TheVariants.{Message, Profile as Left, Answer}
-use Rattle.mdb_msgs.specs.declared.reply.Reply.{Reply}
-use Rattle.mdb_msgs.specs.declared.setups.Setups.{Setups}
-use Rattle.mdb_msgs.specs.Replies.{IsReplyTo, reply_bytes}
 use Rattle.mdb_bus.specs.declared.act.Act.TheVariants as acts
 use Rattle.mdb_bus.specs.declared.fault.Blame.{Blame}
-use Rattle.mdb_bus.specs.declared.fault.Rule.{Rule}
 use Rattle.mdb_bus.specs.declared.fault.Rule.TheVariants as rule
-use Rattle.mdb_bus.specs.declared.format.Format.{Format}
-use Rattle.mdb_bus.specs.declared.format.Format.TheVariants.{Or}
-use Rattle.mdb_bus.specs.declared.levels.Levels.{Levels}
 use Rattle.mdb_bus.specs.declared.scope.Profile.TheVariants.{Extended}
-use Rattle.mdb_bus.specs.declared.scope.Scope.{Scope}
 use Rattle.mdb_bus.specs.ActLists.{ArePieces, IsActList, Piece, ReplyFits, ReplyTail, Whole, events_of, last_of, levels_of, position_of}
-use Rattle.mdb_bus.specs.Pieces.{HasActList}
-use Rattle.mdb_bus.specs.Formats.{HasFault, IsReadAs, format_for}
-use Rattle.mdb_bus.specs.LinkFaults.{IsLinkFault, RowBreaks, situation_of, asked_device, blame_of, fault_of}
-use Rattle.mdb_bus.specs.OpenReplies.{OpenLeavesOut}
-use Rattle.mdb_bus.specs.Scopes.{levels_before, profile_of}
-use Rattle.mdb_late_start.specs.Alone.{IsLessKnown, TellsLevelsOfFront}
-use Rattle.mdb_late_start.specs.Cuts.{SplitsAt, joined_with}
+use Rattle.mdb_bus.specs.LinkFaults.{RowBreaks, asked_device, blame_of, fault_of}
 use Rattle.mdb_late_start.proofs.Cutting.{AllFitAlone, ComesAlone, Cutting, alone, anew_still, splits}
 use Rattle.mdb_late_start.proofs.LessTold.{by_profile}
 use Rattle.mdb_late_start.proofs.OpenEnds.{LinkLaws, fit_by_base, format_alone, known_in_reply, reply_fits_there, reply_tail, IsLess, may_reply, some_events}
-use Rattle.mdb_bus.proofs.Lists.{front_and_last, last_push}
 use Rattle.mdb_bus.specs.ExtendedHaste.{counted_in, haste_of}
-use Rattle.mdb_bus.specs.declared.scope.Profile.{Profile}
 
 -- what mdb_bus says of faults
 pub record FaultLaws : Type 0 where

@@ -1,20 +1,12 @@
 -- What is known of a reader in the end of a recording by itself is known in the whole recording,
 -- too. Lists of acts stand newest first.
 use Rattle.std.proofs.Common.{◌≡◌, ◌⊎◌, ℕ, true, List, [], ◌∷◌, ◌++◌, Option, Some, None, option_map, unwrap_or, inl, inr, ap, ◌∙◌}
-use Rattle.mdb_msgs.specs.declared.command.ReaderUnit.{ReaderUnit}
-use Rattle.mdb_msgs.specs.declared.setups.ReaderConfig.{ReaderConfig}
-use Rattle.mdb_msgs.specs.declared.setups.Setups.{Setups}
-use Rattle.mdb_msgs.specs.Setups.{config_known}
-use Rattle.mdb_bus.specs.declared.act.Act.{Act}
-use Rattle.mdb_bus.specs.declared.scope.Beginning.{Beginning}
-use Rattle.mdb_bus.specs.declared.scope.Beginning.TheVariants.{PowerOn, Joined}
-use Rattle.mdb_bus.specs.Scopes.{profile_of}
-use Rattle.mdb_machine.specs.Kept.{kept_of}
-use Rattle.mdb_machine.specs.Past.{last_list, last_told, or_else, unless_empty}
+use Rattle.mdb_late_start.proofs.Words.{ReaderUnit, ReaderConfig, Setups, config_known, Act}
+use Rattle.mdb_late_start.proofs.Words.{Beginning, PowerOn, Joined, profile_of, kept_of, last_list}
+use Rattle.mdb_late_start.proofs.Words.{last_told, or_else, unless_empty, AnswersLast, IsNothingOr}
 use Rattle.mdb_cashless.specs.declared.reader.transaction.Transaction.{Transaction}
 use Rattle.mdb_cashless.specs.ReaderAmounts.{unvalued}
 use Rattle.mdb_cashless.specs.ReaderFacts.{KnownFacts, amount_by, asked_by, config_by, effect_of, known_of, parts_by, taken_told}
-use Rattle.mdb_late_start.specs.MidSession.{AnswersLast, IsNothingOr}
 use Rattle.mdb_late_start.proofs.Covering.{Covers, all_later, asked_over, covers_over, known_over, owed_end, same_over, told_over}
 use Rattle.mdb_late_start.proofs.ReaderPrices.{IsPriced, all_priced, known_config, priced, prices_known, same_prices}
 

@@ -1,23 +1,12 @@
 -- A reader that holds messages has told a list of them, as a recording begins and after each step.
 use Rattle.std.proofs.Common.{◌≡◌, true, List, [], ◌∷◌, ap, sym, ◌∙◌, arith}
 use Rattle.std.proofs.lemmas.Grind.{common_steps}
-use Rattle.mdb_msgs.specs.declared.command.ReaderCommand.{ReaderCommand}
-use Rattle.mdb_msgs.specs.declared.command.ReaderUnit.{ReaderUnit}
-use Rattle.mdb_bus.specs.declared.act.Act.{Act}
+use Rattle.mdb_late_start.proofs.Words.{ReaderCommand, ReaderUnit, Act, Beginning, PowerOn, Joined}
+use Rattle.mdb_late_start.proofs.Words.{Choice, Gains, holds_after, kept_of, StartsIn, last_list}
+use Rattle.mdb_late_start.proofs.Words.{ReaderState, parts_of, own, HasTold}
 use Rattle.mdb_bus.specs.declared.act.Act.TheVariants as acts
-use Rattle.mdb_bus.specs.declared.scope.Beginning.{Beginning}
-use Rattle.mdb_bus.specs.declared.scope.Beginning.TheVariants.{PowerOn, Joined}
-use Rattle.mdb_machine.specs.declared.choice.Choice.{Choice}
-use Rattle.mdb_machine.specs.declared.gains.Gains.{Gains}
-use Rattle.mdb_machine.specs.Kept.{holds_after, kept_of}
-use Rattle.mdb_machine.specs.Machine.{StartsIn}
-use Rattle.mdb_machine.specs.Past.{last_list}
-use Rattle.mdb_cashless.specs.declared.reader.state.ReaderState.{ReaderState}
 use Rattle.mdb_cashless.specs.Reader.{ReaderStep, before_messages, power_on, take}
 use Rattle.mdb_cashless.specs.ReaderFacts.{Facts, known_of, parts_by}
-use Rattle.mdb_cashless.specs.ReaderMessages.{parts_of}
-use Rattle.mdb_cashless.specs.Units.{own}
-use Rattle.mdb_late_start.specs.MidSession.{HasTold}
 use Rattle.mdb_late_start.proofs.Keepers.{held_acked, held_by_own, told_next}
 use Rattle.mdb_late_start.proofs.ReaderPrices.{said}
 use Rattle.mdb_cashless.proofs.Guesses.{held_before as still_held}

@@ -1,34 +1,22 @@
 -- A step of a reader after some facts is one after facts that differ in what is told of values, and
 -- in whether a reset message is owed. It gains the same where what it values has the same value.
 use Rattle.std.proofs.Common.{◌≡◌, ◌⊎◌, ℕ, Bool, true, false, ◌||◌, List, [], ◌∷◌, ◌++◌, map, Option, Some, None, refl, inl, inr, if◌then◌else◌, unwrap_or, arith, ap, sym, ◌∙◌}
-use Rattle.std.proofs.lemmas.List.Sums.{sum_by-cons}
-use Rattle.mdb_msgs.specs.declared.command.ReaderCommand.{ReaderCommand}
+use Rattle.mdb_late_start.proofs.Words
+use Words.{sum_by-cons, ReaderCommand, ReaderUnit, Reply, ReaderMsg, ReaderConfig, Act, Choice}
+use Words.{Gains, is_approval, controller_gains, device_gains, in_slots, IsNew, kept_of, resets}
+use Words.{tells_out_of_sequence, one_if, ReaderState, value, messages_of, parts_of, own}
 use Rattle.mdb_msgs.specs.declared.command.ReaderCommand.TheVariants as reader
-use Rattle.mdb_msgs.specs.declared.command.ReaderUnit.{ReaderUnit}
-use Rattle.mdb_msgs.specs.declared.reply.Reply.{Reply}
-use Rattle.mdb_msgs.specs.declared.reply.reader.ReaderMsg.{ReaderMsg}
 use Rattle.mdb_msgs.specs.declared.reply.reader.ReaderMsg.TheVariants as messages
-use Rattle.mdb_msgs.specs.declared.setups.ReaderConfig.{ReaderConfig}
-use Rattle.mdb_bus.specs.declared.act.Act.{Act}
 use Rattle.mdb_bus.specs.declared.act.Act.TheVariants as acts
-use Rattle.mdb_machine.specs.declared.choice.Choice.{Choice}
-use Rattle.mdb_machine.specs.declared.gains.Gains.{Gains}
-use Rattle.mdb_machine.specs.Choices.{is_approval}
-use Rattle.mdb_machine.specs.Gains.{controller_gains, device_gains, in_slots}
-use Rattle.mdb_machine.specs.Kept.{IsNew, kept_of}
-use Rattle.mdb_machine.specs.Past.{resets, tells_out_of_sequence}
-use Rattle.mdb_machine.specs.Unvalued.{one_if}
 use Rattle.mdb_cashless.specs.declared.reader.messages.ReaderActivity.{ReaderActivity}
-use Rattle.mdb_cashless.specs.declared.reader.state.ReaderState.{ReaderState}
 use Rattle.mdb_cashless.specs.declared.reader.view.View.{View}
-use Rattle.mdb_cashless.specs.Reader.{AckStep, AskStep, ReaderStep, ReplyStep, VmcAckStep, all_approved, all_approved_to, approved, is_repeated, read, sold, sold_any, sold_to, taken, value, view_answered}
+use Rattle.mdb_cashless.specs.Reader.{AckStep, AskStep, ReaderStep, ReplyStep, VmcAckStep, all_approved, all_approved_to, approved, is_repeated, read, sold, sold_any, sold_to, taken, view_answered}
 use Rattle.mdb_cashless.specs.ReaderDevice as reader_device
 use Rattle.mdb_cashless.specs.ReaderFacts.{Facts, KnownFacts, effect_of_own}
-use Rattle.mdb_cashless.specs.ReaderMessages.{messages_of, part_of, parts_of}
+use Rattle.mdb_cashless.specs.ReaderMessages.{part_of}
 use Rattle.mdb_cashless.specs.ReaderView as reader_view
 use Rattle.mdb_cashless.specs.ReaderView.{heard}
 use Rattle.mdb_cashless.specs.Transactions.{amounts, ended_by, no_end}
-use Rattle.mdb_cashless.specs.Units.{own}
 use Rattle.mdb_late_start.proofs.Keepers.{AlsoSteps, as_it_is, as_same, by_own}
 use Rattle.mdb_late_start.proofs.ReaderPrices.{AreSaidPriced, IsPriced, IsSalePriced, Prices, approvals, config_with}
 

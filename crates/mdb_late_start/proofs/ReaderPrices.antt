@@ -1,28 +1,14 @@
 -- Where the end of a recording leaves no amount of a reader without a value, each of its acts has
 -- the same price there as in the whole recording.
 use Rattle.std.proofs.Common.{◌≡◌, ◌⊎◌, ℕ, Bool, true, false, ◌&&◌, ◌||◌, List, [], ◌∷◌, ◌++◌, Option, Some, None, refl, inl, inr, unwrap_or, arith, ap, sym, ◌∙◌, sum_by}
-use Rattle.std.specs.Option.{is_none}
-use Rattle.mdb_msgs.specs.declared.command.Command.{Command}
-use Rattle.mdb_msgs.specs.declared.command.ReaderCommand.{ReaderCommand}
-use Rattle.mdb_msgs.specs.declared.command.ReaderUnit.{ReaderUnit}
-use Rattle.mdb_msgs.specs.declared.reply.Reply.{Reply}
-use Rattle.mdb_msgs.specs.declared.reply.reader.ReaderMsg.{ReaderMsg}
-use Rattle.mdb_msgs.specs.declared.setups.ReaderConfig.{ReaderConfig}
-use Rattle.mdb_msgs.specs.Setups.{config_known}
-use Rattle.mdb_bus.specs.declared.act.Act.{Act}
+use Rattle.mdb_late_start.proofs.Words
+use Words.{is_none, Command, ReaderCommand, ReaderUnit, Reply, ReaderMsg, ReaderConfig}
+use Words.{config_known, Act, Beginning, is_approval, known_before, last_told, or_else, one_if}
+use Words.{asks_sale, config_in, last_said, messages_of, own, first_of_three, AnswersLast}
 use Rattle.mdb_bus.specs.declared.act.Act.TheVariants as acts
-use Rattle.mdb_bus.specs.declared.scope.Beginning.{Beginning}
-use Rattle.mdb_machine.specs.Choices.{is_approval}
-use Rattle.mdb_machine.specs.Known.{known_before}
-use Rattle.mdb_machine.specs.Past.{last_told, or_else}
 use Rattle.mdb_machine.specs.Unvalued as amounts
-use Rattle.mdb_machine.specs.Unvalued.{one_if}
-use Rattle.mdb_cashless.specs.ReaderAmounts.{asks_sale, unvalued, unvalued_by}
+use Rattle.mdb_cashless.specs.ReaderAmounts.{unvalued, unvalued_by}
 use Rattle.mdb_cashless.specs.ReaderFacts.{amount_by, config_by, known_of, messages_by, own_messages}
-use Rattle.mdb_cashless.specs.ReaderMessages.{config_in, last_said, messages_of}
-use Rattle.mdb_cashless.specs.Units.{own}
-use Rattle.mdb_cashless.specs.shared.ReaderWays.{first_of_three}
-use Rattle.mdb_late_start.specs.MidSession.{AnswersLast}
 
 -- what values hang on: the config message, and the amount of the last message 05
 pub record Prices : Type 0 where

@@ -1,36 +1,26 @@
 -- What a reader does in the course of a recording, it may do in the end of that by itself.
 use Rattle.std.proofs.Common.{List, [], ◌∷◌, ◌++◌, refl, ◌∙◌}
 use Rattle.mdb_msgs.specs.declared.command.Device.TheVariants as devices
-use Rattle.mdb_msgs.specs.declared.command.ReaderUnit.{ReaderUnit}
-use Rattle.mdb_msgs.specs.declared.setups.Setups.{Setups}
-use Rattle.mdb_bus.specs.declared.act.Act.{Act}
-use Rattle.mdb_bus.specs.declared.scope.Beginning.{Beginning}
-use Rattle.mdb_bus.specs.declared.scope.Beginning.TheVariants.{Joined}
+use Rattle.mdb_late_start.proofs.Words.{ReaderUnit, Setups, Act, Beginning, Joined, profile_of}
+use Rattle.mdb_late_start.proofs.Words.{Choice, Gains, ReaderState, HasTold, MayJoinLate}
+use Rattle.mdb_late_start.proofs.Words.{HasToldByProfile, Profile, Machine, Device}
 use Rattle.mdb_bus.specs.declared.scope.Profile.TheVariants as profiles
-use Rattle.mdb_bus.specs.Scopes.{profile_of}
-use Rattle.mdb_machine.specs.declared.choice.Choice.{Choice}
-use Rattle.mdb_machine.specs.declared.gains.Gains.{Gains}
 use Rattle.mdb_cashless.specs.declared.by_profile.state.StateByProfile.{StateByProfile}
 use Rattle.mdb_cashless.specs.declared.by_profile.state.StateByProfile.TheVariants.{Base, Extended}
-use Rattle.mdb_cashless.specs.declared.reader.state.ReaderState.{ReaderState}
 use Rattle.mdb_cashless.specs.ReaderAmounts.{unvalued}
 use Rattle.mdb_cashless.specs.ReaderFacts.{KnownFacts, known_of}
-use Rattle.mdb_late_start.specs.MidSession.{HasTold, MayJoinLate, HasToldByProfile}
 use Rattle.mdb_late_start.proofs.ExtendedSteps.{extended_in_end}
 use Rattle.mdb_late_start.proofs.Keepers.{AlsoSteps, allowed_end, kept_end, recorded}
 use Rattle.mdb_late_start.proofs.ReaderCovers.{IsCounted, counted, known_in_end}
 use Rattle.mdb_late_start.proofs.ReaderHolds.{goes_on_told, starts_told}
 use Rattle.mdb_late_start.proofs.ReaderOtherwise.{goes_otherwise, otherwise}
 use Rattle.mdb_late_start.proofs.ReaderPrices.{known_config, same_prices}
-use Rattle.mdb_bus.specs.declared.scope.Profile.{Profile}
-use Rattle.mdb_machine.specs.Machine.{Machine}
 use Rattle.mdb_cashless.specs.ByProfile.{base_state, by_profile, extended_state, machine_in}
 use Rattle.mdb_cashless.specs.ByProfileFacts.{FactsByProfile, by_base, by_extended, config_of}
 use Rattle.mdb_cashless.specs.ExtendedAmounts as extended_amounts
 use Rattle.mdb_cashless.specs.ExtendedFacts as extended_facts
 use Rattle.mdb_cashless.specs.ExtendedReader as extended
 use Rattle.mdb_cashless.specs.Reader as base
-use Rattle.mdb_msgs.specs.declared.command.Device.{Device}
 use Rattle.mdb_msgs.specs.declared.command.Device.TheVariants as devices
 
 -- by the base profile each step is one in the end, which gains the same where it has to

@@ -5,14 +5,10 @@ use Rattle.mdb_msgs.specs.declared.need.Need.{Need}
 use Rattle.mdb_msgs.specs.declared.need.Need.TheVariants.{Foreign}
 use Rattle.mdb_msgs.specs.Needs.{is_to_one_of}
 use Rattle.mdb_bus.specs.declared.act.Act.TheVariants as acts
-use Rattle.mdb_bus.specs.declared.levels.Levels.{Levels}
-use Rattle.mdb_bus.specs.declared.scope.Beginning.{Beginning}
-use Rattle.mdb_bus.specs.declared.scope.Profile.{Profile}
-use Rattle.mdb_bus.specs.declared.scope.Scope.{Scope}
+use Rattle.mdb_late_start.proofs.Words.{Levels, Beginning, Profile, Scope, profile_of, Command}
 use Rattle.mdb_bus.specs.Acts.{IsForeignOpening}
 use Rattle.mdb_bus.specs.ActLists.{Piece, Whole, AskTail, IsSaid}
-use Rattle.mdb_bus.specs.Scopes.{needed_by, profile_of, Asks}
-use Rattle.mdb_msgs.specs.declared.command.Command.{Command}
+use Rattle.mdb_bus.specs.Scopes.{needed_by, Asks}
 
 -- a recording that begins so, with these levels told before, and with the same devices left out
 abbrev pub begun_so : Beginning → Levels → Scope → Scope

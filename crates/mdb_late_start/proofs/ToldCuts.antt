@@ -1,23 +1,13 @@
 -- An end has its act list as well where levels are told that were told in front of it: what its
 -- replies say of levels fits those as it fitted in the whole.
 use Rattle.std.proofs.Common.{ap, inl, inr, refl, ◌∙◌, ◌≡◌, ◌++◌, List, [], ◌∷◌}
-use Rattle.std.proofs.lemmas.List.{append-nil}
-use Rattle.mdb_words.specs.declared.event.Event.{Event}
-use Rattle.mdb_msgs.specs.declared.setups.Setups.{Setups}
+use Rattle.mdb_late_start.proofs.Words
+use Words.{append-nil, Event, Setups, Levels, Beginning, Joined, Profile, Scope, HasActList}
+use Words.{with_foreign, first_levels, levels_before, no_levels, profile_of, told, MayBeReadAlone}
+use Words.{BeginAnew, SplitsAt, joined_with, AreToldBy, WereTold, told_later}
 use Rattle.mdb_bus.specs.declared.act.Act.TheVariants as acts
-use Rattle.mdb_bus.specs.declared.levels.Levels.{Levels}
-use Rattle.mdb_bus.specs.declared.scope.Beginning.{Beginning}
-use Rattle.mdb_bus.specs.declared.scope.Beginning.TheVariants.{Joined}
-use Rattle.mdb_bus.specs.declared.scope.Profile.{Profile}
 use Rattle.mdb_bus.specs.declared.scope.Profile.TheVariants.{Base, Extended}
-use Rattle.mdb_bus.specs.declared.scope.Scope.{Scope}
 use Rattle.mdb_bus.specs.ActLists.{ArePieces, IsActList, Piece, PieceFits, Whole, levels_of, position_of}
-use Rattle.mdb_bus.specs.Pieces.{HasActList}
-use Rattle.mdb_bus.specs.LeavingOut.{with_foreign}
-use Rattle.mdb_bus.specs.Scopes.{first_levels, levels_before, no_levels, profile_of, told}
-use Rattle.mdb_late_start.specs.Alone.{MayBeReadAlone}
-use Rattle.mdb_late_start.specs.Cuts.{BeginAnew, SplitsAt, joined_with}
-use Rattle.mdb_late_start.specs.Told.{AreToldBy, WereTold, told_later}
 use Rattle.mdb_late_start.proofs.LessTold.{by_profile, less_before, less_told, levels_fit}
 use Rattle.mdb_late_start.proofs.Said.{said_stays}
 use Rattle.mdb_late_start.proofs.JoinedOrder.{CutsLaw}

@@ -1,35 +1,18 @@
 -- What came to the accounts in the end of a recording lies within the bounds of the end's report.
 use Rattle.std.proofs.Common.{ap, refl, subst, sym, ◌∙◌, ◌≡◌, ℤ, List, ◌++◌}
-use Rattle.mdb_words.specs.declared.event.Event.{Event}
-use Rattle.mdb_msgs.specs.declared.command.Device.{Device}
-use Rattle.mdb_msgs.specs.declared.setups.Setups.{Setups}
-use Rattle.mdb_bus.specs.declared.act.Act.{Act}
+use Rattle.mdb_late_start.proofs.Words
+use Words.{Event, Device, Setups, Act, LeavesOutMore, leave_out, IsFollowed, profile_of, Levels}
+use Words.{Beginning, Joined, Scope, Profile, own_acts, Report, AreSumsWithout, IsReport}
+use Words.{device_unvalued, unvalued_of, AllSums, Run, MayBeReadAlone, BeginAnew, Passes, both_sums}
+use Words.{HasMiddle, TellsOnlyWhatIsSo, AreToldBy, told_later, EndLaws}
 use Rattle.mdb_bus.specs.ActLists.{IsActList, Piece, acts_of}
-use Rattle.mdb_bus.specs.LeavingOut.{LeavesOutMore, leave_out}
-use Rattle.mdb_bus.specs.Scopes.{IsFollowed, profile_of}
-use Rattle.mdb_bus.specs.declared.levels.Levels.{Levels}
-use Rattle.mdb_bus.specs.declared.scope.Beginning.{Beginning}
-use Rattle.mdb_bus.specs.declared.scope.Beginning.TheVariants.{Joined}
-use Rattle.mdb_bus.specs.declared.scope.Scope.{Scope}
-use Rattle.mdb_bus.specs.declared.scope.Profile.{Profile}
-use Rattle.mdb_machine.specs.Pair.{own_acts}
 use Rattle.mdb_follow.specs.declared.account.Account.{Account}
 use Rattle.mdb_follow.specs.declared.account_name.AccountName.{AccountName}
 use Rattle.mdb_follow.specs.declared.range.Range.{Range}
-use Rattle.mdb_follow.specs.declared.report.Report.{Report}
 use Rattle.mdb_follow.specs.AccountNames.{account_device, account_of, account_slot, sums_of}
-use Rattle.mdb_follow.specs.LeavingOut.{AreSumsWithout}
 use Rattle.mdb_follow.specs.Ranges.{IsRange}
 use Rattle.mdb_follow.specs.AccountRanges.{IsAccount}
-use Rattle.mdb_follow.specs.Report.{IsReport, device_unvalued, unvalued_of}
-use Rattle.mdb_follow.specs.Runs.{AllSums, Run}
-use Rattle.mdb_late_start.specs.Alone.{MayBeReadAlone}
-use Rattle.mdb_late_start.specs.Cuts.{BeginAnew}
-use Rattle.mdb_late_start.specs.Ends.{CameToWithin, IsInside, Passes, both_sums}
-use Rattle.mdb_late_start.specs.Middle.{HasMiddle}
-use Rattle.mdb_late_start.specs.MidSession.{TellsOnlyWhatIsSo}
-use Rattle.mdb_late_start.specs.Told.{AreToldBy, told_later}
-use Rattle.mdb_late_start.specs.inner.EndLaws.{EndLaws}
+use Rattle.mdb_late_start.specs.Ends.{CameToWithin, IsInside}
 use Rattle.mdb_late_start.proofs.EndRuns.{gained_there, later_pieces}
 use Rattle.mdb_late_start.proofs.Middles.{middle_linked, own_in_middle, parts, run_of_rows}
 

@@ -1,14 +1,8 @@
 -- What the validator does, it may do in mid-session: what is so of its conduct.
 use Rattle.std.proofs.Common.{◌≡◌, ℕ, zero, suc, true, false, List, [], ◌∷◌, refl, ap}
-use Rattle.std.specs.List.{AllByRecursion}
+use Rattle.mdb_late_start.proofs.Words.{AllByRecursion, Setups, Beginning, Choice, Gains, in_slots}
+use Rattle.mdb_late_start.proofs.Words.{kept_of, MayJoinLate}
 use Rattle.mdb_msgs.specs.declared.command.Device.TheVariants as devices
-use Rattle.mdb_msgs.specs.declared.setups.Setups.{Setups}
-use Rattle.mdb_bus.specs.declared.scope.Beginning.{Beginning}
-use Rattle.mdb_machine.specs.declared.choice.Choice.{Choice}
-use Rattle.mdb_machine.specs.declared.gains.Gains.{Gains}
-use Rattle.mdb_machine.specs.Gains.{in_slots}
-use Rattle.mdb_machine.specs.Kept.{kept_of}
-use Rattle.mdb_late_start.specs.MidSession.{MayJoinLate}
 use Rattle.mdb_late_start.proofs.Keepers.{IsEnabledIn, IsSteady, as_it_is, in_end, recorded, step_in_end, told_first, told_on}
 use Rattle.mdb_msgs.specs.declared.command.BillCommand.{BillCommand}
 use Rattle.mdb_msgs.specs.declared.command.BillCommand.TheVariants as bill

@@ -1,7 +1,5 @@
 -- A mark row is refused for its number, or for its third field.
-use Rattle.std.proofs.Common.{refl, ℕ, List, [], ◌∷◌}
-use Rattle.mdb_explained_runs.specs.declared.mark.Mark.{Mark}
-use Rattle.mdb_explain.specs.Replay.{IsForMark, mark_letter}
+use Rattle.mdb_explain.proofs.Words.{refl, ℕ, List, [], ◌∷◌, Mark, IsForMark, mark_letter}
 use Rattle.mdb_explain.proofs.entry.mark_row.Goals as goal
 
 abbrev own : (number value : List ℕ) (mark : Mark)

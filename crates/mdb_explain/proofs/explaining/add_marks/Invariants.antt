@@ -1,6 +1,4 @@
-use Rattle.std.proofs.Common.{take}
-use Rattle.mdb_explain.specs.inner.Explaining.{marks_text}
-use Rattle.mdb_writing.specs.Output.{Puts, output}
+use Rattle.mdb_explain.proofs.Words.{take, marks_text, Puts, output}
 use Rattle.mdb_explain.proofs.explaining.add_marks.Given as goal
 
 -- the lines of the marks so far are added

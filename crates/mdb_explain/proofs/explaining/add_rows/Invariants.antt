@@ -1,6 +1,4 @@
-use Rattle.std.proofs.Common.{take}
-use Rattle.mdb_explain.specs.inner.Explaining.{rows_text}
-use Rattle.mdb_writing.specs.Output.{Puts, output}
+use Rattle.mdb_explain.proofs.Words.{take, rows_text, Puts, output}
 use Rattle.mdb_explain.proofs.explaining.add_rows.Given as goal
 
 -- the lines of the rows so far are added

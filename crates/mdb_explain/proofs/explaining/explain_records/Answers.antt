@@ -1,14 +1,7 @@
 -- What is answered and written goes by the verdict on the rows that are kept.
-use Rattle.std.proofs.Common.{ap, subst, sym, ◌∙◌, Err, Ok}
-use Rattle.mdb_bus.specs.Scopes.{from_power_on}
-use Rattle.mdb_follow.specs.declared.follower.TheConstants.{ROWS_MAX}
-use Rattle.mdb_text.specs.declared.outcome.Outcome.TheVariants.{No, Yes}
-use Rattle.mdb_text.specs.Text.{report_text}
-use Rattle.mdb_verdict.specs.Rows.{AreRows}
-use Rattle.mdb_verdict.specs.Verdict.{IsAnswer}
-use Rattle.mdb_verdict.proofs.Verdicts.{handed}
+use Rattle.mdb_explain.proofs.Words.{ap, subst, sym, ◌∙◌, Err, Ok, from_power_on, ROWS_MAX, No, Yes}
+use Rattle.mdb_explain.proofs.Words.{report_text, AreRows, IsAnswer, handed, IsNoText, IsRowsText}
 use Rattle.mdb_explain.specs.Explain.{IsExplained}
-use Rattle.mdb_explain.specs.inner.Explaining.{IsNoText, IsRowsText}
 use Rattle.mdb_explain.proofs.ExplainedTexts as explanations
 use Rattle.mdb_explain.proofs.explaining.explain_records.Goals as goal
 

@@ -1,11 +1,6 @@
 -- The writer fails at an explanation.
-use Rattle.std.proofs.Common.{refl}
-use Rattle.mdb_bus.specs.Scopes.{from_power_on}
-use Rattle.mdb_text.specs.declared.outcome.Outcome.TheVariants.{Yes}
+use Rattle.mdb_explain.proofs.Words.{refl, from_power_on, Yes, IsRowsText, IsTold, Write, handed}
 use Rattle.mdb_explain.specs.Explain.{explanation_text}
-use Rattle.mdb_explain.specs.inner.Explaining.{IsRowsText, IsTold}
-use Rattle.mdb_verdict.specs.declared.fault.RunFault.TheVariants.{Write}
-use Rattle.mdb_verdict.proofs.Verdicts.{handed}
 use Rattle.mdb_explain.proofs.explaining.explain_rows.Goals as goal
 
 pub returns-in_err-write_explanation : goal.returns-in_err-write_explanation

@@ -1,6 +1,5 @@
 -- The records of a text are read as its records alone.
-use Rattle.std.proofs.lemmas.Option.{IfSome_then}
-use Rattle.csv.specs.Reading.{default_config, records, strip_bom}
+use Rattle.mdb_explain.proofs.Words.{IfSome_then, default_config, records, strip_bom}
 use Rattle.mdb_explain.proofs.ExplainedTexts.{no_whole}
 use Rattle.mdb_explain.proofs.explaining.explain_scoped.Goals as goal
 

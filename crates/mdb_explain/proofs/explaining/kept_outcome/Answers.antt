@@ -1,10 +1,7 @@
 -- The verdict on rows that are kept is that of `check`, and they are its rows.
-use Rattle.std.proofs.Common.{ap, subst, Ok}
-use Rattle.mdb_verdict.specs.Verdict.{IsAnswer}
+use Rattle.mdb_explain.proofs.Words.{ap, subst, Ok, IsAnswer, HasKept, StopsKeeping, ROWS_MAX}
 use Rattle.mdb_follow.specs.Follower.{scope_of}
-use Rattle.mdb_explain.specs.inner.Explaining.{HasKept, StopsKeeping}
 use Rattle.mdb_explain.proofs.ExplainedTexts as explanations
-use Rattle.mdb_follow.specs.declared.follower.TheConstants.{ROWS_MAX}
 use Rattle.mdb_verdict.proofs.Verdicts as verdicts
 use Rattle.mdb_explain.proofs.explaining.kept_outcome.Goals as goal
 

@@ -1,11 +1,6 @@
 -- The text of a no was written, or the writer took a front of it.
-use Rattle.std.proofs.Common.{ap, refl, ◌∙◌}
-use Rattle.mdb_bus.specs.Scopes.{from_power_on}
-use Rattle.mdb_text.specs.declared.outcome.Outcome.TheVariants.{No}
-use Rattle.mdb_text.specs.Text.{report_text}
-use Rattle.mdb_verdict.specs.declared.fault.RunFault.TheVariants.{Write}
-use Rattle.mdb_verdict.proofs.Verdicts.{handed}
-use Rattle.mdb_explain.specs.inner.Explaining.{IsNoText, IsTold}
+use Rattle.mdb_explain.proofs.Words.{ap, refl, ◌∙◌, from_power_on, No, report_text, Write, handed}
+use Rattle.mdb_explain.proofs.Words.{IsNoText, IsTold}
 use Rattle.mdb_explain.proofs.explaining.tell_no.Goals as goal
 
 pub returns-in_err-write_text : goal.returns-in_err-write_text

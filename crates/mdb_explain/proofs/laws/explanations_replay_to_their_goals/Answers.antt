@@ -1,6 +1,5 @@
 -- What is said of an explanation rests on the laws of its marks, its text and its replay.
-use Rattle.std.proofs.Common.{refl}
-use Rattle.mdb_bus.specs.Scopes.{from_power_on}
+use Rattle.mdb_explain.proofs.Words.{refl, from_power_on}
 use Rattle.mdb_explain.proofs.ReplayedExplanations.{comes_to, short_text}
 use Rattle.mdb_explain.proofs.laws.explanations_replay_to_their_goals.Goals as goal
 

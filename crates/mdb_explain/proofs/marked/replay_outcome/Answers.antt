@@ -1,7 +1,6 @@
 -- The answer of a replay goes by how the reading of its entries ended.
-use Rattle.std.proofs.Common.{◌∙◌, Ok}
+use Rattle.mdb_explain.proofs.Words.{◌∙◌, Ok, HasStopped}
 use Rattle.mdb_explained_runs.specs.Replays.{scope_of}
-use Rattle.mdb_explain.specs.inner.Replaying.{HasStopped}
 use Rattle.mdb_explain.proofs.MarkAnswers as answers
 use Rattle.mdb_explain.proofs.marked.replay_outcome.Goals as goal
 

@@ -1,10 +1,6 @@
 -- The writer fails at the text of an answer.
-use Rattle.std.proofs.Common.{◌∙◌, ap}
-use Rattle.mdb_bus.specs.Scopes.{from_power_on}
-use Rattle.mdb_follow.specs.declared.follower.TheConstants.{ROWS_MAX}
-use Rattle.mdb_verdict.specs.declared.fault.RunFault.TheVariants.{Write}
+use Rattle.mdb_explain.proofs.Words.{◌∙◌, ap, from_power_on, ROWS_MAX, Write, handed}
 use Rattle.mdb_verdict.specs.Forms.{answer_text}
-use Rattle.mdb_verdict.proofs.Verdicts.{handed}
 use Rattle.mdb_explain.specs.declared.fault.MarkedFault.TheVariants as marked
 use Rattle.mdb_explain.specs.Replay.{IsReplayAnswer}
 use Rattle.mdb_explain.proofs.marked.replay_records.Goals as goal

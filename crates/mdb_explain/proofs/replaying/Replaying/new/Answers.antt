@@ -1,7 +1,5 @@
 -- Before the first entry.
-use Rattle.std.proofs.Common.{refl, subst, []}
-use Rattle.mdb_bus.specs.Scopes.{from_power_on}
-use Rattle.mdb_explained_runs.specs.ReplayFaults.{HasMarkedRun}
+use Rattle.mdb_explain.proofs.Words.{refl, subst, [], from_power_on, HasMarkedRun}
 use Rattle.mdb_explain.proofs.MarkSteps as steps
 use Rattle.mdb_explain.proofs.replaying.Replaying.new.Goals as goal
 

@@ -1,6 +1,5 @@
 -- Why a mark row is refused that is refused by itself.
-use Rattle.std.proofs.Common.{arith}
-use Rattle.std.proofs.lemmas.Grind.{common_steps}
+use Rattle.mdb_explain.proofs.Words.{arith, common_steps}
 use Rattle.mdb_explain.proofs.MarkSteps as steps
 use Rattle.mdb_explain.proofs.replaying.Replaying.refuse_mark.Goals as goal
 

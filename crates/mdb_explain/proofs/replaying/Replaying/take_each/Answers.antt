@@ -1,6 +1,5 @@
 -- Entries are taken up to the first at which the replay stops.
-use Rattle.std.proofs.Common.{refl, sym, ◌∙◌, ◌++◌, take}
-use Rattle.std.proofs.lemmas.List.{append-nil}
+use Rattle.mdb_explain.proofs.Words.{refl, sym, ◌∙◌, ◌++◌, take, append-nil}
 use Rattle.mdb_explain.proofs.MarkSteps as steps
 use Rattle.mdb_explain.proofs.replaying.Replaying.take_each.Goals as goal
 

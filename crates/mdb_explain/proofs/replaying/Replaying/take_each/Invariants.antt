@@ -1,8 +1,5 @@
-use Rattle.std.proofs.Common.{◌≡◌, ◌++◌, List, take}
-use Rattle.mdb_bus.specs.declared.scope.Scope.{Scope}
+use Rattle.mdb_explain.proofs.Words.{◌≡◌, ◌++◌, List, take, Scope, Entry, HasReplayed}
 use Rattle.mdb_explained_runs.specs.Replays.{scope_of}
-use Rattle.mdb_explain.specs.declared.entry.Entry.{Entry}
-use Rattle.mdb_explain.specs.inner.Replaying.{HasReplayed}
 use Rattle.mdb_explain.proofs.replaying.Replaying.take_each.Given as goal
 
 -- the entries so far are taken

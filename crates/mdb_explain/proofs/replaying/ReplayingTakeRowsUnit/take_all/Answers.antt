@@ -1,8 +1,6 @@
 -- The rows are taken as the entries that they are.
-use Rattle.std.proofs.Common.{subst, sym}
+use Rattle.mdb_explain.proofs.Words.{subst, sym, HasTakenOrStopped, HasReplayed, HasStopped}
 use Rattle.mdb_explained_runs.specs.Replays.{scope_of}
-use Rattle.mdb_verdict.specs.Ending.{HasTakenOrStopped}
-use Rattle.mdb_explain.specs.inner.Replaying.{HasReplayed, HasStopped}
 use Rattle.mdb_explain.proofs.replaying.ReplayingTakeRowsUnit.take_all.Goals as goal
 
 pub returns-clause-taken : goal.returns-clause-taken
