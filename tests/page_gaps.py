@@ -151,10 +151,12 @@ def first_difference(came, wanted):
 
 
 def compare_acts(page, lists, want, half):
-    """The acts that the page lists: all, or the first and the last `half`."""
+    """The acts that the page lists: all, or the first and the last ones, `half` or more."""
     wanted, came = [line for lines in lists for line in lines], json.loads(page.browser.value(LINES))
-    if len(wanted) > 2 * half:
-        wanted = wanted[:half] + wanted[-half:]
+    hole, missing = int(page.browser.value("state.hole")), len(wanted) - len(came)
+    if hole >= 0:
+        want(half <= hole <= len(came) - half, f"the first {hole} of {len(came)} acts are listed")
+        wanted = wanted[:hole] + wanted[hole + missing:]
     want(came == wanted, f"acts: {len(came)}, wanted {len(wanted)}; shown and wanted: {first_difference(came, wanted)}")
     return came
 

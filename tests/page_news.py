@@ -227,7 +227,8 @@ def try_long(page, program, top, want, rows=2_000_000):
         subprocess.run([sys.executable, top / "bench" / "generate", "mixed", str(rows)], stdout=file, check=True)
     page.give(path)
     text = subprocess.run([program, "show"], stdin=path.open("rb"), capture_output=True, check=True).stdout.decode()
-    want(page.browser.value("[state.hole, state.list.count]") == [-1, text.count("\n")], "not all acts of the long recording are listed")
+    listed = json.loads(page.browser.value("JSON.stringify([state.hole, state.list.count])"))
+    want(listed == [-1, text.count("\n")], f"not all acts of the long recording are listed: {listed}")
     want(page.browser.value("by('open-scope')") is None, "the list of open money says that it doesn't speak of all rows")
     starts = [line.split(b",", 1)[0].decode() for line in path.read_bytes().splitlines() if line]
     wanted = walked(text)["money"]

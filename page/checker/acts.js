@@ -147,6 +147,10 @@ export function noteSetups(acts, given, hole, found) {
   for (let d = 1; d < 5; d++) acts.setups[d] = given[d] ? [{...given[d], from: -1}] : [];
   for (let i = 0; i < acts.count; i++) {
     if (i === hole) noteHole(acts, hole, found);
+    if (acts.isQuiet(i)) {
+      i++;
+      continue;
+    }
     const told = setupIn(acts, i);
     if (told) acts.setups[acts.device(i)].push({...told, from: i});
   }

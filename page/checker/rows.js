@@ -142,8 +142,9 @@ function paidAt(text, place) {
 
 // What the row at a place orders such a device to pay out, or what it asks that was paid. Null if it does neither.
 function orderAt(text, place, row) {
-  const code = payerAt(text, place), time = timeAt(text, place), next = rowAfter(text, place);
+  const code = payerAt(text, place);
   if (!code) return null;
+  const time = timeAt(text, place), next = rowAfter(text, place);
   if (code !== RECYCLER) return {row, end: row, time, code, bytes: []};
   if (!RECYCLER_WORD.test(saidAt(text, next))) return null;
   const bytes = bytesFrom(text, next, "M", ORDER_WORDS), end = row + 1;
