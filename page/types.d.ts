@@ -103,6 +103,8 @@ interface Found {
   breaks: Happening[];
   silences: Silence[];
   setups: Happening[];
+  // The readers that approved an amount that isn't told.
+  untold?: Set<string>;
 }
 
 /** A line of the file; `whole` is whether `bytes` has all of its `length`. */
@@ -318,9 +320,11 @@ interface OpenEntry {
   answer?: string;
   code?: number;
   silent?: number | null;
+  paid?: any;
 }
 
-/** An order to pay out of a device that isn't followed: its first and last row, and a recycler's bytes (rows.js). */
+/** An order to pay out of a device that isn't followed, or what a recycler says that it paid: its first and last row,
+ * and a recycler's bytes (rows.js). */
 interface Order {
   row: number;
   end: number;

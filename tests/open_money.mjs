@@ -26,6 +26,9 @@ function actsOf(acts) {
   return new Acts(buffer, acts.length);
 }
 
+// An amount with its device's name.
+const named = (amount) => ({...amount, device: DEVICES[amount.device]});
+
 function entriesOf({acts, setups = {}, cuts = [], hole = -1, choices = [], orders = [], lost = []}) {
   const list = actsOf(acts), given = DEVICES.map((device, i) => {
     const hex = setups[device];
@@ -35,7 +38,8 @@ function entriesOf({acts, setups = {}, cuts = [], hole = -1, choices = [], order
   return openMoney(list, {hole, cuts, choices, orders, lost}).map(({until, ...it}) => ({
     ...it,
     device: DEVICES[it.device],
-    amounts: it.amounts.map((one) => ({...one, device: DEVICES[one.device]})),
+    amounts: it.amounts.map(named),
+    paid: it.paid && named(it.paid),
   }));
 }
 

@@ -26,6 +26,7 @@ import second_open_money  # noqa: E402
 TOP = pathlib.Path(__file__).resolve().parent.parent
 # What the card shows, and what the page has of it.
 READ = """(() => {
+  const named = (part) => ({...part, device: DEVICES[part.device]});
   const it = by("verdict"), text = (all) => [...all].map((one) => one.textContent);
   return JSON.stringify({
     kind: it.className, isOpen: it.hasAttribute("data-open"), colour: getComputedStyle(it).borderLeftColor,
@@ -33,8 +34,9 @@ READ = """(() => {
     next: text(it.querySelectorAll("#next li")), scope: it.querySelector("#open-scope")?.textContent ?? "", lead: by("lead").textContent,
     rows: [...it.querySelectorAll("#open > li")].map((one) => [...one.querySelectorAll("[data-row]")].map((a) => [Number(a.dataset.row), Number(a.dataset.last)])),
     entries: openMoneyOf(state).map(({until, ...one}) => ({...one, device: DEVICES[one.device],
-      amounts: one.amounts.map((part) => ({...part, device: DEVICES[part.device]}))})),
+      amounts: one.amounts.map(named), paid: one.paid && named(one.paid)})),
     table: by("statement-rows")?.textContent ?? "",
+    offer: by("survey-offer")?.textContent ?? "",
     total: text(document.querySelectorAll("#stretch-total tr[data-account='paid-out'] td")),
   });
 })()"""
@@ -311,6 +313,13 @@ def complaints():
                                                         ("trouble", "", "tube jam")])
     yield Scene("change from the recycler, as a value", Bus().changer().validator().told([0x33], 0x91).ack(0x35, 1).told([0x33], 0x81)
                 .ack(0x37, 7, 0, 1), AMBER, [("order", "5.00", "1 order to pay out 5.00", "recycler")], options=extended)
+    told = lambda *counts: [it for count in [*counts, *[0] * (16 - len(counts))] for it in (0, count)]
+    yield Scene("the recycler says that it paid less", Bus().changer().validator().told([0x33], 0x91).ack(0x35, 1).told([0x33], 0x81)
+                .ack(0x37, 6, 0, 0, 2).told([0x37, 8], *told(1)), AMBER, [("order", "10.00", "1 order to pay out 10.00", "reported 5.00 as paid out (37 08)")],
+                options=extended)
+    yield Scene("the recycler says twice what it paid", Bus().changer().validator().told([0x33], 0x91).ack(0x35, 1).told([0x33], 0x81)
+                .ack(0x37, 6, 0, 0, 1).told([0x37, 8], *told(1)).told([0x37, 8], *told(1)).ack(0x37, 6, 1, 0, 1).told([0x37, 8], *told(0, 1)),
+                AMBER, [("order", "15.00", "2 orders to pay out 15.00", "reported 15.00 as paid out (37 08)")], options=extended)
     yield Scene("change from the second hopper", Bus().changer().coin(4).ack(0x75, 0, 0, 3).ack(0x76, 4), AMBER,
                 [("order", "", "2 orders to pay out went", "hopper (70H)")])
     second = Bus().reader().reader(0x60).told([0x62], 3, 3, 0xE8).ack(0x63, 0, 0, 100, 0, 5).approved().ack(0x13, 2, 0, 7).over()
@@ -321,7 +330,7 @@ def complaints():
     for name, gap, colour, found in (("28 s", 14, AMBER, [("restart", "1.00", "sent RESET")]), ("32 s", 16, GREEN, [])):
         yield Scene(f"a RESET {name} after a coin", Bus().changer().coin(4).polls(2, gap * 1_000_000).changer(), colour, found)
     price = card().approved().ack(0x13, 2, 0, 7).over().told([0x12], 3, 3, 0xE8).ack(0x13, 0, 0xFF, 0xFF, 0, 8).told([0x12], 5, 0xFF, 0xFF)
-    yield Scene("one sale with its amount, and one without", price.ack(0x13, 2, 0, 8).over(), GREEN, [], ("amount not told (item 8)",), ("655.35",))
+    yield Scene("one sale with its amount, and one without", price.ack(0x13, 2, 0, 8).over(), GREEN, [], ("amount not told (item 8)", "The other sales, as reported: 1.50."), ("655.35",))
     yield Scene("the reader ends the session before the sale", card().approved().told([0x12], 7).polls(3), AMBER,
                 [("approved", "1.50", "item 7", "the end of the session")], ("card company",), options=extended)
 
@@ -366,6 +375,7 @@ def try_scene(page, scene):
     page.wait(before)
     came = json.loads(page.browser.value(READ))
     compare_card(scene, came, scene.surveyed)
+    want("negative vend" not in scene.name or "Card reader 1 approved 0.25 in it (rows " in came["offer"], f"{scene.name}: {came['offer']}")
     is_unknown = len(came["total"]) == 1 and came["total"][0].startswith("not known from row")
     want(is_unknown == any(kind == "choice" for kind, *_ in scene.surveyed), f"{scene.name}: the total is {came['total']}")
 

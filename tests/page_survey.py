@@ -116,6 +116,35 @@ class Survey:
                      and said(row - 1) == ["M", "10F"] and said(row) in (["M", "002"], ["M", "003"], ["M", "004"])), 0)
 
 
+    def lost(self, money):
+        """Sales that aren't followed: (device, row of the fault, row of the next VEND REQUEST). `money` has the entries."""
+        said = lambda row: self.lines[row - 1].split(",")[1:]
+        for row, *fault in self.faults[:MOST]:
+            before, here = said(row - 1) if row > 1 else ["", ""], said(row)
+            device = {"113": 3, "163": 4}.get(before[1].upper()) if before[0] == here[0] == "M" else None
+            if fault == ["Profile", "controller"] and device and 5 < int(here[1], 16) < 256:
+                yield device, row, min((it[0] for it in money if it[2] == device and it[3] == "vend request" and it[0] > row), default=self.rows + 1)
+
+
+#: What an account of a reader counts.
+COUNTED = {"approved": "vend approved", "sold": "vend success"}
+
+
+def unknown_in(choice, lost, money, first=0, last=float("inf")):
+    """The row from which on an account isn't known in some rows, by account; those that are known aren't there."""
+    found = {}
+    if choice and (first > choice or not first):
+        found["paid-out"] = choice
+    for name in ACCOUNTS if lost else ():
+        kind, _, second = name.partition("-")
+        for at, _, device, what, *_ in money:
+            rows = [row for one, row, to in lost if one == device and at < to]
+            is_lost = any(one == device and row < at < to for one, row, to in lost)
+            if what == COUNTED.get(kind) and device == (4 if second else 3) and first <= at <= last and is_lost:
+                found.setdefault(name, rows[0])
+    return found
+
+
 def seconds(micros):
     """A time as the page writes it."""
     whole, part = divmod(micros // 1000, 1000)
@@ -132,13 +161,13 @@ def bounds(words, places):
     return least if least == greatest else f"{least} to {greatest}"
 
 
-def sums_of(report, places, unknown=0):
-    """The accounts in which something moved, as the page writes them. `places` has the decimals of a device. From the
-    row `unknown` on, paid-out isn't known."""
+def sums_of(report, places, unknown):
+    """The accounts in which something moved, as the page writes them. `places` has the decimals of a device, and `unknown`
+    from which row on an account isn't known."""
     for name in ACCOUNTS:
         ranges = report[name][1::2]
-        if unknown and name == "paid-out":
-            yield [name, f"not known from row {unknown} on"]
+        if name in unknown:
+            yield [name, f"not known from row {unknown[name]} on"]
         elif any(it != "0..0" for it in ranges):
             yield [name, *(bounds(it, places(OWNERS[name])) for it in ranges)]
 
@@ -234,8 +263,8 @@ def compare_faults(made, came):
     want(found == (rules if len(made.faults) > 5 else {}), f"the faults by rule: {found}, wanted {rules}")
 
 
-def compare_stretches(made, came):
-    choice = made.choice()
+def compare_stretches(made, came, money):
+    unknown = made.choice(), list(made.lost(money)), money
     stretches = [it for it in made.stretches if it["number"] <= MOST or it["number"] > len(made.faults)]
     want(len(came["stretches"]) == len(stretches), f"{len(came['stretches'])} stretches, wanted {len(stretches)}")
     for it, shown in zip(stretches, came["stretches"]):
@@ -243,7 +272,7 @@ def compare_stretches(made, came):
         head = [f"Stretch {it['number']}", span(it["first"], it["last"]), f"{seconds(made.time(it['first']))} to {seconds(made.time(it['last']))}"]
         head += notes_of(report)
         want(list(map(plain, shown["head"])) == list(map(plain, head)), f"{name}: {shown['head']}, wanted {head}")
-        wanted = list(sums_of(report, places_of(report), choice if it["first"] > choice else 0))
+        wanted = list(sums_of(report, places_of(report), unknown_in(*unknown, it["first"], it["last"])))
         want(shown["sums"] == wanted, f"{name}: {shown['sums']}, wanted {wanted}")
     if not made.totals:
         want(came["total"] is None, f"there are totals: {came['total']}")
@@ -251,7 +280,7 @@ def compare_stretches(made, came):
     places = total_places(made)
     changed = [f"the decimal places of {SENDERS[it]} changed: its sums here have none" for it in page_test.DEVICES if len(places[it]) > 1]
     want(came["total"]["head"] == ["All stretches", *notes_of(made.totals), *changed], f"the totals: {came['total']['head']}")
-    shared = list(sums_of(made.totals, lambda device: next(iter(places[device])) if len(places[device]) == 1 else 0, choice))
+    shared = list(sums_of(made.totals, lambda device: next(iter(places[device])) if len(places[device]) == 1 else 0, unknown_in(*unknown)))
     want(came["total"]["sums"] == shared, f"the totals: {came['total']['sums']}")
 
 
@@ -317,9 +346,9 @@ def compare(page, data, words, name):
     want(came["check"] == shown["text"], "the text of the check")
     compare_words(made, came, words)
     compare_faults(made, came)
-    compare_stretches(made, came)
+    entries = page_gaps.compare_lists(page, made, words, SHOWN, MOST, want, FOUND)
+    compare_stretches(made, came, entries["money"])
     compare_lanes(made, came)
-    page_gaps.compare_lists(page, made, words, SHOWN, MOST, want, FOUND)
     want(not page.has_button(), "the button stays")
     unjudged = page.value("[by('verdict').textContent.includes('was judged'), by('told').textContent.includes('not judged')]")
     want(unjudged == [False, False] or made.status == 2 or len(made.faults) > MOST, f"what the survey took isn't judged: {unjudged}")

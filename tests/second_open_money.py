@@ -105,6 +105,10 @@ class Reading:
         self.choices = []
         self.orders = {}
         self.ordered = {}
+        self.paid = {}
+        self.was_paid = None
+        self.paid_rows = None
+        self.awaits_paid = False
         self.recycled = Sum('bill'), None
         self.lost = set()
         self.entries = []
@@ -124,7 +128,7 @@ class Reading:
             'cameRows': None if by is None else [by[0], by[1]],
             'count': more.get('count', 1), 'item': more.get('item'),
             'code': more.get('code'), 'answer': more.get('answer'),
-            'silent': None, 'last': self.time(acts[-1])})
+            'silent': None, 'paid': more.get('paid'), 'last': self.time(acts[-1])})
         return self.entries[-1]
 
     # One part: what is open in it.
@@ -166,9 +170,12 @@ class Reading:
         self.ended(acts, word, fault)
 
     def ordered_in(self, row):
-        """Adds what a recycler's order that begins in this row asks for."""
+        """Adds what a recycler's order that begins in this row asks for, or what it tells in it that it paid."""
+        if row in self.paid and self.awaits_paid:
+            self.told_paid(row, *self.paid[row])
         if row not in self.ordered:
             return
+        self.awaits_paid = True
         amount, words = self.recycled[0], self.ordered[row]
         setup, what, rest = self.values.data.get('bill'), words[0], words[1:]
         if what == 6 and len(rest) >= 3:
@@ -179,6 +186,18 @@ class Reading:
         else:
             amount.add(None)
         self.recycled = amount, self.values.decimals('bill')
+
+    def told_paid(self, row, last, counts):
+        """Adds so many bills of each type that a recycler tells as paid."""
+        self.awaits_paid = False
+        amount, self.paid_rows = self.was_paid[0] if self.was_paid else Sum('bill'), (row, last)
+        if not any(counts):
+            amount.add(0)
+        for kind, count in enumerate(counts):
+            bill = self.values.one('bill', kind)
+            if count:
+                amount.add(None if bill is None else bill * count)
+        self.was_paid = amount, self.values.decimals('bill')
 
     def broke(self, act):
         for device in READERS:
@@ -587,7 +606,9 @@ class Reading:
             self.put('choice', 'changer', ends, [], count=len(self.choices))
         for (device, code), acts in self.orders.items():
             ends = acts[:1] + acts[1:][-1:]
-            self.put('order', device, ends, [self.recycled] if code == 0x37 else [], count=len(acts), code=code)
+            is_recycler, paid = code == 0x37, self.was_paid
+            self.put('order', device, ends, [self.recycled] if is_recycler else [], None, self.paid_rows if is_recycler else None,
+                     count=len(acts), code=code, paid=paid[0].field(paid[1]) if is_recycler and paid else None)
         for (device, code), acts in self.troubles.items():
             ends = [acts[0]] + ([acts[-1]] if acts[-1] is not acts[0] else [])
             self.put('trouble', device, ends, [], count=len(acts), code=code)
@@ -647,6 +668,19 @@ def ordered_of(rows, row):
     return words
 
 
+def paid_of(rows, row):
+    """What a recycler answers to PAYOUT STATUS, whose first row this is: the last row, and how many bills of each type."""
+    if [row[1:] for row in rows[row - 1:row + 1]] != [['M', '137'], ['M', '008']]:
+        return None
+    at = row + 1
+    if rows[at:at + 1] and rows[at][1] == 'M' and int(rows[at][2], 16) < 0x100:
+        at += 1
+    words = [int(word, 16) if line == 'S' else -1 for _, line, word in rows[at:at + 33]]
+    if len(words) < 33 or not all(0 <= word <= 0xFF for word in words[:-1]) or words[-1] != 0x100 + sum(words[:-1]) % 256:
+        return None
+    return at + 33, [256 * high + low for high, low in zip(words[:-1:2], words[1:-1:2])]
+
+
 def given(setups):
     """The data of --setup, without the sum, and of a reader without the message's first byte."""
     return {device: list(data[1 if device in READERS else 0:-1]) for device, data in setups.items()}
@@ -668,6 +702,11 @@ def entries(rows, shown, setups=None, is_extended=False):
     """The entries of a recording, from its rows, the lines of `show`, and set-up data."""
     lines = [line.split(',') for line in rows.decode().splitlines() if line]
     reading = Reading([int(line[0]) for line in lines], given(setups or {}), is_extended)
+    foreign = {row for act in acts_of(shown) if act[2] == 'foreign' for row in range(act[0], act[1] + 1)}
+    for row in foreign:
+        paid = paid_of(lines, row)
+        if paid and paid[0] in foreign:
+            reading.paid[row] = paid
     for row, device, code in orders_of(lines, acts_of(shown)):
         reading.orders.setdefault((device, code), []).append((row, row))
         if code == 0x37:

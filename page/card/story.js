@@ -4,7 +4,7 @@ import {DEVICE_NAMES, DEVICES} from "../checker/acts.js";
 import {ANSWERS} from "../checker/answers.js";
 import {ACCOUNTS} from "../checker/report.js";
 import {when} from "../clock.js";
-import {statementOf} from "../list/statement.js";
+import {soldSums, statementOf} from "../list/statement.js";
 import {leftReason, lookNext} from "../money/open-list.js";
 import {isDiffering, isOpen, isZero} from "../money/ranges.js";
 import {lateStory} from "../money/remarks.js";
@@ -59,7 +59,8 @@ function refusalsOf(it) {
 }
 
 function refusalWords(it, {parts, device, item, units, decimals, outcome}) {
-  const [first, end] = [parts[0], parts.at(-1)].map(({i}) => it.found.money[i]);
+  const said = parts.findLast(({part}) => part === (outcome === "cancelled" ? outcome : "denied"));
+  const [first, end] = [parts[0], said].map(({i}) => it.found.money[i]);
   const amount = units === null || first.isUntold ? "a price that isn't known" : money(units, decimals);
   const who = outcome === "cancelled" ? "The controller cancelled its request of" :
                                         `${capital(the(SHORT_NAMES[device]))} denied`;
@@ -159,10 +160,10 @@ function silenceStory(it) {
 // Amounts that have no value: nothing in the recording, or given with it, says what they are worth.
 /** @type {(it: Answer) => Sentence[]} */
 export function valuelessStory(it) {
-  const told = [];
+  const told = [], bare = it.found.money.filter(({units, noAmount}) => units === null && !noAmount);
   for (const [i, device] of DEVICES.entries()) {
     if (!device || it.report.without.includes(device)) continue;
-    const without = it.found.money.filter((m) => m.device === i && m.units === null && !m.noAmount);
+    const without = bare.filter((m) => m.device === i);
     const n = it.report.unvalued?.[device] ?? 0;
     if (!n && !without.length) continue;
     const many = n || without.length,
@@ -171,9 +172,25 @@ export function valuelessStory(it) {
         `${counted(many, "amount")} of ${the(DEVICE_NAMES[i])} ${many === 1 ? "has" : "have"} no known value, and ${
             many === 1 ? "is" : "are"} in no sum`,
         many === 1 && without.length ? inRows(rowsAt(without[0].first, without[0].last)) : first, "."));
-    told.push(nextStep("Give an earlier recording of a start of this machine: it shows the values."));
+    told.push(...without.length || it.report.decimals[device] === null ? [nextStep(START_NEXT)] : earlierSales(it, i));
   }
   return told;
+}
+
+const START_NEXT = "Give an earlier recording of a start of this machine: it shows the values.";
+
+// A reader's sales without a value, though its values are known: the approval isn't there.
+function earlierSales(it, device) {
+  const isBare = (line) => line.device === device && line.isSale && line.outcome === "sold" &&
+      !line.parts.some(({part}) => part === "approved");
+  const line = statementOf(it).lines.find(isBare), sale = line && it.found.money[line.parts.at(-1).i];
+  if (!sale) return [nextStep(START_NEXT)];
+  return [
+    likely(
+        "Most likely its approval came before the recording began: item ", String(sale.type).replace("item ", ""),
+        inRows(rowsAt(sale.first, sale.last)), "."),
+    nextStep(SALE_NEXT)
+  ];
 }
 
 // Nothing is open: what both books say.
@@ -189,6 +206,13 @@ function itemsOf(it) {
   return items.length ? ` (${items.slice(0, 3).join(", ")}${items.length > 3 ? " .." : ""})` : "";
 }
 
+// The sales of readers beside those, as the controller reported them.
+function besideUntold(it) {
+  const sums = [3, 4].map((device) => hasUntold(it, device === 3 ? "sold" : "sold-2") && soldSums(it, device));
+  const words = sums.filter(Boolean).map(({controller: {units, decimals}}) => money(units, decimals));
+  return words.length ? ` The other sales, as reported: ${listed(words)}.` : "";
+}
+
 /** @type {(it: Answer) => string} */
 export function agreedWords(it) {
   const {report: {accounts, decimals}} = it;
@@ -202,7 +226,8 @@ export function agreedWords(it) {
   const told = [
     ...firm,
     ...untold.length ?
-        [`${capital(listed(untold.map(([name]) => small(ACCOUNTS[name].title))))}: amount not told${itemsOf(it)}.`] :
+        [`${capital(listed(untold.map(([name]) => small(ACCOUNTS[name].title))))}: amount not told${itemsOf(it)}.${
+            besideUntold(it)}`] :
         []
   ].join(" ");
   if (sums.length) return `The controller and the devices agree for certain: ${listed(sums)}. ${told}`.trim();

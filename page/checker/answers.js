@@ -59,4 +59,4 @@ export function isUnfollowed(it) {
 
 // What the card and the first fault tell rests on the acts before the survey.
 /** @type {(it: Answer) => Answer} */
-export const asAtFirst = (it) => ({...it, ...it.atFirst});
+export const asAtFirst = (it) => it.atFirst ? {...it, ...it.atFirst} : it;

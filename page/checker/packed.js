@@ -3,8 +3,8 @@
 // and the ACK that answers it. All other acts are records, as the module has them.
 import {layout} from "./layout.js";
 
-// The kinds of the two acts of such a poll.
-const ASK = 0, ACK = 1;
+// The kinds of the two acts of such a poll, and of words of devices that aren't followed.
+const ASK = 0, ACK = 1, FOREIGN = 8;
 // The blocks of POLL, by device.
 export const POLL_BLOCKS = [0, 0x0B, 0x33, 0x12, 0x62].map((byte) => Uint8Array.of(byte, byte));
 // A poll has four words: its first row; when that was, in two words, the second with the device in its upper byte; and
@@ -36,6 +36,10 @@ export class PackedActs {
   }
   isAnswer(i) {
     return (this.index[i] & 1) === 1;
+  }
+  // Whether an act is a POLL without news. The next one answers it.
+  isQuiet(i) {
+    return this.index[i] >= IS_POLL && !this.isAnswer(i);
   }
   u64(i, place) {
     const at = (this.record(i) + place) / 4;
@@ -95,10 +99,10 @@ export class PackedActs {
 export const asPacked = (records, count) =>
     ({records, polls: new ArrayBuffer(0), index: Uint32Array.from({length: count}, (_, i) => i).buffer});
 
-// A growing row of words.
+// A growing row of words, with room for so many at first.
 class Words {
-  constructor() {
-    this.all = new Uint32Array(1024);
+  constructor(room = 1024) {
+    this.all = new Uint32Array(room);
     this.count = 0;
   }
   // Where so many more words go.
@@ -116,23 +120,25 @@ class Words {
   }
 }
 
-// Acts that come in pieces, packed.
+// Acts that come in pieces, packed: so many records at most, of so many acts in all. There is room for them from the
+// start, since what grows is copied. Memory that isn't written to costs nothing.
 class Packing {
-  constructor() {
-    this.records = new Words();
-    this.polls = new Words();
-    this.index = new Words();
+  constructor(most, count) {
+    this.most = most;
+    this.records = new Words(Math.min(count, most) * layout.act.size / 4);
+    this.polls = new Words(Math.min(count >> 1, MOST_POLLS) * POLL_WORDS);
+    this.index = new Words(Math.min(count, most + 2 * MOST_POLLS));
   }
   isFull() {
-    return this.records.count * 4 >= MOST * layout.act.size || this.polls.count >= MOST_POLLS * POLL_WORDS;
+    return this.records.count * 4 >= this.most * layout.act.size || this.polls.count >= MOST_POLLS * POLL_WORDS;
   }
-  // Packs the act at a place in memory, with so many rows before it.
+  // Packs the act at a place in memory, with so many rows before it. (Word by word: a call costs more for so few.)
   addRecord({words}, at, before) {
-    const {size: wide, first, last} = layout.act, {records} = this, place = records.more(wide / 4);
+    const {size: wide, first, last} = layout.act, {records} = this, place = records.more(wide / 4), {all} = records;
     this.index.push(place * 4 / wide);
-    records.all.set(words.subarray(at / 4, (at + wide) / 4), place);
-    records.all[place + first / 4] += before;
-    records.all[place + last / 4] += before;
+    for (let i = 0; i < wide / 4; i++) all[place + i] = words[at / 4 + i];
+    all[place + first / 4] += before;
+    all[place + last / 4] += before;
   }
   // Packs an act and the next one, if they are a poll without news whose rows follow each other soon.
   addPoll({words, bytes}, at, before) {
@@ -144,8 +150,11 @@ class Packing {
     const isInRow = word(at + last) === row + 1 && word(next + first) === row + 2;
     const isSoon = second >= 0 && second <= MOST_DELAY && answer >= 0 && answer <= MOST_DELAY;
     if (bytes[at + block] !== POLL_BLOCKS[who][0] || !isInRow || !isSoon) return false;
-    const poll = 2 * this.polls.count / POLL_WORDS, place = this.polls.more(POLL_WORDS);
-    this.polls.all.set([row + before, from, word(at + start + 4) | who << DEVICE_SHIFT, second << 16 | answer], place);
+    const poll = 2 * this.polls.count / POLL_WORDS, place = this.polls.more(POLL_WORDS), {all} = this.polls;
+    all[place] = row + before;
+    all[place + 1] = from;
+    all[place + 2] = words[(at + start) / 4 + 1] | who << DEVICE_SHIFT;
+    all[place + 3] = second << 16 | answer;
     this.index.push(IS_POLL + poll);
     this.index.push(IS_POLL + poll + 1);
     return true;
@@ -154,48 +163,94 @@ class Packing {
 
 // The first acts and the last ones, packed: all, where neither those with news nor polls without news are too many.
 export class FirstAndLast {
-  constructor() {
+  // Of so many acts, if that is known. Few are the first ones.
+  constructor(count = 0) {
+    this.count = count;
     this.all = 0;
-    this.first = new Packing();
+    this.first = new Packing(count > 3 * MOST ? MOST : Math.max(count, MOST), count);
     // The last ones, and as many before them.
     this.last = this.first;
     this.before = null;
     this.isWhole = true;
+    // The rows of devices that aren't followed: the first and the last one of those without others in between.
+    this.foreign = new Words();
   }
   // Takes the acts that these bytes are, with so many rows before the first one.
   /** @type {(bytes: Uint8Array, before: number) => void} */
   add(bytes, before) {
     const memory = {bytes, words: new Uint32Array(bytes.buffer, bytes.byteOffset, bytes.length / 4)};
-    const {size: wide} = layout.act;
+    const {size: wide, kind} = layout.act;
     this.all += bytes.length / wide;
     for (let at = 0; at < bytes.length; at += wide) {
       if (this.last.isFull()) this.turn();
-      if (at + wide < bytes.length && this.last.addPoll(memory, at, before))
+      if (at + wide < bytes.length && this.last.addPoll(memory, at, before)) {
         at += wide;
-      else
-        this.last.addRecord(memory, at, before);
+        continue;
+      }
+      this.last.addRecord(memory, at, before);
+      if (bytes[at + kind] === FOREIGN) this.addForeign(memory, at, before);
     }
+  }
+  addForeign({words}, at, before) {
+    const {first, last} = layout.act, {foreign} = this, from = words[(at + first) / 4] + before;
+    if (!foreign.count || foreign.all[foreign.count - 1] !== from - 1) {
+      foreign.push(from);
+      foreign.push(from);
+    }
+    foreign.all[foreign.count - 1] = words[(at + last) / 4] + before;
   }
   turn() {
     if (this.before) this.isWhole = false;
     if (this.last !== this.first) this.before = this.last;
-    this.last = new Packing();
+    this.last = new Packing(MOST, this.count);
+  }
+  parts() {
+    return [...new Set([this.first, this.before, this.last])].filter(Boolean);
+  }
+  // Leaves out what stands between these acts and the last ones that another list has, of `all` acts, if both have too
+  // many records. Whether it did that.
+  /** @type {(other: FirstAndLast | null, all: number) => boolean} */
+  skipTo(other, all) {
+    if (!other) return false;
+    const parts = other.parts(), count = [...this.parts(), ...parts].reduce((sum, {records}) => sum + records.count, 0);
+    if (!other.first.isFull() || count * 4 <= 3 * MOST * layout.act.size) return false;
+    [this.last, this.before = null] = parts.slice(-2).reverse();
+    this.all = all;
+    this.isWhole = false;
+    for (let i = 0; i < other.foreign.count; i++) this.foreign.push(other.foreign.all[i]);
+    return true;
   }
   // What is listed, in its order, and the number of the act before which others aren't; −1 if all are.
   listed() {
-    const parts = [...new Set([this.first, this.before, this.last])].filter(Boolean), rows = {records: 0, polls: 0};
-    const index = joined(parts.map((part) => {
-      const made = part.index.all.slice(0, part.index.count), polls = 2 * rows.polls / POLL_WORDS;
-      const records = rows.records * 4 / layout.act.size;
-      for (let i = 0; i < made.length; i++) made[i] += made[i] >= IS_POLL ? polls : records;
-      rows.records += part.records.count;
-      rows.polls += part.polls.count;
-      return made;
-    }));
-    const all = (name) => joined(parts.map((part) => part[name].all.subarray(0, part[name].count))).buffer;
-    const acts = {records: all("records"), polls: all("polls"), index: index.buffer};
-    return {acts, listed: index.length, all: this.all, hole: this.isWhole ? -1 : this.first.index.count};
+    const parts = this.parts();
+    const acts = parts.length === 1 ? buffersOf(parts[0]) : joinedParts(parts);
+    return {
+      acts,
+      listed: parts.reduce((sum, {index}) => sum + index.count, 0),
+      all: this.all,
+      hole: this.isWhole ? -1 : this.first.index.count,
+      foreign: this.foreign.all.subarray(0, this.foreign.count)
+    };
   }
+}
+
+// What is packed, as it lies there: the buffers may be longer.
+const buffersOf = ({records, polls, index}) =>
+    ({records: records.all.buffer, polls: polls.all.buffer, index: index.all.buffer});
+
+// The same of several parts, one after the other.
+function joinedParts(parts) {
+  const rows = {records: 0, polls: 0};
+  const index = joined(parts.map((part) => {
+    const made = part.index.all.slice(0, part.index.count), polls = 2 * rows.polls / POLL_WORDS;
+    const records = rows.records * 4 / layout.act.size;
+    for (let i = 0; i < made.length; i++) made[i] += made[i] >= IS_POLL ? polls : records;
+    rows.records += part.records.count;
+    rows.polls += part.polls.count;
+    return made;
+  }));
+  const all = (name) => joined(parts.map((part) => part[name].all.subarray(0, part[name].count))).buffer;
+  return {records: all("records"), polls: all("polls"), index: index.buffer};
 }
 
 // Words one after the other.

@@ -9,7 +9,7 @@ const PAGE = 65536, CHUNK = 1 << 24;
 // The kind of the words of a block that is cut off.
 const CUT = 10;
 // So many acts have room at a time.
-const MOST_ACTS = 1000000;
+const MOST_ACTS = 1400000;
 // So many news are asked for at a time.
 const MOST_NEWS = 1000000;
 // The module's exports, the places in its memory, the bytes of the text, and how long it took to read them.
@@ -107,15 +107,29 @@ export function list(room, skip, roomNews, from = 0, to = size, first = room) {
   return {...told(), answer};
 }
 
-// Gives all acts of a part of the text in their order, piece by piece. The first ones were listed last, of `count` in
-// all. The module has no call for those after them: it walks from the part's begin to a later row each time, and keeps
-// the last acts.
-/** @type {(count: number, from: number, to: number, give: (acts: Uint8Array) => void) => void} */
-export function eachPiece(count, from, to, give) {
+// The first acts that were listed last, of `count` in all.
+/** @type {(count: number) => Uint8Array} */
+export const firstActs = (count) => actsAt(0, Math.min(count, at.room));
+
+// Gives the last acts of the text, of `count` in all, as far as there is room for them.
+/** @type {(count: number, give: (acts: Uint8Array) => void) => void} */
+export function lastActs(count, give) {
+  const {room} = at, end = count % room;
+  list(room, 0, 0, 0, size, 0);
+  give(actsAt(end, room - end));
+  give(actsAt(0, end));
+}
+
+// Gives the acts of a part of the text after the first ones in their order, piece by piece, up to where that is enough.
+// The module has no call for them: it walks from the part's begin to a later row each time, and keeps the last acts.
+/**
+ * @type {(count: number, from: number, to: number, give: (acts: Uint8Array) => void,
+ *     isEnough?: (done: number) => boolean) => void}
+ */
+export function laterActs(count, from, to, give, isEnough = () => false) {
   const {room} = at, text = new Uint8Array(call.memory.buffer, at.text, size);
   let done = Math.min(count, room), place = from, step = Math.ceil((to - from) * 1.5 * room / count);
-  give(actsAt(0, done));
-  while (done < count) {
+  while (done < count && !isEnough(done)) {
     const far = place + step < to ? rowAfter(text, place + step) : to, end = far < 0 ? to : Math.min(to, far);
     const {acts} = list(room, 0, 0, from, end, 0), known = end < to ? acts - cutAtEnd(acts) : acts;
     if (acts - done > room) {

@@ -5,8 +5,8 @@
 import {layout, putBlock, readerPlace, setupPlace, START_NUMBERS} from "./layout.js";
 import {isConfigAsk, READER_CONFIG, readerMessages, READING, sealed} from "./messages.js";
 import {FirstAndLast, moved} from "./packed.js";
-import {at, call, eachPiece, list, setOptions, size} from "./recording.js";
-import {isEnd, rowAfter} from "./rows.js";
+import {at, call, firstActs, laterActs, list, setOptions, size} from "./recording.js";
+import {isEnd, ordersIn, rowAfter} from "./rows.js";
 import {say, tell} from "./say.js";
 
 // The kinds of an entry that tells a set-up, and of an act that is a command.
@@ -100,10 +100,12 @@ class Relisting {
       this.findSetups(bytes, told);
       this.addNews(addRows(bytes, layout.news, before));
     }
-    eachPiece(all, from, to, (acts) => {
+    const give = (acts) => {
       this.kept.add(acts, before);
       for (const device of [3, 4]) asks[device] = lastSetup(acts, device) ?? asks[device];
-    });
+    };
+    give(firstActs(all));
+    laterActs(all, from, to, give);
     this.learn(told, from);
     if (this.options[layout.options.extended]) this.learnLevels(asks, told);
   }
@@ -215,6 +217,7 @@ function relistAll({options, numbers, end}) {
 
 /** @type {(asked: {options: Uint8Array, numbers: Float64Array, end: number}) => void} */
 export function relist(asked) {
-  const begin = performance.now(), {kept, cuts} = relistAll(asked), listing = kept.listed();
-  say({told: "done", ...listing, cuts, ms: performance.now() - begin}, moved(listing.acts));
+  const begin = performance.now(), {kept, cuts, text} = relistAll(asked), {foreign, ...listing} = kept.listed();
+  const orders = ordersIn(text, foreign);
+  say({told: "done", ...listing, orders, cuts, ms: performance.now() - begin}, moved(listing.acts));
 }

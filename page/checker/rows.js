@@ -3,6 +3,8 @@
 
 import {READERS_BY_BLOCK} from "./messages.js";
 
+// A row has so many bytes at least, and one that ends it.
+const SHORTEST = 5, LF = 10;
 // So many rows before a fault are looked at for what was said.
 const FAR_BACK = 2000;
 
@@ -90,7 +92,7 @@ export function commandBefore(text, offset, from) {
 }
 
 // The devices that pay out and aren't followed, by the first word of their orders: a recycler, and two hoppers. A
-// recycler's second word tells whether it is an order.
+// recycler's second word tells whether it is an order, or asks what was paid.
 /** @type {Record<string, number>} */
 const PAYERS = {
   "137": 0x37,
@@ -99,40 +101,70 @@ const PAYERS = {
   "175": 0x70,
   "176": 0x70
 };
-const RECYCLER_ORDER = /^M,00[67]$/, ORDER_WORDS = 4;
+const RECYCLER = 0x37, RECYCLER_WORD = /^M,00[678]$/, ORDER_WORDS = 4, PAID = 8, PAID_WORDS = 33;
 
-// The payer to whom the command at a place goes (that of its line, M); 0 if it is another one.
-function payerAt(text, line) {
-  if (text[line + 1] !== 44 || text[line + 2] !== 49) return 0;
-  return PAYERS[String.fromCharCode(text[line + 2], text[line + 3], text[line + 4]).toUpperCase()] ?? 0;
+// The payer to whom the command at a place goes; 0 if it is another one.
+function payerAt(text, place) {
+  return isCommand(text, place) ? PAYERS[saidAt(text, place).slice(2).toUpperCase()] ?? 0 : 0;
 }
 
-// The bytes of a command from a row on, at most so many.
-function bytesFrom(text, from, most) {
+// The bytes of a line from a row on, at most so many: of M up to a command, of S up to the last word of an answer.
+function bytesFrom(text, from, line, most) {
   const found = [];
   for (let place = from; found.length < most; place = rowAfter(text, place)) {
-    const [, byte] = /^M,0([0-9A-F]{2})$/i.exec(saidAt(text, place)) ?? [];
-    if (!byte) break;
+    const [, mode, byte] = new RegExp(`^${line},([01])([0-9A-F]{2})$`, "i").exec(saidAt(text, place)) ?? [];
+    if (!byte || line === "M" && mode === "1") break;
     found.push(parseInt(byte, 16));
+    if (mode === "1") break;
   }
   return found;
 }
 
-// The rows that order such a device to pay out. (Long recordings have millions of rows: each byte is looked at once.)
-/** @type {(text: Uint8Array) => Order[]} */
-export function ordersIn(text) {
-  const found = [];
-  let row = 1, from = 0;
-  for (let i = 0; i < text.length; i++) {
-    if (text[i] === 10) {
-      if (!isEnd(text[from])) row++;
-      from = i + 1;
-    }
-    if (text[i] !== 77 || text[i + 3] < 51 || text[i + 3] > 55) continue;
-    const code = payerAt(text, i), isRecycler = code === PAYERS["137"];
-    if (!code || isRecycler && !RECYCLER_ORDER.test(saidAt(text, rowAfter(text, i)))) continue;
-    const bytes = isRecycler ? bytesFrom(text, rowAfter(text, i), ORDER_WORDS) : [];
-    found.push({row, end: isRecycler ? row + 1 : row, time: timeAt(text, from), code, bytes});
+// The place of the row that comes so many rows after the one at a place; the end of the text if there is none. (Long
+// recordings have millions of rows: this is what takes time.)
+function rowFrom(text, place, rows) {
+  const {length} = text;
+  let left = rows, at = left ? place + SHORTEST : place;
+  while (left > 0 && at < length) {
+    if (text[at++] !== LF || isEnd(text[at])) continue;
+    if (--left) at += SHORTEST;
   }
+  return at;
+}
+
+// What a recycler answers to the question at a place: the bytes, and how many rows both have. Null if it doesn't.
+function paidAt(text, place) {
+  const asked = bytesFrom(text, rowAfter(text, place), "M", 2), from = rowFrom(text, place, asked.length + 1);
+  const told = bytesFrom(text, from, "S", PAID_WORDS), sum = told.slice(0, -1).reduce((all, byte) => all + byte, 0);
+  if (told.length < PAID_WORDS || told.at(-1) !== sum % 256) return null;
+  return {bytes: [PAID, ...told.slice(0, -1)], rows: asked.length + 1 + told.length};
+}
+
+// What the row at a place orders such a device to pay out, or what it asks that was paid. Null if it does neither.
+function orderAt(text, place, row) {
+  const code = payerAt(text, place), time = timeAt(text, place), next = rowAfter(text, place);
+  if (!code) return null;
+  if (code !== RECYCLER) return {row, end: row, time, code, bytes: []};
+  if (!RECYCLER_WORD.test(saidAt(text, next))) return null;
+  const bytes = bytesFrom(text, next, "M", ORDER_WORDS), end = row + 1;
+  if (bytes[0] !== PAID) return {row, end, time, code, bytes};
+  const paid = paidAt(text, place);
+  return paid && {row, end: row + paid.rows - 1, time, code, bytes: paid.bytes};
+}
+
+// The orders to pay out among rows of devices that aren't followed, and what recyclers say of them. Such rows come as
+// pairs of a first and a last one.
+/** @type {(text: Uint8Array, foreign: Uint32Array) => Order[]} */
+export function ordersIn(text, foreign) {
+  const found = [];
+  let row = 1, place = text[0] === 0xEF ? 3 : 0;
+  while (isEnd(text[place])) place++;
+  for (let i = 0; i < foreign.length; i += 2)
+    for (let at = foreign[i]; at <= foreign[i + 1]; at++) {
+      place = rowFrom(text, place, at - row);
+      row = at;
+      const order = orderAt(text, place, row);
+      if (order) found.push(order);
+    }
   return found;
 }

@@ -7,8 +7,10 @@ import {
   at,
   call,
   check,
-  eachPiece,
+  firstActs,
   grow,
+  lastActs,
+  laterActs,
   list,
   load,
   prepare,
@@ -59,12 +61,23 @@ function sayNews(count) {
   if (count > 0) say({told: "news", news}, [news]);
 }
 
+// The last acts of a recording of which not all with news may fit; null of any other. They tell when those before them
+// needn't be looked at.
+function lastListed(kept, all) {
+  if (all <= 2 * at.room || !kept.first.isFull()) return null;
+  const last = new FirstAndLast();
+  lastActs(all, (acts) => last.add(acts, 0));
+  return last;
+}
+
 // The acts of the recording, and all news, piece by piece. One walk over the rows gives both; where there are many
 // news, further walks give the rest of them.
 function listAll() {
-  const {acts: all, news: allNews, answer, row, offset} = list(at.room, 0, at.roomNews), kept = new FirstAndLast();
+  const {acts: all, news: allNews, answer, row, offset} = list(at.room, 0, at.roomNews), kept = new FirstAndLast(all);
   sayNews(Math.min(at.roomNews, allNews));
-  eachPiece(all, 0, size, (acts) => kept.add(acts, 0));
+  kept.add(firstActs(all), 0);
+  const last = lastListed(kept, all);
+  laterActs(all, 0, size, (acts) => kept.add(acts, 0), (done) => done + at.room <= all && kept.skipTo(last, all));
   for (let got = at.roomNews; got < allNews; got += at.roomNews) {
     list(0, got, at.roomNews);
     sayNews(Math.min(at.roomNews, allNews - got));
@@ -140,7 +153,7 @@ function judge(options) {
     most = (performance.now() - begin) * (size / FRONT);
   }
   tell("Listing", 0, most);
-  const begin = performance.now(), listing = listAll(), listed = performance.now();
+  const begin = performance.now(), {foreign, ...listing} = listAll(), listed = performance.now();
   tell("Checking", 0, most);
   const answer = check(size), end = told(), text = answer < 2 ? answerText() : "";
   const checked = performance.now();
@@ -159,8 +172,8 @@ function judge(options) {
     offset: end.offset,
     fault: end.fault,
     lines: stops ? lines(end.offset, end.row) : [],
-    orders: ordersIn(recording),
     ...listing,
+    orders: ordersIn(recording, foreign),
     // When the last row of the file began: what isn't read goes up to there.
     until: timeAt(recording, rowBefore(recording, size)),
     spoken: spokenIn(recording),

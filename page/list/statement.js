@@ -189,6 +189,13 @@ export function statementOf(it) {
   return it.statement;
 }
 
+// The last running sums of a device's sales; null if none has a known amount.
+/** @type {(it: Answer, device: number) => {device: any, controller: any} | null} */
+export function soldSums(it, device) {
+  const last = statementOf(it).lines.findLast((line) => line.sum === "sold" && line.device === device);
+  return last?.sums.controller.known ? last.sums : null;
+}
+
 function sumWords({units, known, unknown, decimals}, places) {
   const words = money(units, decimals ?? places);
   if (!unknown) return words;

@@ -1,7 +1,9 @@
 // @ts-check
 // Sales of a reader that aren't followed: after a fault Profile in one of its commands, up to its next VEND REQUEST.
+import {rowsAt, theDevice} from "../card/sentences.js";
 import {DEVICES} from "../checker/acts.js";
 import {ACCOUNTS} from "../checker/report.js";
+import {capital, money} from "../texts.js";
 
 // The faults after which a reader's sale isn't followed, each with its row and the reader.
 /** @type {(it: Answer) => {row: number, device: number}[]} */
@@ -23,6 +25,16 @@ function spansOf(it) {
 /** @type {(it: Answer, m: Entry) => boolean} */
 export const isLost = (it, m) =>
     m.device > 2 && spansOf(it).some(({row, device, to}) => device === m.device && row < m.first && m.first < to);
+
+// What readers approved in such sales, in words.
+/** @type {(it: Answer) => any[]} */
+export const lostWords = (it) =>
+    it.found.money.filter((m) => m.kind === "approved" && isLost(it, m))
+        .slice(0, 3)
+        .flatMap(({device, units, decimals, isUntold, first, last}) => {
+          const amount = units === null || isUntold ? "an amount that isn't known" : money(units, decimals);
+          return [`${capital(theDevice(device))} approved ${amount} in it (`, rowsAt(first, last), "). "];
+        });
 
 // The row from which on an account isn't known in some rows, because of such a sale; 0 if it is known.
 /** @type {(it: Answer, name: string, rows?: Rows) => number} */

@@ -4,6 +4,7 @@ import {isValued, readerTold} from "../card/parts.js";
 import {DEVICE_NAMES, DEVICES} from "../checker/acts.js";
 import {ACCOUNTS, readReport} from "../checker/report.js";
 import {h, s, section, table} from "../elements.js";
+import {soldSums} from "../list/statement.js";
 import {capital, counted, listed, money, number, small, the} from "../texts.js";
 
 import {lacksWords} from "./open-list.js";
@@ -135,10 +136,21 @@ function accountArticle(r, name, a, d, isCut) {
 }
 
 // An account with amounts that aren't on the bus.
-const untoldArticle = (name) =>
+const untoldArticle = (r, name) =>
     h("article", {class: "account", id: "account-" + name}, h("h3", {}, ACCOUNTS[name].title),
       h("p", {"data-untold": name}, h("strong", {}, "Amount not told: "),
-        "the reader approved FFFF, and takes the price from a list of its own. The text below counts FFFF as 65535."));
+        "the reader approved FFFF, and takes the price from a list of its own. The text below counts FFFF as 65535."),
+      besideWords(r, name));
+
+// The sum of the sales whose amount is told, as it was reported.
+function besideWords(r, name) {
+  const {device, owner} = ACCOUNTS[name], sums = name.startsWith("sold") && r.soldSums?.(DEVICES.indexOf(device));
+  if (!sums) return null;
+  const words = ({units, decimals}) => money(units, decimals ?? r.decimals[device]);
+  return h(
+      "p", {class: "beside"},
+      `The other sales, as reported: ${small(owner)} ${words(sums.device)}, the controller ${words(sums.controller)}.`);
+}
 
 // What the ranges mean.
 const RANGES = [
@@ -158,7 +170,7 @@ function accounts(r, isCut) {
     if (isZero(a))
       (d === null ? silent : zero).push(name);
     else {
-      moved.push(r.isUntold(name) ? untoldArticle(name) : accountArticle(r, name, a, d, isCut));
+      moved.push(r.isUntold(name) ? untoldArticle(r, name) : accountArticle(r, name, a, d, isCut));
       ranges.push(...SIDES.map((side) => a[side]));
     }
   }
@@ -199,7 +211,7 @@ export function moneySection(it) {
   const lacks = lacksWords(it);
   const isUntold = (name) => hasUntold(it, name);
   const weighed = (name, a, d) => weighedWords(it, name, a, d);
-  const sums = {...it.report, plain: plainSums(it), weighed, lacks, isUntold};
+  const sums = {...it.report, plain: plainSums(it), weighed, lacks, isUntold, soldSums: (device) => soldSums(it, device)};
   return section("Where the money is", "money", ...accounts(sums, false), remarks(it));
 }
 

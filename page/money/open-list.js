@@ -157,7 +157,8 @@ const OPEN_SENTENCES = {
        "(0F 02 to 0F 04), which isn't followed. What was paid in is known."],
   order: (e) =>
       [`${counted(e.count, "order")} to pay out${orderedWords(e)} went to ${payerWords(e)}`,
-       inRows(openRows(e.rows), ...restRows(e)), ". That device isn't followed: what it paid is in no sum."],
+       inRows(openRows(e.rows), ...restRows(e)), ...reportedPaid(e),
+       ". That device isn't followed: what it paid is in no sum."],
   trouble: (e) =>
       [`${capital(theDevice(e.device))} reported ${troubleWords(e)}`, inRows(openRows(e.rows)),
        ...e.count === 1 ? ["."] : [`,${timesWords(e)}, the last at ${when(e.last)}`, inRows(...restRows(e)), "."]]
@@ -181,6 +182,15 @@ const RESTART_WORDS = {
 /** @type {(e: OpenEntry) => string} */
 const orderedWords = ({amounts: [amount]}) =>
     amount ? ` ${moneyOf(amount).replace("value not known", "an unknown amount")}` : "";
+
+// What a recycler reported as paid.
+/** @type {(e: OpenEntry) => Parts} */
+const reportedPaid = ({paid, cameRows}) => paid ?
+    [
+      `. It reported ${paid.units === null ? "an unknown amount" : moneyOf(paid)} as paid out (37 08)`,
+      inRows(rowsAt(...cameRows))
+    ] :
+    [];
 
 /** @type {(e: OpenEntry) => string} */
 const payerWords = ({code}) => code === RECYCLER ? "the recycler (37 06, 37 07)" : `a hopper (${hex(code)}H)`;

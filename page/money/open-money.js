@@ -13,7 +13,7 @@ const LEVER_WAIT = 30e6, CASH_WAIT = 30e6, PAYOUT_WAIT = 2e6, JAM_WAIT = 5e6, SI
 const NOT_TOLD = 0xFFFF;
 const READERS = [3, 4];
 export const STACKER = 0x36, RECYCLER = 0x37;
-const TUBE_STATUS = 0x0A, PAYOUT_BUSY = 2, BILLS_ORDERED = 6;
+const TUBE_STATUS = 0x0A, PAYOUT_BUSY = 2, BILLS_ORDERED = 6, BILLS_PAID = 8;
 const VEND = {
   REQUEST: 0,
   CANCEL: 1,
@@ -70,6 +70,7 @@ const NO_ENTRY = {
   code: null,
   answer: null,
   silent: null,
+  paid: null,
   last: 0
 };
 
@@ -194,18 +195,28 @@ class OpenWalk {
     this.begin();
   }
   act(i) {
-    const {acts} = this, kind = acts.kind(i);
+    const {acts} = this, kind = acts.kind(i), device = acts.device(i);
     this.at = i;
-    if (this.taken && acts.device(i) === 1) this.heardChanger(i, kind);
-    if (acts.device(i) === 1 && kind === ACK && this.isPolled(i)) this.tubes.polled(false);
+    if (device === 1) {
+      if (this.taken) this.heardChanger(i, kind);
+      if (kind === ACK && this.tubes.isPending() && this.isPolled(i)) this.tubes.polled(false);
+    }
     if (kind === BREAK) {
       this.endAll("break");
       this.restart("break");
-    } else if (kind === ASK && acts.byte(i, 0) !== POLLS[acts.device(i)])
-      this.asked(i, acts.device(i), acts.bytes(i));
+    } else if (kind === ASK && acts.byte(i, 0) !== POLLS[device])
+      this.asked(i, device, acts.bytes(i));
     else if (kind === REPLY)
-      this.replied(i, acts.device(i), acts.bytes(i));
-    if (acts.device(i) > 2) this.hearReader(acts.device(i), kind, acts.start(i));
+      this.replied(i, device, acts.bytes(i));
+    if (device > 2) this.hearReader(device, kind, acts.start(i));
+  }
+  // Passes over a POLL without news and its answer, where nothing waits for such an answer. Most acts are such.
+  isPassed(i) {
+    if (!this.acts.isQuiet(i)) return false;
+    const device = this.acts.device(i), isAwaited = device === 1 && (this.taken || this.tubes.isPending());
+    if (isAwaited || this.quiet[device]) return false;
+    this.at = i + 1;
+    return true;
   }
   // Whether an act comes right after a POLL of its device.
   isPolled(i) {
@@ -214,14 +225,14 @@ class OpenWalk {
   }
   // Since when a reader doesn't answer, and which request was open then.
   hearReader(device, kind, time) {
-    if ([ACK, NAK, REPLY].includes(kind)) this.endQuiet(device, time);
+    if (kind === ACK || kind === NAK || kind === REPLY) this.endQuiet(device, time);
     if (kind !== ASK) return;
     this.quiet[device] ??= {from: time, last: time, entry: this.requests[device]};
     this.quiet[device].last = time;
   }
   endQuiet(device, to) {
-    const {from, entry} = this.quiet[device] ?? {};
-    if (entry && entry.silent === null && to >= from + SILENT) entry.silent = to - from;
+    const quiet = this.quiet[device], entry = quiet?.entry;
+    if (entry && entry.silent === null && to >= quiet.from + SILENT) entry.silent = to - quiet.from;
     this.quiet[device] = null;
   }
   asked(i, device, bytes) {
@@ -536,13 +547,33 @@ function orderedOf(acts, {row, bytes: [order, ...rest]}) {
   return amountOf(2, setup, isBills ? worth(setup, rest[0] & 15) * two(rest, 1) : two(rest, 0) * setup.scale);
 }
 
+// What a recycler says that it paid: so many bills of each type.
+function paidOf(acts, {row, bytes: [, ...words]}) {
+  const setup = acts.setupAt(2, actAfterRow(acts, row) - 1), counts = [];
+  for (let i = 0; i < words.length; i += 2) counts.push(two(words, i));
+  const amounts = counts.map((count, type) => [count, worth(setup, type)])
+                      .filter(([count]) => count)
+                      .map(([count, bill]) => amountOf(2, setup, bill === null ? null : bill * count));
+  return amounts.length ? amounts.reduce(moreOf) : amountOf(2, setup, 0);
+}
+
+// The first thing that a recycler says after each of its orders, and before the next one.
+function paidAfter(all) {
+  const isPaid = ({bytes}) => bytes[0] === BILLS_PAID;
+  return all.filter((it, i) => i > 0 && isPaid(it) && !isPaid(all[i - 1]));
+}
+
 // The payouts by devices that aren't followed, an entry for each of these.
 function orderEntries(acts, orders) {
   const found = orders.filter(({row, end}) => isForeign(acts, row) && isForeign(acts, end));
-  return [...new Set(found.map(({code}) => code))].map((code) => {
-    const all = found.filter((it) => it.code === code), isRecycler = code === RECYCLER;
+  const of = (code) => found.filter((it) => it.code === code), isOrder = ({bytes}) => bytes[0] !== BILLS_PAID;
+  return [...new Set(found.filter(isOrder).map(({code}) => code))].map((code) => {
+    const all = of(code).filter(isOrder), told = paidAfter(of(code)), isRecycler = code === RECYCLER;
     const amounts = isRecycler ? [all.map((it) => orderedOf(acts, it)).reduce(moreOf)] : [];
-    return {...rowsEntry("order", isRecycler ? 2 : 0, all, code), amounts};
+    const entry = {...rowsEntry("order", isRecycler ? 2 : 0, all, code), amounts};
+    if (!told.length) return entry;
+    const paid = told.map((it) => paidOf(acts, it)).reduce(moreOf), last = told.at(-1);
+    return {...entry, paid, cameRows: [last.row, last.end]};
   });
 }
 
@@ -582,7 +613,11 @@ export function openMoney(acts, {hole = -1, cuts = [], choices = [], orders = []
   let i = 0;
   for (const end of ends) {
     const row = gaps.get(end);
-    for (; i < end; i++) walk.act(i);
+    for (; i < end; i++)
+      if (!walk.isPassed(i))
+        walk.act(i);
+      else
+        i++;
     if (end > 0) walk.end(row ? "fault" : end < acts.count ? "gap" : "end", row ? [row, row] : null);
     for (const it of lost)
       if (actAfterRow(acts, it.row) === end) walk.lost.add(it.device);

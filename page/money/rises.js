@@ -89,7 +89,8 @@ function readRises(buffer) {
 }
 
 function risesOf(it, name) {
-  it.risen ??= it.rises ? readRises(it.rises.listed) : [];
+  if (!it.rises) return [];
+  it.risen ??= readRises(it.rises.listed);
   return it.risen.filter(({account}) => account === name);
 }
 
@@ -109,9 +110,9 @@ function actsOf(it, name) {
 // The acts that leave an account open, each once: with the rise, the act of money up to its row, and the last one
 // before it of the same sort. A report and its acknowledgement are one.
 function openings(it, name) {
-  const acts = actsOf(it, name), made = [], latest = {};
+  const rises = risesOf(it, name), acts = rises.length ? actsOf(it, name) : [], made = [], latest = {};
   let next = 0, here = null, before = null;
-  for (const rise of risesOf(it, name)) {
+  for (const rise of rises) {
     while (next < acts.length && acts[next][0].last <= rise.row) {
       here = acts[next++];
       before = latest[SORTS[here[0].kind]] ?? null;

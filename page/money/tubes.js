@@ -19,6 +19,9 @@ export class TubeWatch {
     this.pending.push({payout, type, before: this.counts?.[type] ?? 0, isMoved: this.moved.has(type)});
     this.isOver = false;
   }
+  isPending() {
+    return this.pending.length > 0;
+  }
   // The changer answered a POLL. The payout is over if it isn't busy any more.
   polled(isBusy) {
     this.isOver = !isBusy;

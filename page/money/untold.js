@@ -11,13 +11,19 @@ function isUntold(acts, i) {
   return readerMessages(acts.bytes(i), acts.reading(i)).some((m) => m[0] === APPROVED && two(m, 1) === NOT_TOLD);
 }
 
-// Takes note of the entries whose amount isn't told.
+// Whether an entry may be such a one, by its amount: that is a multiple of FFFF, if it is known.
+const mayBeUntold = ({kind, units}) =>
+    (kind === "approved" || kind === "request") && (typeof units !== "number" || units > 0 && units % NOT_TOLD === 0);
+
+// Takes note of the entries whose amount isn't told, and of the readers that approved so.
 /** @type {(acts: Acts, found: Found) => void} */
-export function noteUntold(acts, {money}) {
-  for (const m of money) {
-    if (m.kind !== "approved" && m.kind !== "request") continue;
+export function noteUntold(acts, found) {
+  found.untold = new Set();
+  for (const m of found.money) {
+    if (!mayBeUntold(m)) continue;
     const i = acts.actFrom(m.first);
     m.isUntold = i >= 0 && isUntold(acts, i);
+    if (m.isUntold && m.kind === "approved") found.untold.add(DEVICES[m.device]);
   }
 }
 
@@ -34,5 +40,4 @@ export function untoldItems({found: {money}}) {
 
 // Whether an account has such approvals.
 /** @type {(it: Answer, name: string) => boolean} */
-export const hasUntold = ({found}, name) => OF_READERS.test(name) &&
-    found.money.some((m) => m.kind === "approved" && m.isUntold && DEVICES[m.device] === ACCOUNTS[name].device);
+export const hasUntold = ({found}, name) => OF_READERS.test(name) && Boolean(found.untold?.has(ACCOUNTS[name].device));

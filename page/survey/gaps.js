@@ -38,7 +38,7 @@ export function askedAgain(it, made) {
 
 // Takes the acts and news of all stretches. What the card tells of the first fault stays with those before it.
 /** @type {(it: Answer, made: Survey, lists: any) => void} */
-export function takeRelisted(it, made, {acts, found, cuts, all, listed, hole, ms}) {
+export function takeRelisted(it, made, {acts, found, cuts, all, listed, hole, orders, ms}) {
   const {list, link} = it, isWhole = made.listed === made.all;
   it.atFirst = {
     list,
@@ -47,6 +47,7 @@ export function takeRelisted(it, made, {acts, found, cuts, all, listed, hole, ms
     hole: it.hole,
     listed: it.listed,
     all: it.all,
+    orders: it.orders,
     cuts: undefined,
     gaps: undefined,
     statement: null,
@@ -61,6 +62,7 @@ export function takeRelisted(it, made, {acts, found, cuts, all, listed, hole, ms
     all,
     listed,
     hole,
+    orders,
     list: new Acts(acts, listed, cuts),
     link: {answer: isWhole ? ANSWERS.YES : ANSWERS.NO, row: made.judged},
     statement: null,

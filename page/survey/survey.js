@@ -2,6 +2,7 @@
 // A survey: the recording from end to end, though rows of it cannot be. The module tells its text, and where each fault
 // stands. The times are those of the rows. `faults.js` and `stretches.js` show it.
 import {faultSection} from "../card/fault.js";
+import {partsOf} from "../card/sentences.js";
 import {ANSWERS} from "../checker/answers.js";
 import {announce, by, h} from "../elements.js";
 import {figures, recordSection, showSum} from "../files/evidence.js";
@@ -10,6 +11,7 @@ import {contents, land, leave} from "../list/jumps.js";
 import {partLink} from "../list/links.js";
 import {tellSection} from "../list/statement.js";
 import {timeSection} from "../list/timeline.js";
+import {lostWords} from "../money/lost-sales.js";
 import {showOpen} from "../money/open-list.js";
 import {checker, endChecker, nextRun, noteShown, readyChecker, setSurveying, state, surveying} from "../run/now.js";
 import {showTitle} from "../run/trouble.js";
@@ -79,7 +81,7 @@ export function addSurvey(it) {
   const after = by("time") ?? by("record"), made = [surveySection(it), stretchSection(it)];
   by("survey-offer")
       .replaceChildren(
-          `The survey went on after it. ${surveyLead(it.survey)} `,
+          `The survey went on after it. ${surveyLead(it.survey)} `, ...partsOf(lostWords(it)),
           h("span", {class: "noprint"}, partLink("survey", "All faults")));
   after.before(...made);
   by("unjudged").remove();

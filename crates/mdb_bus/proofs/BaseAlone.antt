@@ -1,25 +1,13 @@
 -- By the base profile nothing counts of what the extended one alone says.
 use Rattle.std.proofs.Common.{refl, ap, ◌∙◌, ◌≡◌, List, Option, None}
-use Rattle.mdb_words.specs.declared.event.Event.{Event}
-use Rattle.mdb_msgs.specs.declared.command.Command.{Command}
-use Rattle.mdb_msgs.specs.declared.command.Device.{Device}
+use Rattle.mdb_bus.proofs.Words
+use Words.{Event, Command, Device, LinkFault, Rule, As, Levels, Beginning, PowerOn, Joined, Base}
+use Words.{Extended, Scope, untold_format, counted_in, haste_by, haste_of, is_in_haste, first_known}
+use Words.{untimely_of, format_by, format_for, asked_device, blame_of, fault_of, profile_of}
 use Rattle.mdb_msgs.specs.Readings.{base}
-use Rattle.mdb_bus.specs.declared.fault.LinkFault.{LinkFault}
-use Rattle.mdb_bus.specs.declared.fault.Rule.{Rule}
-use Rattle.mdb_bus.specs.declared.format.Format.TheVariants.{As}
-use Rattle.mdb_bus.specs.declared.levels.Levels.{Levels}
-use Rattle.mdb_bus.specs.declared.scope.Beginning.{Beginning}
-use Rattle.mdb_bus.specs.declared.scope.Beginning.TheVariants.{PowerOn, Joined}
-use Rattle.mdb_bus.specs.declared.scope.Profile.TheVariants.{Base, Extended}
-use Rattle.mdb_bus.specs.declared.scope.Scope.{Scope}
 use Rattle.mdb_bus.specs.ActLists.{Piece, Position, position_of}
-use Rattle.mdb_bus.specs.ExtendedFormats.{untold_format}
-use Rattle.mdb_bus.specs.ExtendedHaste.{counted_in, haste_by, haste_of, is_in_haste}
-use Rattle.mdb_bus.specs.ExtendedMoney.{all_known, first_known}
-use Rattle.mdb_bus.specs.ExtendedTimes.{counted_for, times_of, untimely_of}
-use Rattle.mdb_bus.specs.Formats.{format_by, format_for}
-use Rattle.mdb_bus.specs.LinkFaults.{asked_device, blame_of, fault_of}
-use Rattle.mdb_bus.specs.Scopes.{profile_of}
+use Rattle.mdb_bus.specs.ExtendedMoney.{all_known}
+use Rattle.mdb_bus.specs.ExtendedTimes.{counted_for, times_of}
 use Rattle.mdb_bus.proofs.PlainMoney.{counts_plainly}
 
 pub one_format : (begins : Beginning) (levels : Levels) (command : Command)

@@ -1,6 +1,7 @@
 -- The bytes of commands.
 use Rattle.std.proofs.Common.{arith, refl, sym, ◌∙◌, ◌≡◌, ◌<◌, ◌≤◌, ℕ, [], ◌∷◌, Option, Some, None, length}
-use Rattle.mdb_msgs.specs.declared.command.Command.{Command}
+use Rattle.mdb_bus.proofs.Words.{Command, Device, More, command_bytes, device_at, need_for, Scope}
+use Rattle.mdb_bus.proofs.Words.{needed_in, profile_of}
 use Rattle.mdb_msgs.specs.declared.command.Command.TheVariants.{Changer, Bill, Reader}
 use Rattle.mdb_msgs.specs.declared.command.ChangerCommand.{ChangerCommand}
 use Rattle.mdb_msgs.specs.declared.command.ChangerCommand.TheVariants as changer
@@ -8,13 +9,8 @@ use Rattle.mdb_msgs.specs.declared.command.BillCommand.{BillCommand}
 use Rattle.mdb_msgs.specs.declared.command.BillCommand.TheVariants as bill
 use Rattle.mdb_msgs.specs.declared.command.ReaderCommand.{ReaderCommand}
 use Rattle.mdb_msgs.specs.declared.command.ReaderCommand.TheVariants as reader
-use Rattle.mdb_msgs.specs.declared.command.Device.{Device}
-use Rattle.mdb_msgs.specs.declared.need.Need.TheVariants.{More}
-use Rattle.mdb_msgs.specs.Commands.{bill_bytes, changer_bytes, command_bytes, reader_address, reader_bytes}
-use Rattle.mdb_msgs.specs.Needs.{device_at, need_for}
+use Rattle.mdb_msgs.specs.Commands.{bill_bytes, changer_bytes, reader_address, reader_bytes}
 use Rattle.mdb_msgs.proofs.Addresses.{low}
-use Rattle.mdb_bus.specs.declared.scope.Scope.{Scope}
-use Rattle.mdb_bus.specs.Scopes.{needed_in, profile_of}
 use Rattle.mdb_bus.proofs.Masked.{one_need}
 use Rattle.mdb_bus.proofs.Followed.{within}
 

@@ -1,12 +1,8 @@
 -- The first broken rule by its place is the first by the order.
 use Rattle.std.proofs.Common.{arith, refl, ◌≡◌, ◌+◌, ◌<◌, ◌≤◌, ℕ, zero, suc, List, [], ◌∷◌, ◌++◌, take, drop, ◌-◌}
-use Rattle.std.proofs.lemmas.List.Elements.{All-from_recursion}
-use Rattle.std.specs.List.{AllByRecursion}
-use Rattle.mdb_bus.specs.declared.fault.Rule.{Rule}
+use Rattle.mdb_bus.proofs.Words.{All-from_recursion, AllByRecursion, Rule, Event, IsFirstBroken}
+use Rattle.mdb_bus.proofs.Words.{RowBreaks, Situation, order, IsFirstByPlace, place_of}
 use Rattle.mdb_bus.specs.declared.fault.Rule.TheVariants as rule
-use Rattle.mdb_words.specs.declared.event.Event.{Event}
-use Rattle.mdb_bus.specs.LinkFaults.{IsFirstBroken, RowBreaks, Situation, order}
-use Rattle.mdb_bus.specs.shared.RulePlaces.{IsFirstByPlace, place_of}
 
 -- rules that stand one after the other from a place on
 abbrev StandFrom : ℕ → List Rule → Type 0

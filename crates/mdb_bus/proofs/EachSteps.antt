@@ -1,12 +1,8 @@
 -- What each step has, and some step has.
 use Rattle.std.proofs.Common.{refl, ◌≡◌, ℕ, Ok}
-use Rattle.mdb_words.specs.declared.event.Event.{Event}
-use Rattle.mdb_words.specs.declared.event.Event.TheVariants.{Word, Break}
-use Rattle.mdb_bus.specs.LinkFaults.{Situation}
-use Rattle.mdb_bus.specs.shared.Steps.{IsJudged, Leads}
-use Rattle.mdb_bus.specs.declared.judged.Judged.{Judged}
+use Rattle.mdb_bus.proofs.Words.{Event, Word, Break, Situation, IsJudged, Leads, Judged, EachStep}
+use Rattle.mdb_bus.proofs.Words.{SomeStep, Step}
 use Rattle.mdb_bus.specs.declared.judged.Judged.TheVariants as judged
-use Rattle.mdb_bus.specs.shared.Step.{EachStep, SomeStep, Step, word_in}
 use Rattle.mdb_bus.specs.shared.Step as step
 
 -- a step that has what some step has and what each step has

@@ -1,43 +1,26 @@
 -- The bus after a row: what it stands for, and why a row is refused.
 use Rattle.std.proofs.Common.{[], refl, ap, sym, subst, ◌∙◌, ◌≡◌, List, Option, Result, Ok, Err, IfOk, IfErr, OnOk, Bool, true, false, nat_lt, if◌then◌else◌, Some, None}
-use Rattle.mdb_words.specs.declared.event.Event.{Event}
-use Rattle.mdb_words.specs.declared.event.Event.TheVariants.{Word, Break}
-use Rattle.mdb_words.specs.declared.word.Line.TheVariants.{Controller, Peripheral}
-use Rattle.mdb_msgs.specs.declared.command.Command.{Command}
-use Rattle.mdb_msgs.specs.Commands.{device_of}
-use Rattle.mdb_bus.specs.declared.act.Act.{Act}
+use Rattle.mdb_bus.proofs.Words
+use Words.{Event, Word, Break, Controller, Peripheral, Command, device_of, Act, LinkFault, Rule}
+use Words.{Levels, KnownOptions, Place, Step, EachStep, act_in, with_act, levels_if, GoesOn}
+use Words.{StandsFor, ended_act, position_at, IsFirstBroken, IsLinkFault, fault_at, fault_of}
+use Words.{situation_of, haste_after, haste_by, is_untimely, untimely_sender, IsFirstByPlace}
+use Words.{HasAdvanced, IsAt, IsEnded, IsJudged, IsReadAt, IsSound, Leads, act_after, asked_after}
+use Words.{pieces_after, Judged, Reply, profile_of, Profile, Base, Extended}
 use Rattle.mdb_bus.specs.declared.act.Act.TheVariants as acts
 use Rattle.mdb_bus.specs.declared.bus.Bus.{Bus}
-use Rattle.mdb_bus.specs.declared.fault.LinkFault.{LinkFault}
-use Rattle.mdb_bus.specs.declared.fault.Rule.{Rule}
-use Rattle.mdb_bus.specs.declared.levels.Levels.{Levels}
-use Rattle.mdb_bus.specs.declared.options.KnownOptions.{KnownOptions}
-use Rattle.mdb_bus.specs.declared.place.Place.{Place}
-use Rattle.mdb_bus.specs.shared.Step.{Step, EachStep}
 use Rattle.mdb_bus.specs.shared.Step as step
 use Rattle.mdb_bus.specs.ActLists.{Piece, InAsk, Asked, Returned, levels_after, position_of}
 use Rattle.mdb_bus.specs.Positions.{Position}
-use Rattle.mdb_bus.specs.Pieces.{act_in, with_act, levels_if}
 use Rattle.mdb_bus.specs.ExtendedMoney.{known_by, known_if, known_of, wide_at}
-use Rattle.mdb_bus.specs.Bus.{GoesOn, StandsFor, ended_act, position_at}
 use Rattle.mdb_bus.specs.inner.Gone.{HasGone, situation_at}
-use Rattle.mdb_bus.specs.LinkFaults.{IsFirstBroken, IsLinkFault, fault_at, fault_of, situation_of}
-use Rattle.mdb_bus.specs.ExtendedHaste.{haste_after, haste_by}
-use Rattle.mdb_bus.specs.ExtendedTimes.{is_untimely, untimely_sender}
 use Rattle.mdb_bus.proofs.GrownTimes.{haste_on, untimely_by_step}
-use Rattle.mdb_bus.specs.shared.RulePlaces.{IsFirstByPlace}
 use Rattle.mdb_bus.proofs.Decided.{by_place}
-use Rattle.mdb_bus.specs.shared.Steps.{HasAdvanced, IsAt, IsEnded, IsJudged, IsReadAt, IsSound, Leads, act_after, asked_after, pieces_after}
-use Rattle.mdb_bus.specs.declared.judged.Judged.{Judged}
 use Rattle.mdb_bus.specs.declared.judged.Judged.TheVariants as judged
-use Rattle.mdb_msgs.specs.declared.reply.Reply.{Reply}
 use Rattle.mdb_bus.proofs.EachSteps.{each_break, leads_of, some_each}
 use Rattle.mdb_bus.proofs.Forward.{break_after, forward, leads_at}
 use Rattle.mdb_bus.proofs.Lists.{last_push}
 use Rattle.mdb_bus.proofs.Sound.{is_sound}
-use Rattle.mdb_bus.specs.Scopes.{profile_of}
-use Rattle.mdb_bus.specs.declared.scope.Profile.{Profile}
-use Rattle.mdb_bus.specs.declared.scope.Profile.TheVariants.{Base, Extended}
 
 module _ (old : Bus) (pieces : List Piece) (stands : StandsFor old pieces) where
   -- the situation of the bus is that of the pieces that it stands for

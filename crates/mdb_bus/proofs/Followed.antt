@@ -1,16 +1,9 @@
 -- What is said to a device that is followed: bytes need what they need of anybody.
 use Rattle.std.proofs.Common.{ap, refl, sym, ◌∙◌, ◌≡◌, ◌≢◌, ◌++◌, ◌∷◌, [], Bool, false, ℕ, List, slice_index, if◌then◌else◌}
-use Rattle.mdb_msgs.specs.declared.command.Command.{Command}
-use Rattle.mdb_msgs.specs.declared.device_set.DeviceSet.{DeviceSet}
-use Rattle.mdb_msgs.specs.declared.need.Need.{Need}
-use Rattle.mdb_msgs.specs.declared.need.Need.TheVariants.{Foreign}
-use Rattle.mdb_msgs.specs.Commands.{Spells, device_of}
-use Rattle.mdb_msgs.specs.DeviceSets.{has}
-use Rattle.mdb_msgs.specs.Needs.{is_to_one_of}
-use Rattle.mdb_bus.specs.declared.scope.Scope.{Scope}
-use Rattle.mdb_bus.specs.Acts.{IsForeignOpening}
+use Rattle.mdb_bus.proofs.Words.{Command, DeviceSet, Need, Foreign, Spells, device_of, has}
+use Rattle.mdb_bus.proofs.Words.{is_to_one_of, Scope, IsForeignOpening, Asks, HasCommand, needed_by}
+use Rattle.mdb_bus.proofs.Words.{needed_in, profile_of}
 use Rattle.mdb_bus.specs.ActLists.{IsAskFront}
-use Rattle.mdb_bus.specs.Scopes.{Asks, HasCommand, needed_by, needed_in, profile_of}
 use Rattle.mdb_bus.proofs.Masked.{otherwise, one_need}
 use Rattle.mdb_bus.specs.shared.Steps.{IsCommandFront, IsUnknownExpansion}
 

@@ -1,13 +1,11 @@
 -- The laws of formats, by those of readings.
 use Rattle.std.proofs.Common.{arith, refl, ap, sym, subst, ◌∙◌, ◌≡◌, ◌≢◌, ◌⊎◌, inl, inr, Bool, true, false, ◌||◌, List, [], ◌∷◌, ℕ, Option, Some, Result, Ok, Err, IfOk, IfErr, IfSome}
-use Rattle.std.specs.List.{AllByRecursion, list_any}
-use Rattle.mdb_msgs.specs.declared.command.Command.{Command}
-use Rattle.mdb_msgs.specs.declared.fault.MsgFault.{MsgFault}
+use Rattle.mdb_bus.proofs.Words.{AllByRecursion, list_any, Command, MsgFault, Reading, Reply}
+use Rattle.mdb_bus.proofs.Words.{HasMessages, IsIn, IsReadFault, IsReplyTo, reply_bytes, Format, As}
+use Rattle.mdb_bus.proofs.Words.{varies, HasFault, IsReadAs, what_counts}
 use Rattle.mdb_msgs.specs.declared.fault.MsgFault.TheVariants.{Length, Message, Profile as Left, Answer}
 use Rattle.mdb_msgs.specs.declared.reading.Ids.{Ids}
 use Rattle.mdb_msgs.specs.declared.reading.Ids.TheVariants.{Bare, ByNext, Full}
-use Rattle.mdb_msgs.specs.declared.reading.Reading.{Reading}
-use Rattle.mdb_msgs.specs.declared.reply.Reply.{Reply}
 use Rattle.mdb_msgs.specs.declared.reply.Reply.TheVariants as replies
 use Rattle.mdb_msgs.specs.declared.reply.reader.ReaderMsg.{ReaderMsg}
 use Rattle.mdb_msgs.specs.declared.reply.reader.ReaderMsg.TheVariants.{BeginSession}
@@ -16,13 +14,9 @@ use Rattle.mdb_msgs.specs.Lists.{Stand}
 use Rattle.mdb_msgs.specs.Reader.{IsReaderMsg, IsTextOf, ReaderMessages, reader_msg_bytes}
 use Rattle.mdb_msgs.specs.Laws.{BytesHaveOneFault, ReplyHasNoFault}
 use Rattle.mdb_msgs.specs.Readings.{is_extended, may_have_options}
-use Rattle.mdb_msgs.specs.Replies.{HasMessages, IsIn, IsReadFault, IsReplyTo, reply_bytes}
-use Rattle.mdb_bus.specs.declared.format.Format.{Format}
-use Rattle.mdb_bus.specs.declared.format.Format.TheVariants.{As, Or, Open}
-use Rattle.mdb_bus.specs.inner.Reading.{AreReply, IsReadingIn, joint_fault, AreAlike, IsOpenOr, IsPlainList, varies}
-use Rattle.mdb_bus.specs.Formats.{HasFault, IsReadAs}
+use Rattle.mdb_bus.specs.declared.format.Format.TheVariants.{Or, Open}
+use Rattle.mdb_bus.specs.inner.Reading.{AreReply, IsReadingIn, joint_fault, AreAlike, IsOpenOr, IsPlainList}
 use Rattle.mdb_bus.specs.ExtendedFormats.{AreSome, HaveFaults, IsInSome, long, short, HasOpenFault, IsFirst, IsReadOpen, readings}
-use Rattle.mdb_bus.specs.ExtendedCounts.{what_counts}
 use Rattle.mdb_bus.specs.OpenReplies.{IsExtended}
 
 -- for a command and a reading, data bytes have at most one reply

@@ -1,31 +1,17 @@
 -- A row that a position leads on by extends the act list.
 use Rattle.std.proofs.Common.{◌+◌, rules, ◌⊎◌, arith, refl, ap, sym, subst, ◌∙◌, ◌≡◌, ◌<◌, ◌≤◌, ℕ, List, [], ◌∷◌, ◌++◌, inl, inr, Option, Some, None, length, length-append, append_assoc}
-use Rattle.std.proofs.lemmas.List.{append-nil}
-use Rattle.std.proofs.lemmas.List.Elements.{All-append, All-from_recursion}
-use Rattle.mdb_words.specs.declared.event.Event.{Event}
-use Rattle.mdb_words.specs.declared.event.Event.TheVariants.{Word, Break}
-use Rattle.mdb_words.specs.declared.word.Line.{Line}
-use Rattle.mdb_words.specs.declared.word.Line.TheVariants.{Controller, Peripheral}
-use Rattle.mdb_msgs.specs.Commands.{IsByte}
-use Rattle.mdb_bus.specs.declared.act.Act.{Act}
+use Rattle.mdb_bus.proofs.Words
+use Words.{append-nil, All-append, All-from_recursion, Event, Word, Break, Line, Controller}
+use Words.{Peripheral, IsByte, Act, Step, Say, IsTail, act_in, levels_if, with_act, Grown}
+use Words.{asked_device, situation_of, IsAt, Leads, act_after, asked_after, pieces_after, Asks}
+use Words.{levels_before, profile_of, Levels, Scope, Profile, Situation, break_least}
 use Rattle.mdb_bus.specs.declared.act.Act.TheVariants as acts
-use Rattle.mdb_bus.specs.shared.Step.{Step}
 use Rattle.mdb_bus.specs.shared.Step as step
-use Rattle.mdb_bus.specs.Acts.{Say}
 use Rattle.mdb_bus.specs.ActLists.{Piece, Whole, AskTail, ReplyTail, RepeatTail, Position, Quiet, InAsk, Asked, InReply, Replied, Returned, InRepeat, InForeign, ArePieces, BreakMayCome, InBlockTime, IsSaid, MayCome, PieceFits, acts_of, events_of, first_position, last_of, left_by, left_open, levels_of, piece_events, position_of}
-use Rattle.mdb_bus.specs.Pieces.{IsTail, act_in, levels_if, with_act}
-use Rattle.mdb_bus.specs.Bus.{Grown}
-use Rattle.mdb_bus.specs.LinkFaults.{asked_device, situation_of}
-use Rattle.mdb_bus.specs.shared.Steps.{IsAt, Leads, Opens, WordLeads, act_after, asked_after, grown, piece_after, pieces_after, position_after}
+use Rattle.mdb_bus.specs.shared.Steps.{Opens, WordLeads, grown, piece_after, position_after}
 use Rattle.mdb_bus.proofs.Rows.{begins_block, say_byte, say_sum, say_word, spaced_more}
-use Rattle.mdb_bus.specs.Scopes.{Asks, levels_before, profile_of}
-use Rattle.mdb_bus.specs.declared.levels.Levels.{Levels}
-use Rattle.mdb_bus.specs.declared.scope.Scope.{Scope}
-use Rattle.mdb_bus.specs.declared.scope.Profile.{Profile}
-use Rattle.mdb_bus.specs.LinkFaults.{Situation}
 use Rattle.mdb_bus.proofs.Lists.{at_first}
 use Rattle.mdb_bus.proofs.Verdicts.{sealed}
-use Rattle.mdb_bus.specs.Times.{break_least}
 
 module _ (scope : Scope) (pieces : List Piece) (row : Event) (next : Step) where
   abbrev Made : List Piece

@@ -1,29 +1,15 @@
 -- Haste, and the rows out of their time, after one row more.
 use Rattle.std.proofs.Common.{arith, refl, ap, sym, subst, ◌∙◌, ◌≡◌, ◌≢◌, ◌⊎◌, inl, inr, ◌+◌, ◌<◌, ℕ, List, [], ◌∷◌, ◌++◌, Bool, true, false, if◌then◌else◌, Option, Some, None}
-use Rattle.std.proofs.lemmas.Bool.{lt-ltb}
-use Rattle.mdb_words.specs.declared.event.Event.{Event}
-use Rattle.mdb_words.specs.declared.event.Event.TheVariants.{Word, Break}
-use Rattle.mdb_words.specs.declared.word.Line.{Line}
-use Rattle.mdb_words.specs.declared.word.Line.TheVariants.{Controller, Peripheral}
-use Rattle.mdb_msgs.specs.declared.command.Device.{Device}
-use Rattle.mdb_bus.specs.declared.fault.Blame.{Blame}
+use Rattle.mdb_bus.proofs.Words.{lt-ltb, Event, Word, Break, Line, Controller, Peripheral, Device}
+use Rattle.mdb_bus.proofs.Words.{Blame, Scope, controller_words, Act, Say, Grown, IsTail}
+use Rattle.mdb_bus.proofs.Words.{came_early, haste_after, haste_with, is_in_haste, asked_device}
+use Rattle.mdb_bus.proofs.Words.{situation_of, block_most, Base, is_past, is_untimely, untimely_of}
+use Rattle.mdb_bus.proofs.Words.{untimely_sender, Step, Leads, pieces_after}
 use Rattle.mdb_bus.specs.declared.fault.Blame.TheVariants as blame
-use Rattle.mdb_bus.specs.declared.scope.Scope.{Scope}
 use Rattle.mdb_bus.specs.declared.untimely.Untimely.{Untimely}
-use Rattle.mdb_blocks.specs.Block.{controller_words}
-use Rattle.mdb_bus.specs.declared.act.Act.{Act}
-use Rattle.mdb_bus.specs.Acts.{Say}
-use Rattle.mdb_bus.specs.Bus.{Grown}
 use Rattle.mdb_bus.specs.ActLists.{Piece, Whole, AskTail, ReplyTail, RepeatTail, Position, InAsk, ArePieces, IsSaid, events_of, last_of, left_by, piece_events, position_of}
-use Rattle.mdb_bus.specs.Pieces.{IsTail}
-use Rattle.mdb_bus.specs.ExtendedHaste.{came_early, haste_after, haste_with, is_in_haste}
-use Rattle.mdb_bus.specs.LinkFaults.{asked_device, situation_of}
-use Rattle.mdb_bus.specs.Times.{block_most}
-use Rattle.mdb_bus.specs.declared.scope.Profile.TheVariants.{Base}
-use Rattle.mdb_bus.specs.ExtendedTimes.{far_apart, is_past, is_untimely, sender_by, untimely_of, untimely_sender, with_rows, with_sender, with_untimely}
-use Rattle.mdb_bus.specs.shared.Step.{Step}
+use Rattle.mdb_bus.specs.ExtendedTimes.{far_apart, sender_by, with_rows, with_sender, with_untimely}
 use Rattle.mdb_bus.specs.shared.Step as step
-use Rattle.mdb_bus.specs.shared.Steps.{Leads, pieces_after}
 use Rattle.mdb_bus.proofs.Sound.{rest_last}
 use Rattle.mdb_bus.proofs.Lists.{heard}
 

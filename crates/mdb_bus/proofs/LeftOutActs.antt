@@ -1,22 +1,14 @@
 -- The acts in which a device has a part, where further devices are left out: those of a device that
 -- stays followed stay, and a device that is left out has a part in breaks alone.
 use Rattle.std.proofs.Common.{ap, refl, sym, ◌∙◌, ◌≡◌, Bool, true, false, if◌then◌else◌, Option, Some, None, List, [], ◌∷◌}
-use Rattle.mdb_words.specs.declared.event.Event.{Event}
-use Rattle.mdb_msgs.specs.declared.command.Device.{Device}
+use Rattle.mdb_bus.proofs.Words.{Event, Device, First, Second, DeviceSet, has, Act, Scope}
+use Rattle.mdb_bus.proofs.Words.{device_in, IsFollowed, IsLeftOut, filter}
 use Rattle.mdb_msgs.specs.declared.command.Device.TheVariants as devices
-use Rattle.mdb_msgs.specs.declared.command.ReaderUnit.TheVariants.{First, Second}
-use Rattle.mdb_msgs.specs.declared.device_set.DeviceSet.{DeviceSet}
-use Rattle.mdb_msgs.specs.DeviceSets.{has}
 use Rattle.mdb_msgs.specs.Devices.{same_device}
-use Rattle.mdb_bus.specs.declared.act.Act.{Act}
 use Rattle.mdb_bus.specs.declared.act.Act.TheVariants as acts
-use Rattle.mdb_bus.specs.declared.scope.Scope.{Scope}
 use Rattle.mdb_bus.specs.ActLists.{Piece, Whole, ArePieces, acts_of, piece_events}
-use Rattle.mdb_bus.specs.LeavingOut.{acts_with, breaks_among, device_in, has_part, is_break, is_left_out, is_one_left_out, is_this, leave_out, with_foreign}
-use Rattle.mdb_bus.specs.Scopes.{IsFollowed}
-use Rattle.mdb_bus.specs.LeavingOut.{IsLeftOut}
+use Rattle.mdb_bus.specs.LeavingOut.{acts_with, breaks_among, has_part, is_break, is_left_out, is_one_left_out, is_this, leave_out, with_foreign}
 use Rattle.mdb_bus.proofs.Named.{IsOneFollowed, in_act}
-use Rattle.std.specs.List.{filter}
 use Rattle.mdb_bus.proofs.LeftOutOrder.{leaving}
 
 -- a device that is left out is another than one that isn't

@@ -1,38 +1,19 @@
 -- Pieces in order, where further devices are left out: what stays may stand where it stood, and
 -- what is of a device that is left out stands as foreign acts.
 use Rattle.std.proofs.Common.{arith, ap, refl, sym, subst, ◌∙◌, ◌≡◌, ◌++◌, inl, inr, Bool, true, false, if◌then◌else◌, List, [], ◌∷◌, Option, Some, None, append_assoc}
-use Rattle.std.proofs.lemmas.Bool.{cond_both}
-use Rattle.std.proofs.lemmas.List.{append-nil}
-use Rattle.mdb_words.specs.declared.limits.TheConstants.{NEW_BLOCK_GAP_MIN}
-use Rattle.mdb_words.specs.declared.event.Event.{Event}
-use Rattle.mdb_words.specs.declared.event.Event.TheVariants.{Word, Break}
-use Rattle.mdb_blocks.specs.Block.{block_of}
-use Rattle.mdb_msgs.specs.declared.command.Command.{Command}
+use Rattle.mdb_bus.proofs.Words
+use Words.{cond_both, append-nil, NEW_BLOCK_GAP_MIN, Event, Word, Break, block_of, Command, Device}
+use Words.{First, Second, IsByte, command_bytes, device_of, has, Act, Levels, Reply, Profile}
+use Words.{Format, IsReadAs, format_by, levels_for, untold_format, Scope, IsForeign, reply_words}
+use Words.{device_in, IsFollowed, levels_before, profile_of, IsLeftOut, rest_after, spelled_low}
 use Rattle.mdb_msgs.specs.declared.command.Command.TheVariants as commands
-use Rattle.mdb_msgs.specs.declared.command.Device.{Device}
 use Rattle.mdb_msgs.specs.declared.command.ReaderCommand.TheVariants as readers
-use Rattle.mdb_msgs.specs.declared.command.ReaderUnit.TheVariants.{First, Second}
-use Rattle.mdb_msgs.specs.Commands.{IsByte, command_bytes, device_of}
-use Rattle.mdb_msgs.specs.DeviceSets.{has}
-use Rattle.mdb_bus.specs.declared.act.Act.{Act}
 use Rattle.mdb_bus.specs.declared.act.Act.TheVariants as acts
-use Rattle.mdb_bus.specs.declared.levels.Levels.{Levels}
 use Rattle.mdb_bus.specs.declared.levels.ReaderLevels.{ReaderLevels}
-use Rattle.mdb_msgs.specs.declared.reply.Reply.{Reply}
 use Rattle.mdb_msgs.specs.declared.reply.Reply.TheVariants as replies
-use Rattle.mdb_bus.specs.declared.scope.Profile.{Profile}
 use Rattle.mdb_bus.specs.declared.scope.Profile.TheVariants as profiles
-use Rattle.mdb_bus.specs.declared.format.Format.{Format}
-use Rattle.mdb_bus.specs.Formats.{IsReadAs, format_by, levels_for}
-use Rattle.mdb_bus.specs.ExtendedFormats.{untold_format}
-use Rattle.mdb_bus.specs.declared.scope.Scope.{Scope}
-use Rattle.mdb_bus.specs.Acts.{IsForeign, reply_words}
 use Rattle.mdb_bus.specs.ActLists.{Piece, Whole, AskTail, ReplyTail, RepeatTail, Position, Quiet, InForeign, ArePieces, AreSpaced, BlockMayCome, ForeignMayCome, InAnswerTime, IsInProfile, IsSaid, MayCome, NotBefore, PieceFits, events_of, first_position, last_of, left_by, levels_by, levels_of, piece_events, position_of}
-use Rattle.mdb_bus.specs.LeavingOut.{LeavesOutMore, begin_left_out, device_in, is_left_out, is_one_left_out, leave_out, position_without, with_foreign}
-use Rattle.mdb_bus.specs.Scopes.{IsFollowed, levels_before, profile_of}
-use Rattle.mdb_bus.specs.LeavingOut.{IsLeftOut}
-use Rattle.mdb_bus.specs.Times.{rest_after}
-use Rattle.mdb_msgs.proofs.CommandBytes.{spelled_low}
+use Rattle.mdb_bus.specs.LeavingOut.{LeavesOutMore, begin_left_out, is_left_out, is_one_left_out, leave_out, position_without, with_foreign}
 use Rattle.mdb_bus.proofs.Followed.{FirstTells, front_followed, plain_front}
 use Rattle.mdb_bus.proofs.LeftOutWords.{AreForeignWords, Becomes, answer_foreign, as_block, as_foreign, as_words, foreign_stays, peripheral_foreign, word_waits}
 use Rattle.mdb_bus.proofs.Lists.{all_front, at_first, last_push}

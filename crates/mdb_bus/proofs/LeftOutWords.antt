@@ -1,25 +1,13 @@
 -- What is said where further devices are left out: the words of a piece that stays, and those of
 -- one that becomes foreign acts.
 use Rattle.std.proofs.Common.{ap, refl, sym, subst, ◌∙◌, ◌≡◌, ◌<◌, ◌-◌, ◌+◌, arith, inl, inr, Bool, true, false, nat_le, le-leb, ℕ, List, [], ◌∷◌, Option, Some, None, All, slice_index, if◌then◌else◌}
-use Rattle.std.specs.List.{AllByRecursion}
-use Rattle.std.proofs.lemmas.Bool.{false_from_ne_true}
-use Rattle.std.proofs.lemmas.List.Elements.{recursion_from_All}
-use Rattle.mdb_words.specs.declared.event.Event.{Event}
-use Rattle.mdb_words.specs.declared.event.Event.TheVariants.{Word, Break}
-use Rattle.mdb_words.specs.declared.word.Line.TheVariants.{Controller, Peripheral}
-use Rattle.mdb_blocks.specs.Block.{controller_words}
-use Rattle.mdb_msgs.specs.declared.command.Device.{Device}
-use Rattle.mdb_msgs.specs.declared.need.Need.TheVariants.{Foreign}
-use Rattle.mdb_msgs.specs.Commands.{IsByte}
-use Rattle.mdb_msgs.specs.DeviceSets.{has}
-use Rattle.mdb_msgs.specs.Needs.{device_at, is_to_one_of}
-use Rattle.mdb_bus.specs.declared.scope.Scope.{Scope}
-use Rattle.mdb_words.specs.declared.limits.TheConstants.{WORD_GAP_MIN}
+use Rattle.mdb_bus.proofs.Words.{AllByRecursion, false_from_ne_true, recursion_from_All, Event}
+use Rattle.mdb_bus.proofs.Words.{Word, Break, Controller, Peripheral, controller_words, Device}
+use Rattle.mdb_bus.proofs.Words.{Foreign, IsByte, has, device_at, is_to_one_of, Scope, WORD_GAP_MIN}
+use Rattle.mdb_bus.proofs.Words.{IsForeign, IsForeignOpening, IsForeignWord, Say, said_by}
+use Rattle.mdb_bus.proofs.Words.{needed_by, needed_in, profile_of, rest_after}
 use Rattle.mdb_bus.specs.ActLists.{Position, InForeign, BlockMayCome, ForeignMayCome, NotBefore}
-use Rattle.mdb_bus.specs.Acts.{IsForeign, IsForeignOpening, IsForeignWord, Say, said_by}
 use Rattle.mdb_bus.specs.LeavingOut.{LeavesOutMore, begin_left_out}
-use Rattle.mdb_bus.specs.Scopes.{needed_by, needed_in, profile_of}
-use Rattle.mdb_bus.specs.Times.{rest_after}
 use Rattle.mdb_bus.proofs.Followed.{AreFollowed, needed_followed}
 use Rattle.mdb_bus.proofs.Rows.{begins_block}
 use Rattle.mdb_bus.proofs.Lists.{heard}

@@ -9,7 +9,6 @@ pub mod Followed
 pub mod FormatLaws
 pub mod Forward
 pub mod GrownTimes
-pub mod Verdicts
 pub mod LeftOutActs
 pub mod LeftOutOrder
 pub mod LeftOutWords
@@ -25,3 +24,5 @@ pub mod Promises
 pub mod Rows
 pub mod Sound
 pub mod Stops
+pub mod Verdicts
+mod Words

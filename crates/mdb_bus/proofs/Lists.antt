@@ -1,15 +1,9 @@
 -- Lists of events and of words, with their last element apart.
 use Rattle.std.proofs.Common.{arith, refl, ap, sym, subst, ◌∙◌, ◌≡◌, ◌≢◌, ◌+◌, ◌≤◌, ℕ, List, [], ◌∷◌, ◌++◌, Some, length, All, append_assoc, length-append}
 use Rattle.std.proofs.lemmas.List.{get_or_append_left, get_or-append-add, length-map}
-use Rattle.mdb_words.specs.declared.event.Event.{Event}
-use Rattle.mdb_words.specs.declared.event.Event.TheVariants.{Word, Break}
-use Rattle.mdb_words.specs.declared.word.Line.{Line}
-use Rattle.mdb_words.specs.declared.word.Line.TheVariants.{Controller}
-use Rattle.mdb_blocks.specs.Block.{controller_words, peripheral_words}
-use Rattle.mdb_bus.specs.Acts.{Say, said_by}
-use Rattle.mdb_bus.specs.declared.scope.Profile.{Profile}
-use Rattle.mdb_bus.specs.declared.scope.Beginning.{Beginning}
-use Rattle.mdb_bus.specs.declared.scope.Beginning.TheVariants.{PowerOn, Joined}
+use Rattle.mdb_bus.proofs.Words.{Event, Word, Break, Line, Controller, controller_words}
+use Rattle.mdb_bus.proofs.Words.{peripheral_words, Say, said_by, Profile, Beginning, PowerOn}
+use Rattle.mdb_bus.proofs.Words.{Joined}
 use Rattle.mdb_bus.specs.ActLists.{Position, Quiet, InForeign, first_position, AreSpaced, InBlockTime, last_of}
 
 -- a recording begins in quiet or in foreign traffic

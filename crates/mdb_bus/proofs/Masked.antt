@@ -1,16 +1,9 @@
 -- What the first bytes of a block tell of ENABLE OPTIONS, which a profile may leave out.
 use Rattle.std.proofs.Common.{arith, ap, refl, sym, ◌∙◌, ◌≡◌, ◌≢◌, ◌≤◌, ◌==◌, ◌%◌, ◌||◌, ◌&&◌, sum, inl, inr, ◌⊎◌, ℕ, Bool, true, false, List, [], ◌∷◌, ◌++◌, length, length-append, if◌then◌else◌}
-use Rattle.std.proofs.lemmas.Bool.{cases_eq}
+use Rattle.mdb_bus.proofs.Words.{cases_eq, append-nil, block_of, Command, Need, Foreign, More}
+use Rattle.mdb_bus.proofs.Words.{Spells, is_enable_options, begins_options, needed, Profile}
+use Rattle.mdb_bus.proofs.Words.{HasCommand, leaves_options, needed_by}
 use Rattle.std.proofs.lemmas.Bool.Decides.{nat_tests}
-use Rattle.std.proofs.lemmas.List.{append-nil}
-use Rattle.mdb_blocks.specs.Block.{block_of}
-use Rattle.mdb_msgs.specs.declared.command.Command.{Command}
-use Rattle.mdb_msgs.specs.declared.need.Need.{Need}
-use Rattle.mdb_msgs.specs.declared.need.Need.TheVariants.{Foreign, More}
-use Rattle.mdb_msgs.specs.Commands.{Spells, is_enable_options}
-use Rattle.mdb_msgs.specs.Needs.{begins_options, needed}
-use Rattle.mdb_bus.specs.declared.scope.Profile.{Profile}
-use Rattle.mdb_bus.specs.Scopes.{HasCommand, leaves_options, needed_by}
 use Rattle.mdb_bus.proofs.Lists.{some_length}
 
 -- a law of mdb_msgs: the first two bytes of a command's block tell whether it is ENABLE OPTIONS

@@ -1,19 +1,14 @@
 -- A transcript has at most one act list, and with an act list each of its fronts has one.
 use Rattle.std.proofs.Common.{arith, refl, ap, sym, subst, ◌∙◌, ◌≡◌, List, [], ◌∷◌, ◌++◌, append_assoc, length, length-append}
-use Rattle.std.proofs.lemmas.List.{append-nil}
-use Rattle.mdb_words.specs.declared.event.Event.{Event}
-use Rattle.mdb_bus.specs.declared.fault.Rule.{Rule}
+use Rattle.mdb_bus.proofs.Words.{append-nil, Event, Rule, RowBreaks, situation_of, act_after}
+use Rattle.mdb_bus.proofs.Words.{Grammar, Scope}
 use Rattle.mdb_bus.specs.ActLists.{ArePieces, IsActList, Piece, acts_of, events_of, position_of}
 use Rattle.mdb_bus.specs.Pieces.{GoesOnFrom, HasActList}
-use Rattle.mdb_bus.specs.LinkFaults.{RowBreaks, situation_of}
-use Rattle.mdb_bus.specs.shared.Steps.{act_after}
 use Rattle.mdb_bus.proofs.Backward.{Before, backward}
 use Rattle.mdb_bus.proofs.Forward.{forward}
 use Rattle.mdb_bus.proofs.OneStep.{one_step}
 use Rattle.mdb_bus.proofs.Sound.{is_sound, last_is_long}
 use Rattle.mdb_bus.proofs.Stops.{stops}
-use Rattle.mdb_bus.specs.shared.Grammar.{Grammar}
-use Rattle.mdb_bus.specs.declared.scope.Scope.{Scope}
 
 -- a transcript without rows has the empty act list alone
 none_of_none : (scope : Scope) (pieces : List Piece) → IsActList scope pieces [] → pieces ≡ []

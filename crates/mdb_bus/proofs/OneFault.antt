@@ -1,13 +1,8 @@
 -- A row has one fault.
 use Rattle.std.proofs.Common.{ap, sym, subst, ◌∙◌, ◌≡◌, List, [], ◌∷◌, ◌++◌}
-use Rattle.std.proofs.lemmas.List.Elements.{recursion_from_All}
-use Rattle.std.specs.List.{AllByRecursion}
-use Rattle.mdb_words.specs.declared.event.Event.{Event}
-use Rattle.mdb_bus.specs.declared.fault.Blame.{Blame}
-use Rattle.mdb_bus.specs.declared.fault.Rule.{Rule}
+use Rattle.mdb_bus.proofs.Words.{recursion_from_All, AllByRecursion, Event, Blame, Rule}
+use Rattle.mdb_bus.proofs.Words.{situation_of, IsLinkFault, RowBreaks, fault_of, Scope}
 use Rattle.mdb_bus.specs.ActLists.{Piece}
-use Rattle.mdb_bus.specs.LinkFaults.{situation_of, IsLinkFault, RowBreaks, fault_of}
-use Rattle.mdb_bus.specs.declared.scope.Scope.{Scope}
 
 -- of rules in an order, one is the first that is broken
 one_first : (Breaks : Rule → Type 0) (r s : Rule) (before other after rest : List Rule)

@@ -1,23 +1,12 @@
 -- A row leads to one step at most.
 use Rattle.std.proofs.Common.{◌≤◌, arith, refl, ap, sym, ◌∙◌, ◌≡◌, ◌<◌, ◌⊎◌, inl, inr, ℕ, List, [], ◌∷◌, ◌++◌, Option, length}
-use Rattle.mdb_words.specs.declared.event.Event.{Event}
-use Rattle.mdb_words.specs.declared.event.Event.TheVariants.{Word, Break}
-use Rattle.mdb_words.specs.declared.word.Line.{Line}
-use Rattle.mdb_words.specs.declared.word.Line.TheVariants.{Controller, Peripheral}
-use Rattle.mdb_msgs.specs.declared.command.Command.{Command}
-use Rattle.mdb_msgs.specs.declared.need.Need.TheVariants.{Exactly, Foreign}
-use Rattle.mdb_msgs.specs.declared.reply.Reply.{Reply}
-use Rattle.mdb_bus.specs.declared.levels.Levels.{Levels}
-use Rattle.mdb_bus.specs.shared.Step.{Step}
+use Rattle.mdb_bus.proofs.Words.{Event, Word, Break, Line, Controller, Peripheral, Command, Exactly}
+use Rattle.mdb_bus.proofs.Words.{Foreign, Reply, Levels, Step, IsForeignOpening, reply_words}
+use Rattle.mdb_bus.proofs.Words.{Situation, Leads, Grammar, Asks, needed_in, Scope}
 use Rattle.mdb_bus.specs.shared.Step as step
-use Rattle.mdb_bus.specs.Acts.{IsForeignOpening, reply_words}
 use Rattle.mdb_bus.specs.ActLists.{Asked, InAsk, InForeign, InRepeat, InReply, IsAskFront, IsRepeatFront, Position, Quiet, Replied, Returned}
-use Rattle.mdb_bus.specs.LinkFaults.{Situation}
-use Rattle.mdb_bus.specs.shared.Steps.{Answers, AnswersReply, BeginsRepeat, GoesOnAsking, GoesOnForeign, GoesOnRepeating, GoesOnReplying, Leads, Opens, WordLeads}
-use Rattle.mdb_bus.specs.shared.Grammar.{Grammar}
+use Rattle.mdb_bus.specs.shared.Steps.{Answers, AnswersReply, BeginsRepeat, GoesOnAsking, GoesOnForeign, GoesOnRepeating, GoesOnReplying, Opens, WordLeads}
 use Rattle.mdb_bus.proofs.Lists.{nothing_after, some_length}
-use Rattle.mdb_bus.specs.Scopes.{Asks, needed_in}
-use Rattle.mdb_bus.specs.declared.scope.Scope.{Scope}
 use Rattle.mdb_bus.proofs.Stops.{front_short}
 
 -- what opens a foreign block is foreign

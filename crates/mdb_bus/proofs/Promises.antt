@@ -1,17 +1,10 @@
 -- The laws of mdb_msgs, put together, of the devices that are followed.
 use Rattle.std.proofs.Common.{refl, ap, ◌∙◌, ◌≡◌, ◌≢◌, ◌<◌, ℕ, List, [], ◌++◌, length, ◌&&◌, ◌%◌, Bool, true, false, All, sum}
-use Rattle.mdb_blocks.specs.Block.{block_of}
-use Rattle.mdb_msgs.specs.declared.command.Command.{Command}
-use Rattle.mdb_msgs.specs.declared.need.Need.TheVariants.{Exactly, Foreign}
-use Rattle.mdb_msgs.specs.declared.reading.Reading.{Reading}
-use Rattle.mdb_msgs.specs.declared.reply.Reply.{Reply}
-use Rattle.mdb_msgs.specs.Commands.{IsByte, Spells, command_bytes, is_enable_options}
+use Rattle.mdb_bus.proofs.Words.{block_of, Command, Exactly, Foreign, Reading, Reply, IsByte}
+use Rattle.mdb_bus.proofs.Words.{Spells, command_bytes, is_enable_options, begins_options, needed}
+use Rattle.mdb_bus.proofs.Words.{IsOpen, IsTold, TellsLength, IsIn, IsReplyTo, reply_bytes, Scope}
+use Rattle.mdb_bus.proofs.Words.{Asks, leaves_options, needed_in, profile_of}
 use Rattle.mdb_msgs.specs.Laws.{BlockHasOneReply, OpenIsAFront as PlainOpenIsAFront, OpenIsAnothersFront}
-use Rattle.mdb_msgs.specs.Needs.{begins_options, needed}
-use Rattle.mdb_msgs.specs.OpenBlocks.{IsOpen, IsTold, TellsLength}
-use Rattle.mdb_msgs.specs.Replies.{IsIn, IsReplyTo, reply_bytes}
-use Rattle.mdb_bus.specs.declared.scope.Scope.{Scope}
-use Rattle.mdb_bus.specs.Scopes.{Asks, leaves_options, needed_in, profile_of}
 use Rattle.mdb_bus.proofs.Masked.{TwoTell, block_known, front_known, known_need, unmasked}
 use Rattle.mdb_bus.specs.shared.Grammar.{OpenIsAFront}
 use Rattle.mdb_bus.proofs.Followed.{FirstTells, asks_followed, block_followed, needed_followed, still_followed, was_followed, within}

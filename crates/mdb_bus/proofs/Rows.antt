@@ -1,13 +1,8 @@
 -- Lists of rows and of words, with one more at the end.
 use Rattle.std.proofs.Common.{arith, refl, ap, sym, subst, ◌∙◌, ◌≡◌, ◌≢◌, ◌+◌, ◌%◌, ℕ, List, [], ◌∷◌, ◌++◌, Some, sum, append_assoc}
-use Rattle.std.proofs.lemmas.List.{map-append}
-use Rattle.mdb_words.specs.declared.event.Event.{Event}
-use Rattle.mdb_words.specs.declared.event.Event.TheVariants.{Word}
-use Rattle.mdb_words.specs.declared.word.Line.{Line}
-use Rattle.mdb_words.specs.declared.word.Line.TheVariants.{Controller, Peripheral}
-use Rattle.mdb_blocks.specs.Block.{block_of, controller_words, peripheral_words}
-use Rattle.mdb_bus.specs.Acts.{IsBlockWord, Say, said_by}
-use Rattle.mdb_bus.specs.declared.scope.Profile.{Profile}
+use Rattle.mdb_bus.proofs.Words.{map-append, Event, Word, Line, Controller, Peripheral, block_of}
+use Rattle.mdb_bus.proofs.Words.{controller_words, peripheral_words, IsBlockWord, Say, said_by}
+use Rattle.mdb_bus.proofs.Words.{Profile}
 use Rattle.mdb_bus.specs.ActLists.{AreSpaced, InBlockTime, last_of}
 use Rattle.mdb_bus.proofs.Lists.{front_and_last, heard, last_push, peripheral_push}
 

@@ -1,20 +1,12 @@
 -- Where pieces in order leave the bus: a block there has begun well, and a last row that is a break
 -- is a long one.
 use Rattle.std.proofs.Common.{refl, ◌≡◌, ℕ, List, [], ◌∷◌, ◌++◌, inl, inr, Some}
-use Rattle.mdb_words.specs.declared.event.Event.{Event}
-use Rattle.mdb_words.specs.declared.event.Event.TheVariants.{Word, Break}
-use Rattle.mdb_words.specs.declared.word.Line.{Line}
-use Rattle.mdb_words.specs.declared.word.Line.TheVariants.{Controller, Peripheral}
-use Rattle.mdb_blocks.specs.Block.{words_on}
-use Rattle.mdb_bus.specs.declared.act.Act.{Act}
+use Rattle.mdb_bus.proofs.Words.{Event, Word, Break, Line, Controller, Peripheral, words_on, Act}
+use Rattle.mdb_bus.proofs.Words.{IsForeignWord, IsReply, Say, command_words, reply_words}
+use Rattle.mdb_bus.proofs.Words.{NamesAReply, IsSound, Scope, profile_of}
 use Rattle.mdb_bus.specs.declared.act.Act.TheVariants as acts
-use Rattle.mdb_bus.specs.Acts.{IsForeignWord, IsReply, Say, command_words, reply_words}
-use Rattle.mdb_bus.specs.Pieces.{NamesAReply}
 use Rattle.mdb_bus.specs.ActLists.{Piece, Whole, AskTail, ReplyTail, RepeatTail, Position, InRepeat, Replied, Returned, ArePieces, IsSaid, events_of, last_of, piece_events, position_of}
-use Rattle.mdb_bus.specs.shared.Steps.{IsSound}
 use Rattle.mdb_bus.proofs.Stops.{LastIsLong, lasts}
-use Rattle.mdb_bus.specs.declared.scope.Scope.{Scope}
-use Rattle.mdb_bus.specs.Scopes.{profile_of}
 use Rattle.mdb_bus.proofs.Lists.{at_first}
 
 -- a reply that was told, or is told again, is one

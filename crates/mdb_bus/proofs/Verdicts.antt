@@ -1,51 +1,31 @@
 -- What is made of a word, position by position.
 use Rattle.std.proofs.Common.{rules, arith, refl, ap, sym, ◌∙◌, ◌≡◌, ◌≢◌, ◌+◌, ◌<◌, ◌≤◌, ◌%◌, ◌⊎◌, inl, inr, ℕ, zero, suc, List, [], ◌∷◌, ◌++◌, length, take, drop, slice_index, slice_get, sum, Option, Some, None, Result, Ok, Err, IfOk, OnOk, get_or, append_assoc, length-append, length-drop, Fits, w8, ◌&&◌, ◌↔◌, Bool, true, false, IsTrue}
-use Rattle.std.proofs.lemmas.List.{nil_from_length, same_from_push}
-use Rattle.std.proofs.lemmas.List.Elements.{All-append, All-from_get_or, All-from_recursion}
+use Rattle.mdb_bus.proofs.Words
+use Words.{nil_from_length, same_from_push, All-append, All-from_recursion, WORD_GAP_MIN, Event}
+use Words.{Word, Controller, Peripheral, answer_byte, block_of, peripheral_words, Command, MsgFault}
+use Words.{Need, More, Exactly, Foreign, Outside, Reply, IsByte, Spells, command_bytes}
+use Words.{begins_options, needed, IsOpen, IsShort, Rule, Levels, Place, Judged, reply_words}
+use Words.{position_at, IsBefore, IsPast, LeavesProfile, OutOfOrder, RowBreaks, Situation}
+use Words.{WrongLength, IsFirstByPlace, place_of, IsJudged, IsSound, answer_most, block_most, Scope}
+use Words.{HasFault, format_for, Profile, Base, Extended, is_past, is_untimely, HasCommand}
+use Words.{leaves_options, needed_by, needed_in, profile_of}
+use Rattle.std.proofs.lemmas.List.Elements.{All-from_get_or}
 use Rattle.std.proofs.lemmas.Option.{slice_get-get_or, slice_get_past}
 use Rattle.std.specs.List.{All}
-use Rattle.mdb_words.specs.declared.limits.TheConstants.{WORD_GAP_MIN}
-use Rattle.mdb_words.specs.declared.event.Event.{Event}
-use Rattle.mdb_words.specs.declared.event.Event.TheVariants.{Word}
-use Rattle.mdb_words.specs.declared.word.Line.TheVariants.{Controller, Peripheral}
-use Rattle.mdb_blocks.specs.Answer.{answer_byte}
 use Rattle.mdb_blocks.specs.declared.answer.Answer.{Answer}
 use Rattle.mdb_blocks.specs.declared.answer.Answer.TheVariants as answers
-use Rattle.mdb_blocks.specs.Block.{block_of, peripheral_words}
-use Rattle.mdb_msgs.specs.declared.command.Command.{Command}
-use Rattle.mdb_msgs.specs.declared.fault.MsgFault.{MsgFault}
 use Rattle.mdb_msgs.specs.declared.fault.MsgFault.TheVariants as reading
-use Rattle.mdb_msgs.specs.declared.need.Need.{Need}
-use Rattle.mdb_msgs.specs.declared.need.Need.TheVariants.{More, Exactly, Foreign, Outside}
-use Rattle.mdb_msgs.specs.declared.reply.Reply.{Reply}
 use Rattle.mdb_msgs.specs.Answers.{HasDataAnswer}
-use Rattle.mdb_msgs.specs.Commands.{EnablesMore, IsByte, Spells, command_bytes}
+use Rattle.mdb_msgs.specs.Commands.{EnablesMore}
 use Rattle.mdb_msgs.specs.Laws.{BytesHaveOneFault, FrontIsOpen, OpenIsAFront, OpenIsAnothersFront, ReplyHasNoFault}
-use Rattle.mdb_msgs.specs.Needs.{begins_options, needed}
-use Rattle.mdb_msgs.specs.OpenBlocks.{IsOpen, IsShort}
-use Rattle.mdb_bus.specs.declared.fault.Rule.{Rule}
 use Rattle.mdb_bus.specs.declared.fault.Rule.TheVariants as rule
-use Rattle.mdb_bus.specs.declared.levels.Levels.{Levels}
-use Rattle.mdb_bus.specs.declared.place.Place.{Place}
-use Rattle.mdb_bus.specs.declared.judged.Judged.{Judged}
 use Rattle.mdb_bus.specs.declared.judged.Judged.TheVariants as judged
-use Rattle.mdb_bus.specs.Acts.{reply_words}
 use Rattle.mdb_bus.specs.ActLists.{Asked, InAsk, InBlockTime, InReply, IsRepeatFront, NotBefore, NotPast, Position, IsAskFront}
 use Rattle.mdb_bus.specs.declared.phase.Phase.{Phase}
 use Rattle.mdb_bus.specs.declared.phase.Phase.TheVariants as phase
-use Rattle.mdb_bus.specs.Bus.{position_at}
-use Rattle.mdb_bus.specs.LinkFaults.{IsBefore, IsPast, LeavesProfile, OutOfOrder, RowBreaks, Situation, WrongLength}
-use Rattle.mdb_bus.specs.shared.RulePlaces.{IsFirstByPlace, place_of}
-use Rattle.mdb_bus.specs.shared.Steps.{Belongs, Counts, Covers, IsCommandFront, IsGoingOn, IsJudged, IsOpened, IsRead, IsReplyEnd, IsSettled, IsSound, IsTimely, IsUnknownExpansion, MayAsk}
-use Rattle.mdb_bus.specs.Times.{answer_most, block_most}
+use Rattle.mdb_bus.specs.shared.Steps.{Belongs, Counts, Covers, IsCommandFront, IsGoingOn, IsOpened, IsRead, IsReplyEnd, IsSettled, IsTimely, IsUnknownExpansion, MayAsk}
 use Rattle.mdb_bus.proofs.Needs.{at_least_two, at_most_32, not_left, stays, narrows}
-use Rattle.mdb_bus.specs.declared.scope.Scope.{Scope}
-use Rattle.mdb_bus.specs.Formats.{HasFault, format_for}
 use Rattle.mdb_bus.proofs.FormatLaws.{none_as, one_bad, bad_length}
-use Rattle.mdb_bus.specs.declared.scope.Profile.{Profile}
-use Rattle.mdb_bus.specs.declared.scope.Profile.TheVariants.{Base, Extended}
-use Rattle.mdb_bus.specs.ExtendedTimes.{is_past, is_untimely}
-use Rattle.mdb_bus.specs.Scopes.{HasCommand, leaves_options, needed_by, needed_in, profile_of}
 use Rattle.mdb_bus.proofs.Masked.{AreKnown, TwoTell, another_known, begins_one, content_tells, front_known, known_front, known_need, more_known, none_of_both, one_need, options_more, unmasked}
 use Rattle.mdb_bus.proofs.Followed.{AreFollowed, FirstTells, ask_front_followed, asks_followed, expansion_opens, front_followed, needed_followed, plain_front, still_followed, within}
 use Rattle.mdb_bus.proofs.Lists.{not_empty, peripheral_push, some_length, some_there}

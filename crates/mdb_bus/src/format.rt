@@ -144,17 +144,19 @@ fn first_reading(command: &Command, bytes: &[u8]) -> Result<Reading, MsgFault>
     ensures fault { IfErr result (HasFault Format.Open command.now bytes.now) }
 {
     laws::bytes_have_one_fault();
-    let one = fault_in(long(Ids::Full), command, bytes);
-    let two = fault_in(long(Ids::ByNext), command, bytes);
-    let three = fault_in(short(Ids::Full), command, bytes);
-    let four = fault_in(short(Ids::ByNext), command, bytes);
-    match (one, two, three, four) {
-        (None, _, _, _) => Ok(long(Ids::Full)),
-        (Some(_), None, _, _) => Ok(long(Ids::ByNext)),
-        (Some(_), Some(_), None, _) => Ok(short(Ids::Full)),
-        (Some(_), Some(_), Some(_), None) => Ok(short(Ids::ByNext)),
-        (Some(one), Some(two), Some(three), Some(four)) => Err(joint_fault(one, two, three, four)),
-    }
+    let Some(one) = fault_in(long(Ids::Full), command, bytes) else {
+        return Ok(long(Ids::Full));
+    };
+    let Some(two) = fault_in(long(Ids::ByNext), command, bytes) else {
+        return Ok(long(Ids::ByNext));
+    };
+    let Some(three) = fault_in(short(Ids::Full), command, bytes) else {
+        return Ok(short(Ids::Full));
+    };
+    let Some(four) = fault_in(short(Ids::ByNext), command, bytes) else {
+        return Ok(short(Ids::ByNext));
+    };
+    Err(joint_fault(one, two, three, four))
 }
 
 /// The fault of bytes in a reading.
@@ -201,6 +203,7 @@ fn are_alike(reply: &Reply, command: &Command, bytes: &[u8]) -> bool
 }
 
 /// Whether they do in this reading. Only replies of a reader may differ.
+#[inline(always)]
 fn agrees(reading: Reading, reply: &Reply, command: &Command, bytes: &[u8]) -> bool
     requires some { AreSome command.now bytes.now reply.now }
     requires extended { is_extended reading ≡ true }

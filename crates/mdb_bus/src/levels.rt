@@ -119,8 +119,8 @@ impl Levels {
     }
 
     /// The levels after an act, by a profile.
-    // Not inlined, since few rows end an ask or a reply that tells a level.
-    #[inline(never)]
+    // Inlined, so that it isn't asked again which act it is.
+    #[inline(always)]
     pub fn by(self, profile: Profile, act: &Act) -> Levels
         ensures { result ≡ levels_by profile act.now self }
     {
@@ -162,7 +162,7 @@ impl Levels {
     }
 
     /// The same, by the extended profile.
-    #[inline(never)]
+    #[inline(always)]
     fn extended_format(self, begins: &Beginning, command: Command) -> Format
         ensures { result ≡ format_by Profile.Extended (untold_format begins.now) self command }
     {

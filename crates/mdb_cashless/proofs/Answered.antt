@@ -1,26 +1,13 @@
 -- What a reply of a reader tells, for the function that reads it.
-use Rattle.std.proofs.Common.{◌≡◌, ◌∙◌, ℕ, Bool, List, Option, Some, refl, ap, sym}
-use Rattle.mdb_msgs.specs.declared.command.ReaderCommand.{ReaderCommand}
-use Rattle.mdb_msgs.specs.declared.reply.Reply.{Reply}
-use Rattle.mdb_machine.specs.declared.choice.Choice.{Choice}
-use Rattle.mdb_machine.specs.declared.gains.Gains.{Gains}
-use Rattle.mdb_machine.specs.declared.kept.Part.{Part}
-use Rattle.mdb_machine.specs.Gains.{device_gains, in_slots}
-use Rattle.mdb_machine.specs.Kept.{HasNews, held, holds_after, kept_of}
-use Rattle.mdb_machine.specs.PastValues.{IsSummary}
-use Rattle.mdb_machine.specs.Pair.{IsOnlyStep}
-use Rattle.mdb_machine.specs.Past.{or_else}
-use Rattle.mdb_cashless.specs.declared.reader.device.DeviceState.{DeviceState}
+use Rattle.mdb_cashless.proofs.Words.{◌≡◌, ◌∙◌, ℕ, Bool, List, Option, Some, refl, sym}
+use Rattle.mdb_cashless.proofs.Words.{ReaderCommand, Reply, Choice, Gains, Part, device_gains}
+use Rattle.mdb_cashless.proofs.Words.{in_slots, held, IsSummary, IsOnlyStep, or_else, DeviceState}
+use Rattle.mdb_cashless.proofs.Words.{ReaderActivity, ReaderState, Ended, Transaction, all_told}
+use Rattle.mdb_cashless.proofs.Words.{config_in, last_said, messages_of, parts_of, amounts}
+use Rattle.mdb_machine.specs.Kept.{HasNews, holds_after}
 use Rattle.mdb_msgs.specs.declared.setups.ReaderConfig.{ReaderConfig}
-use Rattle.mdb_cashless.specs.declared.reader.messages.ReaderActivity.{ReaderActivity}
-use Rattle.mdb_cashless.specs.declared.reader.state.ReaderState.{ReaderState}
-use Rattle.mdb_cashless.specs.declared.reader.transaction.Ended.{Ended}
-use Rattle.mdb_cashless.specs.declared.reader.transaction.Transaction.{Transaction}
 use Rattle.mdb_cashless.specs.Reader.{ReplyStep, all_approved, before_messages, is_poll, last_transaction, owes_reset, read, sold_any, take_any, taken}
-use Rattle.mdb_cashless.specs.ReaderDevice.{all_told}
 use Rattle.mdb_cashless.specs.ReaderFacts.{Facts}
-use Rattle.mdb_cashless.specs.ReaderMessages.{config_in, last_said, messages_of, parts_of}
-use Rattle.mdb_cashless.specs.Transactions.{amounts}
 use Rattle.mdb_cashless.proofs.Steps.{same_state}
 
 -- what the code has found out of a reply before it looks for new messages

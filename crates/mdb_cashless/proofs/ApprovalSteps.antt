@@ -1,25 +1,15 @@
 -- Which acts and choices change nothing, of a reader that follows approvals.
-use Rattle.std.proofs.Common.{arith, ◌≡◌, ◌↔◌, ◌∙◌, ◌==◌, ◌&&◌, ◌∷◌, ℕ, Bool, true, false, List, [], if◌then◌else◌, length, refl, ap, sym}
-use Rattle.mdb_msgs.specs.declared.command.ReaderCommand.{ReaderCommand}
+use Rattle.mdb_cashless.proofs.Words
+use Words.{arith, ◌≡◌, ◌↔◌, ◌∙◌, ◌&&◌, ◌∷◌, ℕ, Bool, true, false, List, [], if◌then◌else◌, refl, ap}
+use Words.{sym, ReaderCommand, Reply, and_parts, Command, Choice, Plain, Lost, Restart, Again}
+use Words.{Gains, CanStand, Stays, controller_gains, in_slots, MayBeRead, tells_out_of_sequence}
+use Words.{ApprovalState, approvals_in, messages_of, parts_of, either_parts, told_again}
 use Rattle.mdb_msgs.specs.declared.command.ReaderCommand.TheVariants as reader
-use Rattle.mdb_msgs.specs.declared.reply.Reply.{Reply}
 use Rattle.mdb_bus.specs.declared.act.Act.TheVariants as acts
 use Rattle.std.specs.Cmp.Derive.{both_true}
-use Rattle.std.proofs.lemmas.Bool.{and_parts}
-use Rattle.mdb_msgs.specs.declared.command.Command.{Command}
-use Rattle.mdb_machine.specs.declared.choice.Choice.{Choice}
-use Rattle.mdb_machine.specs.declared.choice.Choice.TheVariants.{Plain, Lost, Restart, Again}
-use Rattle.mdb_machine.specs.declared.gains.Gains.{Gains}
-use Rattle.mdb_machine.specs.Choices.{CanStand}
-use Rattle.mdb_machine.specs.Gains.{Stays, controller_gains, in_slots}
-use Rattle.mdb_machine.specs.Kept.{MayBeRead}
-use Rattle.mdb_machine.specs.Past.{tells_out_of_sequence}
-use Rattle.mdb_cashless.specs.declared.approvals.state.ApprovalState.{ApprovalState}
-use Rattle.mdb_cashless.specs.ExtendedFacts.{Facts, approvals_in}
+use Rattle.mdb_cashless.specs.ExtendedFacts.{Facts}
 use Rattle.mdb_cashless.specs.ExtendedReader.{AckStep, AskStep, ReplyStep, VmcAckStep, before_messages, effect, heard}
-use Rattle.mdb_cashless.specs.ReaderMessages.{messages_of, parts_of}
 use Rattle.mdb_cashless.specs.inner.Approvals.{changes, takes}
-use Rattle.mdb_cashless.specs.shared.ApprovalWays.{either_parts, told_again}
 
 -- commands that change nothing once they are asked, or acknowledged
 pub ask_stays : (facts : Facts) (its : ReaderCommand) (before after : ApprovalState) (gains : Gains)

@@ -1,35 +1,21 @@
 -- The steps of a reader that follows approvals where an act isn't settled: they are those of three
 -- guesses at what isn't known.
-use Rattle.std.proofs.lemmas.Grind.{common_steps}
-use Rattle.std.proofs.Common.{◌≡◌, ◌≢◌, ◌↔◌, ◌⊎◌, ◌∙◌, ◌∷◌, ◌++◌, ◌||◌, ◌&&◌, ◌-◌, not, ℕ, Bool, true, false, List, [], Option, Some, None, refl, ap, sym, inl, inr, length, take, drop, arith, length-append, if◌then◌else◌}
-use Rattle.std.specs.Option.{is_none}
-use Rattle.std.proofs.Math.Bool.{or-true}
-use Rattle.std.proofs.Math.Seq.{take-append_seam}
-use Rattle.std.proofs.lemmas.Bool.{and_parts, eqb-true}
-use Rattle.std.proofs.lemmas.Bool.Decides.{Decides-eqb}
+use Rattle.mdb_cashless.proofs.Words
+use Words.{common_steps, ◌≡◌, ◌≢◌, ◌↔◌, ◌⊎◌, ◌∙◌, ◌∷◌, ◌++◌, ◌||◌, ◌&&◌, ◌-◌, not, ℕ, Bool, true}
+use Words.{false, List, [], Option, Some, None, refl, ap, sym, inl, inr, length, drop, arith}
+use Words.{if◌then◌else◌, is_none, or-true, take-append_seam, and_parts, eqb-true, Decides-eqb}
+use Words.{ReaderCommand, ReaderUnit, Reply, Act, Choice, Again, Gains, Is, Known, Allows, if_known}
+use Words.{ForOwn, Sale, Unawaited, Awaited, ApprovalState, approvals_in, IsEarlier, MaySell}
+use Words.{messages_of, own, either_parts, told_again}
+use Rattle.std.proofs.Common.{length-append}
 use Rattle.std.proofs.lemmas.List.{append-nil}
 use Rattle.std.proofs.lemmas.Slice.Eq.{starts_is}
-use Rattle.mdb_msgs.specs.declared.command.ReaderCommand.{ReaderCommand}
 use Rattle.mdb_msgs.specs.declared.command.ReaderCommand.TheVariants as reader
-use Rattle.mdb_msgs.specs.declared.command.ReaderUnit.{ReaderUnit}
-use Rattle.mdb_msgs.specs.declared.reply.Reply.{Reply}
-use Rattle.mdb_bus.specs.declared.act.Act.{Act}
 use Rattle.mdb_bus.specs.declared.act.Act.TheVariants as acts
-use Rattle.mdb_machine.specs.declared.choice.Choice.{Choice}
-use Rattle.mdb_machine.specs.declared.choice.Choice.TheVariants.{Again}
-use Rattle.mdb_machine.specs.declared.gains.Gains.{Gains}
-use Rattle.mdb_machine.specs.Known.{Is, Known, Allows}
-use Rattle.mdb_machine.specs.PastValues.{if_known}
-use Rattle.mdb_machine.specs.Steps.{ForOwn}
 use Rattle.mdb_cashless.specs.declared.approvals.facts.ApprovalFacts.{ApprovalFacts}
-use Rattle.mdb_cashless.specs.declared.approvals.sale.Sale.{Sale}
-use Rattle.mdb_cashless.specs.declared.approvals.sale.Sale.TheVariants.{Unknown, Unawaited, Nothing, Awaited, Sold}
-use Rattle.mdb_cashless.specs.declared.approvals.state.ApprovalState.{ApprovalState}
-use Rattle.mdb_cashless.specs.ExtendedFacts.{Facts, approvals_in}
-use Rattle.mdb_cashless.specs.ExtendedReader.{AskStep, IsEarlier, IsSale, MaySell, ReaderStep, ReplyStep, VmcAckStep, approve, before_messages, may_be_again, may_be_either, news, read}
-use Rattle.mdb_cashless.specs.ReaderMessages.{messages_of}
-use Rattle.mdb_cashless.specs.Units.{own}
-use Rattle.mdb_cashless.specs.shared.ApprovalWays.{either_parts, told_again}
+use Rattle.mdb_cashless.specs.declared.approvals.sale.Sale.TheVariants.{Unknown, Nothing, Sold}
+use Rattle.mdb_cashless.specs.ExtendedFacts.{Facts}
+use Rattle.mdb_cashless.specs.ExtendedReader.{AskStep, IsSale, ReaderStep, ReplyStep, VmcAckStep, approve, before_messages, may_be_again, may_be_either, news, read}
 use Rattle.mdb_cashless.specs.inner.Approvals.{assuming, facts_in, front_of, guess, is_awaiting_known, is_sale_known, is_success, settled, sold_again, told_by}
 
 -- what may be told again: nothing, all of a reply's messages 05, or all but the last

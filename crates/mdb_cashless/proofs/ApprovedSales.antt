@@ -1,42 +1,26 @@
 -- By the extended profile a sale may be told exactly where it is approved: what an act makes of the
 -- sale under way, and so what the acts make of it.
-use Rattle.std.proofs.Common.{arith, zero, suc, ◌≡◌, ◌≢◌, ◌⊎◌, ◌∙◌, ◌∷◌, ◌++◌, ◌||◌, ◌&&◌, ◌==◌, not, ℕ, Bool, true, false, List, [], Some, None, Option, All, Contains, refl, ap, sym, subst, inl, inr}
-use Rattle.std.specs.Cmp.Derive.{both_true}
-use Rattle.std.specs.List.{list_any}
-use Rattle.std.specs.Option.{option_map_or}
-use Rattle.std.proofs.lemmas.Bool.{and_parts, eq-eqb, eqb-true, or_cases}
-use Rattle.std.proofs.lemmas.Grind.{common_steps}
-use Rattle.std.proofs.lemmas.Bool.Decides.{eqb_tells}
-use Rattle.std.proofs.lemmas.List.Elements.{All-head, All-nil, All-tail}
+use Rattle.mdb_cashless.proofs.Words
+use Words.{arith, zero, suc, ◌≡◌, ◌≢◌, ◌⊎◌, ◌∙◌, ◌∷◌, ◌++◌, ◌||◌, ◌&&◌, ◌==◌, not, ℕ, Bool, true}
+use Words.{false, List, [], Some, None, Option, All, refl, ap, sym, subst, inl, inr, list_any}
+use Words.{option_map_or, and_parts, eq-eqb, eqb-true, or_cases, common_steps, eqb_tells, All-head}
+use Words.{All-tail, Command, ReaderCommand, ReaderUnit, Reply, ReaderMsg, Act, Beginning, PowerOn}
+use Words.{Joined, is_approval, Sale, Unawaited, Awaited, Transaction, Cancel, Success, facts_after}
+use Words.{sale_all_heard, IsEarlier, MaySell, messages_of, is_same, own, known_or_earlier}
+use Rattle.std.proofs.Common.{Contains}
 use Rattle.std.proofs.lemmas.List.Folds.{Any-from_list_any}
-use Rattle.mdb_msgs.specs.declared.command.Command.{Command}
 use Rattle.mdb_msgs.specs.declared.command.Command.TheVariants as commands
-use Rattle.mdb_msgs.specs.declared.command.ReaderCommand.{ReaderCommand}
 use Rattle.mdb_msgs.specs.declared.command.ReaderCommand.TheVariants as reader
-use Rattle.mdb_msgs.specs.declared.command.ReaderUnit.{ReaderUnit}
-use Rattle.mdb_msgs.specs.declared.reply.Reply.{Reply}
-use Rattle.mdb_msgs.specs.declared.reply.reader.ReaderMsg.{ReaderMsg}
 use Rattle.mdb_msgs.specs.declared.reply.reader.ReaderMsg.TheVariants as messages
-use Rattle.mdb_bus.specs.declared.act.Act.{Act}
 use Rattle.mdb_bus.specs.declared.act.Act.TheVariants as acts
-use Rattle.mdb_bus.specs.declared.scope.Beginning.{Beginning}
-use Rattle.mdb_bus.specs.declared.scope.Beginning.TheVariants.{PowerOn, Joined}
-use Rattle.mdb_machine.specs.Choices.{is_approval}
-use Rattle.mdb_cashless.specs.declared.approvals.sale.Sale.{Sale}
-use Rattle.mdb_cashless.specs.declared.approvals.sale.Sale.TheVariants.{Unknown, Unawaited, Awaited, Asked, Approved, Sold}
-use Rattle.mdb_cashless.specs.declared.reader.transaction.Transaction.{Transaction}
-use Rattle.mdb_cashless.specs.declared.reader.transaction.Transaction.TheVariants.{Cancel, Success}
-use Rattle.mdb_cashless.specs.ExtendedFacts.{Facts, facts_after, facts_of, sale_all_heard, sale_asked, sale_heard}
-use Rattle.mdb_cashless.specs.ExtendedReader.{IsEarlier, MaySell}
+use Rattle.mdb_cashless.specs.declared.approvals.sale.Sale.TheVariants.{Unknown, Asked, Approved, Sold}
+use Rattle.mdb_cashless.specs.ExtendedFacts.{Facts, facts_of, sale_asked, sale_heard}
 use Rattle.mdb_cashless.specs.ExtendedSales.{AcksAreOfReplies, IsApproved, SalesAreApproved, asks_request, hears_approval, is_open, leaves_asked, leaves_sale}
 use Rattle.mdb_cashless.specs.ReaderFacts.{own_messages, own_transaction}
-use Rattle.mdb_cashless.specs.ReaderMessages.{messages_of}
 use Rattle.mdb_cashless.specs.Sales as base
 use Rattle.mdb_cashless.specs.Sales.{LeavesSale, MayBeRequestedBefore}
-use Rattle.mdb_cashless.specs.Transactions.{is_request, is_same}
-use Rattle.mdb_cashless.specs.Units.{own}
+use Rattle.mdb_cashless.specs.Transactions.{is_request}
 use Rattle.mdb_cashless.specs.inner.Approvals.{is_sale_known}
-use Rattle.mdb_cashless.specs.shared.ApprovalWays.{known_or_earlier}
 use Rattle.mdb_cashless.proofs.Sales.{approved_by, own_is, own_of_unit, requests, still_approved, still_requested}
 
 -- whether an approval makes a sale approved, and whether VEND SUCCESS of an item may be told of it

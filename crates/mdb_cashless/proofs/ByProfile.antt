@@ -2,37 +2,26 @@
 use Rattle.std.specs.Prelude.{IfSome, IsSomeAnd}
 use Rattle.std.specs.List.{Contains}
 use Rattle.std.specs.Option.{option_map}
-use Rattle.std.proofs.Common.{◌≡◌, ◌↔◌, ℕ, List, [], ◌∷◌, Option, Some, None, refl, ap, subst, sym, ◌∙◌, arith, inl, inr}
-use Rattle.std.proofs.lemmas.List.Elements.{Contains-push, Contains-push_cases}
-use Rattle.mdb_msgs.specs.declared.command.ReaderUnit.{ReaderUnit}
-use Rattle.mdb_bus.specs.declared.act.Act.{Act}
+use Rattle.mdb_cashless.proofs.Words
+use Words.{◌≡◌, ◌↔◌, ℕ, List, [], ◌∷◌, Option, Some, None, refl, ap, subst, sym, ◌∙◌, arith, inl}
+use Words.{inr, Contains-push_cases, ReaderUnit, Act, Beginning, Profile, profile_of, Choice, Plain}
+use Words.{Gains, Stays, no_gains, Machine, IsOnlyStep, IsStep, AreCoded, ApprovalState}
+use Words.{StateByProfile, Base, Extended, ReaderState, base_state, by_profile, extended_state}
+use Words.{machine_in, by_base, by_extended, base_part, extended_part, of_each}
+use Rattle.std.proofs.lemmas.List.Elements.{Contains-push}
 use Rattle.mdb_bus.specs.declared.act.Act.TheVariants.{Break}
-use Rattle.mdb_bus.specs.declared.scope.Beginning.{Beginning}
-use Rattle.mdb_bus.specs.declared.scope.Profile.{Profile}
 use Rattle.mdb_bus.specs.declared.scope.Profile.TheVariants as profiles
-use Rattle.mdb_bus.specs.Scopes.{profile_of}
-use Rattle.mdb_machine.specs.declared.choice.Choice.{Choice}
-use Rattle.mdb_machine.specs.declared.choice.Choice.TheVariants.{Plain}
-use Rattle.mdb_machine.specs.declared.gains.Gains.{Gains}
-use Rattle.mdb_machine.specs.Gains.{Stays, no_gains}
-use Rattle.mdb_machine.specs.Machine.{Machine}
-use Rattle.mdb_machine.specs.Pair.{IsOnlyStep, IsStep}
-use Rattle.mdb_machine.proofs.StepCodes.{AreCoded}
-use Rattle.mdb_cashless.specs.declared.approvals.state.ApprovalState.{ApprovalState}
 use Rattle.mdb_cashless.specs.declared.by_profile.facts.KnownByProfile.{KnownByProfile}
 use Rattle.mdb_cashless.specs.declared.by_profile.facts.KnownByProfile.TheVariants as values
-use Rattle.mdb_cashless.specs.declared.by_profile.state.StateByProfile.{StateByProfile}
-use Rattle.mdb_cashless.specs.declared.by_profile.state.StateByProfile.TheVariants.{Base, Extended}
-use Rattle.mdb_cashless.specs.declared.reader.state.ReaderState.{ReaderState}
-use Rattle.mdb_cashless.specs.ByProfile.{StepOf, base_state, by_profile, extended_state, machine, machine_in, strayed}
-use Rattle.mdb_cashless.specs.ByProfileFacts.{by_base, by_extended, facts_of}
+use Rattle.mdb_cashless.specs.ByProfile.{StepOf, machine, strayed}
+use Rattle.mdb_cashless.specs.ByProfileFacts.{facts_of}
 use Rattle.mdb_cashless.specs.ByProfileValues.{known_in}
 use Rattle.mdb_cashless.specs.ExtendedFacts as extended_facts
 use Rattle.mdb_cashless.specs.ExtendedReader as extended
 use Rattle.mdb_cashless.specs.Reader as base
 use Rattle.mdb_cashless.specs.ReaderFacts as base_facts
 use Rattle.mdb_cashless.specs.shared.ByProfileCodes.{apart, code_of}
-use Rattle.mdb_cashless.specs.shared.ByProfileWays.{IsPart, base_part, extended_part, goes, of_each, power_on_in, still}
+use Rattle.mdb_cashless.specs.shared.ByProfileWays.{IsPart, goes, power_on_in, still}
 
 -- what is known is of the profile
 pub is_base : (profile : Profile) {known its : base_facts.KnownFacts}

@@ -1,26 +1,18 @@
 -- What is known of a reader by either profile, and its amounts without a value, are of its own
 -- acts.
-use Rattle.std.proofs.Common.{ap, refl, sym, ◌∙◌, ◌≡◌, ◌+◌, ℕ, List, [], ◌∷◌, All}
-use Rattle.std.proofs.Math.Nat.{zero-add}
+use Rattle.mdb_cashless.proofs.Words.{ap, refl, sym, ◌∙◌, ◌≡◌, ◌+◌, ℕ, List, [], ◌∷◌, All, zero-add}
+use Rattle.mdb_cashless.proofs.Words.{ReaderUnit, Act, Beginning, Profile, profile_of, IsBreak}
+use Rattle.mdb_cashless.proofs.Words.{own_acts, by_profile, by_base, by_extended, facts_after}
+use Rattle.mdb_cashless.proofs.Words.{of_each, none_unvalued}
 use Rattle.mdb_msgs.specs.declared.command.Device.TheVariants as devices
-use Rattle.mdb_msgs.specs.declared.command.ReaderUnit.{ReaderUnit}
-use Rattle.mdb_bus.specs.declared.act.Act.{Act}
-use Rattle.mdb_bus.specs.declared.scope.Beginning.{Beginning}
-use Rattle.mdb_bus.specs.declared.scope.Profile.{Profile}
 use Rattle.mdb_bus.specs.declared.scope.Profile.TheVariants as profiles
-use Rattle.mdb_bus.specs.Scopes.{profile_of}
-use Rattle.mdb_machine.specs.Pair.{IsBreak, own_acts}
 use Rattle.mdb_machine.specs.shared.OwnWays.{IsOfOwn, part_of_none, same_known}
-use Rattle.mdb_cashless.specs.ByProfile.{by_profile}
-use Rattle.mdb_cashless.specs.ByProfileFacts.{by_base, by_extended, config_of, facts_of, unvalued}
+use Rattle.mdb_cashless.specs.ByProfileFacts.{config_of, facts_of, unvalued}
 use Rattle.mdb_cashless.specs.ExtendedFacts as extended_facts
 use Rattle.mdb_cashless.specs.ExtendedAmounts as extended
 use Rattle.mdb_cashless.specs.ReaderFacts as base_facts
-use Rattle.mdb_cashless.specs.ExtendedFacts.{facts_after}
 use Rattle.mdb_cashless.specs.shared.ApprovalWays as extended_ways
-use Rattle.mdb_cashless.specs.shared.ByProfileWays.{of_each}
 use Rattle.mdb_cashless.specs.shared.ReaderWays as base_ways
-use Rattle.mdb_cashless.specs.shared.ReaderWays.{none_unvalued}
 
 module _ (begins : Beginning) (unit : ReaderUnit) where
   abbrev counted : List Act → extended_facts.Facts × ℕ

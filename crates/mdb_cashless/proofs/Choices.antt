@@ -1,28 +1,12 @@
 -- Where it is of no matter what is chosen of an act of a reader.
-use Rattle.std.proofs.Common.{◌≡◌, ◌∙◌, Bool, true, false, Some, refl, ap, sym, subst}
-use Rattle.std.specs.Bool.{OnFalse}
-use Rattle.std.specs.List.{list_any}
-use Rattle.mdb_msgs.specs.declared.command.Command.{Command}
+use Rattle.mdb_cashless.proofs.Words.{◌≡◌, false, Some, Command, ReaderCommand, ReaderUnit, First}
+use Rattle.mdb_cashless.proofs.Words.{Second, Reply, Act, Choice, Plain, Lost, Restart, Again}
+use Rattle.mdb_cashless.proofs.Words.{Gains, CanStand, MayBeRead, kept_of, free_acked, ReaderState}
+use Rattle.mdb_cashless.proofs.Words.{parts_of, own}
 use Rattle.mdb_msgs.specs.declared.command.Command.TheVariants as commands
-use Rattle.mdb_msgs.specs.declared.command.ReaderCommand.{ReaderCommand}
-use Rattle.mdb_msgs.specs.declared.command.ReaderUnit.{ReaderUnit}
-use Rattle.mdb_msgs.specs.declared.command.ReaderUnit.TheVariants.{First, Second}
-use Rattle.mdb_msgs.specs.declared.reply.Reply.{Reply}
-use Rattle.mdb_bus.specs.declared.act.Act.{Act}
 use Rattle.mdb_bus.specs.declared.act.Act.TheVariants as acts
-use Rattle.mdb_machine.specs.declared.choice.Choice.{Choice}
-use Rattle.mdb_machine.specs.declared.choice.Choice.TheVariants.{Plain, Lost, Restart, Again}
-use Rattle.mdb_machine.specs.declared.gains.Gains.{Gains}
-use Rattle.mdb_machine.specs.Choices.{CanStand}
-use Rattle.mdb_machine.specs.Kept.{MayBeRead, holds_acked, is_reset, kept_of}
-use Rattle.mdb_machine.proofs.KeptLists.{free_acked}
-use Rattle.mdb_cashless.specs.declared.reader.state.ReaderState.{ReaderState}
-use Rattle.mdb_cashless.specs.declared.reader.view.View.{View}
-use Rattle.mdb_cashless.specs.Reader.{AckStep, ReaderStep, ReplyStep, VmcAckStep, take, taken, view_answered, view_heard, view_taken}
+use Rattle.mdb_cashless.specs.Reader.{AckStep, ReaderStep, ReplyStep, VmcAckStep, view_taken}
 use Rattle.mdb_cashless.specs.ReaderFacts.{Facts}
-use Rattle.mdb_cashless.specs.ReaderMessages.{messages_of, part_of, parts_of}
-use Rattle.mdb_cashless.specs.ReaderView.{all_heard}
-use Rattle.mdb_cashless.specs.Units.{own}
 use Rattle.mdb_cashless.specs.inner.PlainReader.{own_as}
 
 -- the command that is meant, where it is to this reader

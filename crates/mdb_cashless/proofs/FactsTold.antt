@@ -1,20 +1,14 @@
 -- What acts tell of the facts of a reader, for the function that keeps them.
-use Rattle.std.proofs.Common.{◌≡◌, ◌∙◌, ◌||◌, Bool, true, false, List, [], Option, Some, None, refl, ap, sym, map, if◌then◌else◌}
-use Rattle.mdb_msgs.specs.declared.command.Command.{Command}
-use Rattle.mdb_msgs.specs.declared.command.ReaderCommand.{ReaderCommand}
+use Rattle.mdb_cashless.proofs.Words.{◌≡◌, ◌∙◌, ◌||◌, Bool, true, false, List, Option, Some, None}
+use Rattle.mdb_cashless.proofs.Words.{refl, sym, map, if◌then◌else◌, Command, ReaderCommand}
+use Rattle.mdb_cashless.proofs.Words.{ReaderUnit, Reply, ReaderMsg, effect_taken, or_else, resets}
+use Rattle.mdb_cashless.proofs.Words.{tells_out_of_sequence, past_after, Transaction, amount_in}
+use Rattle.mdb_cashless.proofs.Words.{begin_session, config_in, last_said, messages_of, part_of}
+use Rattle.mdb_cashless.proofs.Words.{ToldFacts, told_with, transaction_of, own}
 use Rattle.mdb_msgs.specs.declared.command.ReaderCommand.TheVariants as reader
-use Rattle.mdb_msgs.specs.declared.command.ReaderUnit.{ReaderUnit}
-use Rattle.mdb_msgs.specs.declared.reply.Reply.{Reply}
-use Rattle.mdb_msgs.specs.declared.reply.reader.ReaderMsg.{ReaderMsg}
 use Rattle.mdb_bus.specs.declared.act.Act.TheVariants as acts
-use Rattle.mdb_machine.specs.Past.{effect_taken, or_else, resets, tells_out_of_sequence}
-use Rattle.mdb_machine.specs.PastValues.{past_after}
-use Rattle.mdb_cashless.specs.declared.reader.transaction.Transaction.{Transaction}
 use Rattle.mdb_cashless.specs.ReaderFacts.{effect_of, effect_of_own, own_messages, own_of, own_transaction}
-use Rattle.mdb_cashless.specs.ReaderMessages.{amount_in, begin_session, config_in, last_said, messages_of, part_of}
-use Rattle.mdb_cashless.specs.ReaderValues.{ToldFacts, last_after, taken, told, told_with}
-use Rattle.mdb_cashless.specs.Transactions.{transaction_of}
-use Rattle.mdb_cashless.specs.Units.{own}
+use Rattle.mdb_cashless.specs.ReaderValues.{last_after, taken, told}
 
 -- facts are the same where their fields are
 same_fields : {one other : ToldFacts} → one.config ≡ other.config → one.asked ≡ other.asked

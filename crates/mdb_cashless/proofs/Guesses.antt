@@ -1,36 +1,20 @@
 -- That a step of a reader depends on what may not be known as far as it can be guessed: few guesses
 -- of it are enough.
-use Rattle.std.proofs.lemmas.Grind.{common_steps}
-use Rattle.std.proofs.Common.{◌≡◌, ◌≢◌, ◌⊎◌, ◌<◌, ◌==◌, ◌&&◌, ℕ, suc, Bool, true, false, List, [], ◌∷◌, ◌++◌, length, take, Option, Some, None, refl, if◌then◌else◌, arith, ap, sym, subst, ◌∙◌, inl, inr}
-use Rattle.std.proofs.Math.Seq.{take-append_seam}
-use Rattle.std.proofs.lemmas.Bool.{eq-eqb}
+use Rattle.mdb_cashless.proofs.Words
+use Words.{common_steps, ◌≡◌, ◌≢◌, ◌⊎◌, ◌<◌, ◌==◌, ◌&&◌, ℕ, suc, Bool, true, false, List, [], ◌∷◌}
+use Words.{length, Option, Some, None, refl, if◌then◌else◌, arith, ap, sym, ◌∙◌, inl, inr}
+use Words.{take-append_seam, eq-eqb, ReaderCommand, Reply, Choice, Restart, Gains, IsNew, held}
+use Words.{kept_of, or_else, DeviceState, ReaderActivity, ReaderState, Transaction, Request}
+use Words.{Success, View, all_told, parts_of, sent, is_again, is_same, transaction_of, again}
+use Rattle.std.proofs.Common.{take}
 use Rattle.std.proofs.lemmas.List.{length-append}
-use Rattle.mdb_msgs.specs.declared.command.ReaderCommand.{ReaderCommand}
 use Rattle.mdb_msgs.specs.declared.command.ReaderCommand.TheVariants as reader
-use Rattle.mdb_msgs.specs.declared.reply.Reply.{Reply}
-use Rattle.mdb_machine.specs.declared.choice.Choice.{Choice}
-use Rattle.mdb_machine.specs.declared.choice.Choice.TheVariants.{Restart}
-use Rattle.mdb_machine.specs.declared.gains.Gains.{Gains}
-use Rattle.mdb_machine.specs.Gains.{device_gains, in_slots}
-use Rattle.mdb_machine.specs.Kept.{IsNew, held, holds_after, kept_of}
-use Rattle.mdb_machine.specs.Past.{or_else}
-use Rattle.mdb_cashless.specs.declared.reader.device.DeviceState.{DeviceState}
 use Rattle.mdb_cashless.specs.declared.reader.device.DeviceState.TheVariants as device
-use Rattle.mdb_cashless.specs.declared.reader.device.Home.{Home}
-use Rattle.mdb_cashless.specs.declared.reader.messages.ReaderActivity.{ReaderActivity}
 use Rattle.mdb_cashless.specs.declared.reader.messages.ReaderActivity.TheVariants.{VendApproved}
-use Rattle.mdb_cashless.specs.declared.reader.state.ReaderState.{ReaderState}
-use Rattle.mdb_cashless.specs.declared.reader.transaction.Transaction.{Transaction}
-use Rattle.mdb_cashless.specs.declared.reader.transaction.Transaction.TheVariants.{Request, Cancel, Success, Failure, Complete}
-use Rattle.mdb_cashless.specs.declared.reader.view.View.{View}
 use Rattle.mdb_cashless.specs.declared.reader.view.View.TheVariants as view
-use Rattle.mdb_cashless.specs.Reader.{AckStep, AskStep, ReplyStep, all_approved, asked, before_messages, drops, is_poll, is_repeated, read, sold_any, take_any, taken, value, view_heard}
-use Rattle.mdb_cashless.specs.ReaderDevice.{all_told, effect, has_approved, then_by, told}
+use Rattle.mdb_cashless.specs.Reader.{AckStep, AskStep, ReplyStep, asked, before_messages, is_poll, read, sold_any, take_any, taken}
+use Rattle.mdb_cashless.specs.ReaderDevice.{then_by, told}
 use Rattle.mdb_cashless.specs.ReaderFacts.{AllowsFacts, Facts, KnownFacts, own_transaction}
-use Rattle.mdb_cashless.specs.ReaderMessages.{config_in, last_said, messages_of, parts_of}
-use Rattle.mdb_cashless.specs.ReaderView.{sent}
-use Rattle.mdb_cashless.specs.Transactions.{amounts, ended_by, is_again, is_request, is_same, no_end, transaction_of}
-use Rattle.mdb_cashless.specs.inner.Guesses.{again}
 
 -- a transaction command is itself
 is_itself : (t : Transaction) → is_same t t ≡ true

@@ -1,13 +1,8 @@
 -- What is held after an ACK, by whether a message of the reply is kept.
-use Rattle.std.proofs.lemmas.Grind.{common_steps}
-use Rattle.std.proofs.Common.{arith, ◌≡◌, ◌⊎◌, inl, inr, ◌&&◌, not, Bool, true, false, List, [], ◌∷◌, refl, map}
-use Rattle.mdb_msgs.specs.declared.reply.reader.ReaderMsg.{ReaderMsg}
+use Rattle.mdb_cashless.proofs.Words.{common_steps, arith, ◌≡◌, ◌⊎◌, ◌&&◌, not, Bool, true, false}
+use Rattle.mdb_cashless.proofs.Words.{List, [], ◌∷◌, refl, map, ReaderMsg, Choice, Plain, Lost}
+use Rattle.mdb_cashless.proofs.Words.{Restart, Again, holds_acked, kept_of, part_of, keeps_some}
 use Rattle.mdb_msgs.specs.declared.reply.reader.ReaderMsg.TheVariants.{BeginSession, BeginSessionLong, VendApproved, VendDenied, EndSession}
-use Rattle.mdb_machine.specs.declared.choice.Choice.{Choice}
-use Rattle.mdb_machine.specs.declared.choice.Choice.TheVariants.{Plain, Lost, Restart, Again}
-use Rattle.mdb_machine.specs.Kept.{holds_acked, kept_of}
-use Rattle.mdb_cashless.specs.ReaderMessages.{part_of}
-use Rattle.mdb_cashless.specs.inner.ReaderSaid.{keeps_some}
 
 -- what the reader holds, by that
 abbrev pub held_on : Choice → Bool → Bool → Bool

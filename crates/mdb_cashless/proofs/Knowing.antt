@@ -1,30 +1,17 @@
 -- The facts that may be are those that are kept, with guesses of what isn't known.
-use Rattle.std.proofs.lemmas.Grind.{common_steps}
-use Rattle.std.proofs.Common.{add-one, ◌≡◌, ◌≢◌, ◌⊎◌, ◌↔◌, ◌<◌, ◌+◌, ◌&&◌, ◌||◌, ℕ, suc, Bool, true, false, List, [], ◌∷◌, length, take, Option, Some, None, refl, if◌then◌else◌, arith, ap, sym, subst, ◌∙◌, inl, inr}
-use Rattle.std.specs.Option.{is_none}
-use Rattle.mdb_msgs.specs.declared.command.ReaderCommand.{ReaderCommand}
-use Rattle.mdb_msgs.specs.declared.command.ReaderUnit.{ReaderUnit}
-use Rattle.mdb_msgs.specs.declared.reply.Reply.{Reply}
-use Rattle.mdb_bus.specs.declared.act.Act.{Act}
+use Rattle.mdb_cashless.proofs.Words
+use Words.{common_steps, ◌≡◌, ◌≢◌, ◌⊎◌, ◌↔◌, ◌<◌, ◌+◌, ◌&&◌, ◌||◌, ℕ, Bool, true, false, List, []}
+use Words.{◌∷◌, length, Option, Some, None, refl, if◌then◌else◌, arith, sym, inl, inr, is_none}
+use Words.{ReaderCommand, ReaderUnit, Reply, Act, Choice, Gains, IsNew, held, kept_of, Allows}
+use Words.{AllowsKept, IsOnlyStep, if_known, ReaderKnown, ReaderActivity, ReaderState, Transaction}
+use Words.{parts_of, transaction_of, own, IsReplyKeeping, OfSome, again, keeping}
+use Rattle.std.proofs.Common.{add-one, take}
 use Rattle.mdb_bus.specs.declared.act.Act.TheVariants as acts
-use Rattle.mdb_machine.specs.declared.choice.Choice.{Choice}
-use Rattle.mdb_machine.specs.declared.gains.Gains.{Gains}
-use Rattle.mdb_machine.specs.Kept.{IsNew, held, kept_of}
-use Rattle.mdb_machine.specs.Known.{Allows, AllowsKept, Unknown}
-use Rattle.mdb_machine.specs.Pair.{IsOnlyStep}
-use Rattle.mdb_machine.specs.PastValues.{if_known}
-use Rattle.mdb_cashless.specs.declared.reader.known.ReaderKnown.{ReaderKnown}
-use Rattle.mdb_cashless.specs.declared.reader.messages.ReaderActivity.{ReaderActivity}
+use Rattle.mdb_machine.specs.Known.{Unknown}
 use Rattle.mdb_cashless.specs.declared.reader.messages.ReaderActivity.TheVariants.{VendDenied}
-use Rattle.mdb_cashless.specs.declared.reader.state.ReaderState.{ReaderState}
-use Rattle.mdb_cashless.specs.declared.reader.transaction.Transaction.{Transaction}
 use Rattle.mdb_cashless.specs.Reader.{AckStep, AskStep, ReaderStep, ReplyStep, StepKnowing, VmcAckStep, before_messages, is_poll, taken}
 use Rattle.mdb_cashless.specs.ReaderFacts.{AllowsFacts, Facts, KnownFacts, own_transaction}
-use Rattle.mdb_cashless.specs.ReaderMessages.{parts_of}
 use Rattle.mdb_cashless.specs.ReaderValues.{facts_in, known_in, settled}
-use Rattle.mdb_cashless.specs.Transactions.{transaction_of}
-use Rattle.mdb_cashless.specs.Units.{own}
-use Rattle.mdb_cashless.specs.inner.Guesses.{IsReplyKeeping, OfSome, again, keeping}
 use Rattle.mdb_cashless.specs.inner.PlainReader.{own_as}
 use Rattle.mdb_cashless.proofs.Guesses.{Alike, Meets, ack_with, alike, ask_with, either_meets, fronts, held_before, meets_itself, reply_with, same_repeats}
 

@@ -1,36 +1,22 @@
 -- What is known goes on act by act.
-use Rattle.std.proofs.lemmas.Grind.{common_steps}
-use Rattle.std.proofs.Common.{arith, ◌≡◌, ℕ, ◌∙◌, ◌&&◌, ◌||◌, not, Bool, true, false, List, [], ◌∷◌, Option, Some, None, option_map, refl, ap, sym, unwrap_or, if◌then◌else◌}
-use Rattle.std.specs.Option.{is_some}
-use Rattle.mdb_msgs.specs.declared.command.Command.{Command}
-use Rattle.mdb_msgs.specs.declared.command.ReaderCommand.{ReaderCommand}
+use Rattle.mdb_cashless.proofs.Words
+use Words.{common_steps, arith, ◌≡◌, ℕ, ◌&&◌, ◌||◌, not, Bool, true, false, List, [], Option, Some}
+use Words.{None, refl, ap, unwrap_or, if◌then◌else◌, is_some, Command, ReaderCommand, ReaderUnit}
+use Words.{Reply, Act, Beginning, PowerOn, Joined, Part, kept_of, known_before, effect_taken}
+use Words.{or_else, powers_on, resets, tells_out_of_sequence, unless_empty, if_known, past_after}
+use Words.{ReaderKnown, Transaction, drops, known_of, begin_session, messages_of, ToldFacts}
+use Words.{known_with, told_in, told_with, transaction_of, own, same_fields}
+use Rattle.std.proofs.Common.{option_map}
 use Rattle.mdb_msgs.specs.declared.command.ReaderCommand.TheVariants as reader
-use Rattle.mdb_msgs.specs.declared.command.ReaderUnit.{ReaderUnit}
-use Rattle.mdb_msgs.specs.declared.reply.Reply.{Reply}
-use Rattle.mdb_msgs.specs.declared.reply.reader.ReaderMsg.{ReaderMsg}
 use Rattle.mdb_msgs.specs.Setups.{config_known}
-use Rattle.mdb_bus.specs.declared.act.Act.{Act}
 use Rattle.mdb_bus.specs.declared.act.Act.TheVariants as acts
-use Rattle.mdb_bus.specs.declared.scope.Beginning.{Beginning}
-use Rattle.mdb_bus.specs.declared.scope.Beginning.TheVariants.{PowerOn, Joined}
-use Rattle.mdb_machine.specs.declared.kept.Part.{Part}
 use Rattle.mdb_machine.specs.declared.past.Past.{Past}
-use Rattle.mdb_machine.specs.Kept.{kept_of}
-use Rattle.mdb_machine.specs.Known.{known_before}
-use Rattle.mdb_machine.specs.Past.{effect_taken, or_else, powers_on, resets, tells_out_of_sequence, unless_empty}
-use Rattle.mdb_machine.specs.PastValues.{first_past, from_power_on, if_known, known_past_after, past_after, past_in, past_known}
+use Rattle.mdb_machine.specs.PastValues.{first_past, from_power_on, known_past_after, past_in, past_known}
 use Rattle.mdb_machine.specs.KnownMore.{known_more}
 use Rattle.mdb_machine.specs.shared.PastWays.{same_known_past}
 use Rattle.mdb_cashless.specs.declared.reader.facts.ReaderFacts.{ReaderFacts}
-use Rattle.mdb_cashless.specs.declared.reader.known.ReaderKnown.{ReaderKnown}
-use Rattle.mdb_cashless.specs.declared.reader.transaction.Transaction.{Transaction}
-use Rattle.mdb_cashless.specs.Reader.{drops}
-use Rattle.mdb_cashless.specs.ReaderFacts.{asked_by, effect_of, effect_of_own, ends_transactions, known_of, own_messages, own_of, own_transaction, parts_by, taken_told, transaction_taken_by}
-use Rattle.mdb_cashless.specs.ReaderMessages.{begin_session, messages_of}
-use Rattle.mdb_cashless.specs.ReaderValues.{ToldFacts, known_in, known_with, tells_taken, told_in, told_with}
-use Rattle.mdb_cashless.specs.Transactions.{transaction_of}
-use Rattle.mdb_cashless.specs.Units.{own}
-use Rattle.mdb_cashless.specs.shared.ReaderWays.{same_fields}
+use Rattle.mdb_cashless.specs.ReaderFacts.{asked_by, effect_of, effect_of_own, ends_transactions, own_messages, own_of, own_transaction, parts_by, taken_told, transaction_taken_by}
+use Rattle.mdb_cashless.specs.ReaderValues.{known_in, tells_taken}
 
 -- what an act tells becomes known, and what was known stays so
 asked_after : {X : Type 0} (knows : Bool) (told old : Option X)

@@ -16,3 +16,4 @@ pub mod PowerOn
 pub mod Said
 pub mod Sales
 pub mod Steps
+mod Words

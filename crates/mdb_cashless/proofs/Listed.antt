@@ -1,22 +1,13 @@
 -- Lists of steps, to which steps are added one after another.
-use Rattle.std.proofs.Common.{◌≡◌, ◌⊎◌, ◌↔◌, ◌+◌, ℕ, List, [], ◌∷◌, length, take, Contains, Bool, true, false, Option, Some, None, IfSome, refl, arith, ap, subst, inl, inr}
-use Rattle.std.proofs.Math.Nat.{eq-or-lt_of_le}
-use Rattle.mdb_msgs.specs.declared.command.ReaderCommand.{ReaderCommand}
-use Rattle.mdb_msgs.specs.declared.reply.Reply.{Reply}
-use Rattle.mdb_machine.specs.declared.choice.Choice.{Choice}
-use Rattle.mdb_machine.specs.declared.gains.Gains.{Gains}
-use Rattle.mdb_machine.specs.SmallGains.{IsSmall}
-use Rattle.mdb_machine.specs.Kept.{kept_of}
+use Rattle.mdb_cashless.proofs.Words
+use Words.{◌≡◌, ◌⊎◌, ◌↔◌, ◌+◌, ℕ, List, [], ◌∷◌, length, Bool, true, Option, Some, None, refl}
+use Words.{arith, inl, inr, eq-or-lt_of_le, ReaderCommand, Reply, Choice, Gains, IsSmall, kept_of}
+use Words.{IsOnlyStep, if_known, ReaderActivity, ReaderState, parts_of, IsReplyKeeping, keeping}
+use Rattle.std.proofs.Common.{take, Contains, IfSome}
 use Rattle.mdb_machine.specs.Known.{Unknown}
-use Rattle.mdb_machine.specs.Pair.{IsOnlyStep}
-use Rattle.mdb_machine.specs.PastValues.{if_known}
-use Rattle.mdb_cashless.specs.declared.reader.messages.ReaderActivity.{ReaderActivity}
 use Rattle.mdb_cashless.specs.declared.reader.messages.ReaderActivity.TheVariants.{VendDenied}
-use Rattle.mdb_cashless.specs.declared.reader.state.ReaderState.{ReaderState}
 use Rattle.mdb_cashless.specs.Reader.{ReplyStep}
 use Rattle.mdb_cashless.specs.ReaderFacts.{Facts}
-use Rattle.mdb_cashless.specs.ReaderMessages.{parts_of}
-use Rattle.mdb_cashless.specs.inner.Guesses.{IsReplyKeeping, keeping}
 use Rattle.mdb_cashless.proofs.Knowing.{OfFront, replies_fronts}
 
 -- a list has these steps besides those of another

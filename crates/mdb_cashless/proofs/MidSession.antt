@@ -1,41 +1,24 @@
 -- The ways that an act of a reader may go in a recording that begins in mid-session.
-use Rattle.std.proofs.lemmas.Grind.{common_steps}
-use Rattle.std.proofs.Common.{All, ◌≤◌, ◌≡◌, ◌≢◌, ◌↔◌, ◌⊎◌, inl, inr, ℕ, Bool, true, false, ◌&&◌, ◌||◌, List, [], ◌∷◌, Option, Some, None, refl, ap, sym, subst, ◌∙◌, arith, drop, take, length, option_map, if◌then◌else◌}
-use Rattle.std.proofs.Math.Seq.{drop-append_seam, take-append_seam}
+use Rattle.mdb_cashless.proofs.Words
+use Words.{common_steps, All, ◌≤◌, ◌≡◌, ◌≢◌, ◌↔◌, ◌⊎◌, inl, inr, ℕ, Bool, true, false, List, []}
+use Words.{◌∷◌, Option, Some, None, refl, ap, sym, ◌∙◌, arith, drop, length, if◌then◌else◌}
+use Words.{drop-append_seam, take-append_seam, list_any, ReaderCommand, ReaderUnit, Reply, Act}
+use Words.{Joined, Profile, Choice, Gains, device_gains, in_slots, IsNew, held, kept_of, Allows}
+use Words.{AllowsKept, known_by, last_list, last_told, or_else, powers_on, unless_empty}
+use Words.{ReaderActivity, ReaderState, Ended, Transaction, known_of, config_in, last_said}
+use Words.{messages_of, parts_of, amounts, transaction_of, OfSome, keeping}
+use Rattle.std.proofs.Common.{take, option_map}
 use Rattle.std.proofs.lemmas.List.{length-append, length-take-le, take-append-drop}
 use Rattle.std.proofs.lemmas.List.Elements.{All-from_recursion, recursion_from_All}
-use Rattle.std.specs.List.{list_any}
 use Rattle.mdb_msgs.specs.declared.command.Command.TheVariants as commands
-use Rattle.mdb_msgs.specs.declared.command.ReaderCommand.{ReaderCommand}
-use Rattle.mdb_msgs.specs.declared.command.ReaderUnit.{ReaderUnit}
-use Rattle.mdb_msgs.specs.declared.reply.Reply.{Reply}
-use Rattle.mdb_msgs.specs.declared.setups.ReaderConfig.{ReaderConfig}
 use Rattle.mdb_msgs.specs.declared.setups.Setups.{Setups}
-use Rattle.mdb_bus.specs.declared.act.Act.{Act}
 use Rattle.mdb_bus.specs.declared.act.Act.TheVariants as acts
-use Rattle.mdb_bus.specs.declared.scope.Beginning.TheVariants.{Joined}
-use Rattle.mdb_bus.specs.declared.scope.Profile.{Profile}
-use Rattle.mdb_machine.specs.declared.choice.Choice.{Choice}
-use Rattle.mdb_machine.specs.declared.gains.Gains.{Gains}
-use Rattle.mdb_machine.specs.Gains.{device_gains, in_slots}
-use Rattle.mdb_machine.specs.Kept.{IsNew, MayBeKept, held, holds_after, kept_of}
-use Rattle.mdb_machine.specs.Known.{Allows, AllowsKept, known_by}
-use Rattle.mdb_machine.specs.Past.{last_list, last_told, or_else, powers_on, resets, unless_empty}
-use Rattle.mdb_cashless.specs.declared.reader.messages.ReaderActivity.{ReaderActivity}
 use Rattle.mdb_cashless.specs.declared.reader.messages.ReaderActivity.TheVariants.{VendDenied}
-use Rattle.mdb_cashless.specs.declared.reader.state.ReaderState.{ReaderState}
-use Rattle.mdb_cashless.specs.declared.reader.transaction.Ended.{Ended}
-use Rattle.mdb_cashless.specs.declared.reader.transaction.Transaction.{Transaction}
-use Rattle.mdb_cashless.specs.Reader.{all_approved, AckStep, AskStep, ReaderStep, ReplyStep, StepKnowing, before_messages, is_poll, is_repeated, machine, read, sold_any, take_any, taken, value, view_heard}
-use Rattle.mdb_cashless.specs.ReaderDevice.{all_told, has_approved}
-use Rattle.mdb_cashless.specs.ReaderFacts.{AllowsFacts, Facts, KnownFacts, asked_by, effect_of, effect_of_own, ends_transactions, known_of, own_transaction, parts_by, taken_told, transaction_taken_by}
+use Rattle.mdb_cashless.specs.Reader.{all_approved, AckStep, AskStep, ReaderStep, ReplyStep, StepKnowing, before_messages, is_poll, is_repeated, machine, read, sold_any, take_any, taken}
+use Rattle.mdb_cashless.specs.ReaderFacts.{AllowsFacts, Facts, KnownFacts, asked_by, effect_of, ends_transactions, own_transaction, parts_by, taken_told, transaction_taken_by}
 use Rattle.mdb_cashless.specs.ReaderValues.{facts_of}
-use Rattle.mdb_cashless.specs.ReaderMessages.{config_in, last_said, messages_of, parts_of}
-use Rattle.mdb_cashless.specs.Transactions.{amounts, ended_by, is_again, is_same, no_end, transaction_of}
-use Rattle.mdb_cashless.specs.Units.{own}
-use Rattle.mdb_cashless.specs.MidSession.{AckWay, AreHeld, IsSettled, MayBeAgain, ReplyWay, SendsNone, Takes, TakesNone, TellsNone, effected, facts_recorded, sale}
+use Rattle.mdb_cashless.specs.MidSession.{AckWay, AreHeld, IsSettled, MayBeAgain, ReplyWay, SendsNone, Takes, TakesNone, TellsNone, facts_recorded}
 use Rattle.mdb_machine.specs.shared.ToldWays.{allows_if, allows_told, as_allowed, asked_so, empty_unless, keeps_if, kept_so, kept_told, list_told, none_told, not_not, told_by_none}
-use Rattle.mdb_cashless.specs.inner.Guesses.{OfSome, keeping}
 use Rattle.mdb_cashless.proofs.Guesses.{held_before, repeats}
 use Rattle.mdb_cashless.proofs.Knowing.{Same, asks_any, settled_steps}
 use Rattle.mdb_cashless.proofs.PowerOn.{last_taken_is}

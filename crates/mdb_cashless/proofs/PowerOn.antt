@@ -1,21 +1,13 @@
 -- From power-on all is known of a reader.
-use Rattle.std.proofs.Math.Bool.{and-true}
-use Rattle.std.proofs.lemmas.Grind.{common_steps}
-use Rattle.std.proofs.Common.{arith, ◌≡◌, ◌∙◌, ◌↔◌, ◌&&◌, not, Bool, true, false, List, [], ◌∷◌, Option, Some, None, option_map, refl, ap, subst, sym, unwrap_or, if◌then◌else◌}
-use Rattle.mdb_msgs.specs.declared.command.ReaderUnit.{ReaderUnit}
-use Rattle.mdb_bus.specs.declared.act.Act.{Act}
-use Rattle.mdb_bus.specs.declared.scope.Beginning.TheVariants.{PowerOn}
-use Rattle.mdb_bus.specs.declared.scope.Profile.{Profile}
-use Rattle.mdb_machine.specs.Known.{Is, known_by}
-use Rattle.mdb_machine.specs.Past.{last_list, last_told, or_else, past_of}
+use Rattle.mdb_cashless.proofs.Words
+use Words.{and-true, common_steps, arith, ◌≡◌, ◌∙◌, ◌↔◌, Bool, List, [], ◌∷◌, Option, Some, None}
+use Words.{refl, ap, sym, unwrap_or, if◌then◌else◌, ReaderUnit, Act, PowerOn, Profile, Is, known_by}
+use Words.{last_list, last_told, or_else, Choice, Gains, ReaderState, known_of, Transaction}
+use Rattle.std.proofs.Common.{option_map}
 use Rattle.mdb_machine.specs.shared.PastWays.{same_past}
-use Rattle.mdb_machine.specs.declared.choice.Choice.{Choice}
-use Rattle.mdb_machine.specs.declared.gains.Gains.{Gains}
-use Rattle.mdb_cashless.specs.declared.reader.state.ReaderState.{ReaderState}
 use Rattle.mdb_cashless.specs.Reader.{ReaderStep, StepKnowing}
-use Rattle.mdb_cashless.specs.ReaderFacts.{AllowsFacts, Facts, KnownFacts, asked_by, config_by, effect_of, ends_transactions, known_of, parts_by, taken_told, transaction_taken_by}
+use Rattle.mdb_cashless.specs.ReaderFacts.{AllowsFacts, Facts, KnownFacts, asked_by, config_by, ends_transactions, parts_by, taken_told, transaction_taken_by}
 use Rattle.mdb_cashless.specs.ReaderValues.{facts_of, last_taken}
-use Rattle.mdb_cashless.specs.declared.reader.transaction.Transaction.{Transaction}
 use Rattle.mdb_cashless.proofs.Said.{or_none}
 
 -- all that acts tell is known

@@ -1,18 +1,13 @@
 -- What messages of a reader say, one after another.
-use Rattle.std.proofs.lemmas.Grind.{common_steps}
-use Rattle.std.proofs.Common.{arith, ◌≡◌, ◌∙◌, ◌||◌, ◌++◌, Bool, true, false, List, [], ◌∷◌, Option, Some, None, refl, ap, sym, subst, map}
-use Rattle.std.specs.List.{list_any}
-use Rattle.std.specs.Option.{option_or}
+use Rattle.mdb_cashless.proofs.Words.{common_steps, arith, ◌≡◌, ◌∙◌, ◌||◌, ◌++◌, Bool, List, []}
+use Rattle.mdb_cashless.proofs.Words.{◌∷◌, Option, None, refl, ap, sym, map, list_any, option_or}
+use Rattle.mdb_cashless.proofs.Words.{ReaderMsg, Part, IsSummary, or_else, ReaderActivity}
+use Rattle.mdb_cashless.proofs.Words.{amount_in, config_in, last_said, part_of, IsSaid}
 use Rattle.std.proofs.lemmas.List.{map-append}
 use Rattle.std.proofs.lemmas.List.Folds.{list_any-append}
-use Rattle.mdb_msgs.specs.declared.reply.reader.ReaderMsg.{ReaderMsg}
-use Rattle.mdb_machine.specs.declared.kept.Part.{Part}
-use Rattle.mdb_machine.specs.PastValues.{IsSummary}
-use Rattle.mdb_machine.specs.Past.{is_out_of_sequence, or_else}
-use Rattle.mdb_cashless.specs.declared.reader.messages.ReaderActivity.{ReaderActivity}
+use Rattle.mdb_machine.specs.Past.{is_out_of_sequence}
 use Rattle.mdb_cashless.specs.declared.reader.messages.Said.{Said}
-use Rattle.mdb_cashless.specs.ReaderMessages.{amount_in, begins_session, config_in, last_said, part_of}
-use Rattle.mdb_cashless.specs.inner.ReaderSaid.{IsSaid}
+use Rattle.mdb_cashless.specs.ReaderMessages.{begins_session}
 
 -- two words for one thing
 pub or_is : {X : Type 0} (one other : Option X) → option_or one other ≡ or_else one other

@@ -1,23 +1,12 @@
 -- What the steps of a reader come to, for the functions of its code.
-use Rattle.std.proofs.Common.{◌≡◌, ◌∙◌, ◌↔◌, Bool, true, false, not, List, Option, Some, None, refl, ap, sym, subst}
+use Rattle.mdb_cashless.proofs.Words.{◌≡◌, ◌∙◌, ◌↔◌, Bool, true, false, not, Some, refl, sym}
+use Rattle.mdb_cashless.proofs.Words.{ReaderCommand, ReaderUnit, Act, Choice, Lost, Gains, Stays}
+use Rattle.mdb_cashless.proofs.Words.{ReaderState, View, view_heard, no_end, OfSome}
 use Rattle.std.specs.Bool.{OnFalse, OnTrue}
-use Rattle.mdb_msgs.specs.declared.command.ReaderCommand.{ReaderCommand}
 use Rattle.mdb_msgs.specs.declared.command.ReaderCommand.TheVariants as reader
-use Rattle.mdb_msgs.specs.declared.command.ReaderUnit.{ReaderUnit}
-use Rattle.mdb_bus.specs.declared.act.Act.{Act}
-use Rattle.mdb_bus.specs.declared.scope.Beginning.{Beginning}
-use Rattle.mdb_machine.specs.declared.choice.Choice.{Choice}
-use Rattle.mdb_machine.specs.declared.choice.Choice.TheVariants.{Lost}
-use Rattle.mdb_machine.specs.declared.gains.Gains.{Gains}
-use Rattle.mdb_machine.specs.Gains.{Stays, controller_gains, device_gains, in_slots}
-use Rattle.mdb_cashless.specs.declared.reader.state.ReaderState.{ReaderState}
-use Rattle.mdb_cashless.specs.declared.reader.view.View.{View}
-use Rattle.mdb_cashless.specs.Reader.{AckStep, AskStep, ReaderStep, StepKnowing, asked, sold_to, take, view_heard}
-use Rattle.mdb_cashless.specs.ReaderFacts.{Facts, KnownFacts, known_of}
+use Rattle.mdb_cashless.specs.Reader.{AckStep, AskStep, ReaderStep, StepKnowing, asked, sold_to, take}
+use Rattle.mdb_cashless.specs.ReaderFacts.{Facts, KnownFacts}
 use Rattle.mdb_cashless.specs.ReaderValues.{changes_view}
-use Rattle.mdb_cashless.specs.Transactions.{amounts, no_end}
-use Rattle.mdb_cashless.specs.inner.Guesses.{OfSome}
-use Rattle.mdb_cashless.specs.inner.KnowingReader.{stays}
 
 -- states with the same parts
 pub same_state : {one other : ReaderState} → one.device ≡ other.device → one.view ≡ other.view

@@ -27,10 +27,9 @@ line_length number value letter =
 -- the lines of a mark and of a row
 mark_short : (mark : ℕ × Mark) → mark.0 ≤ ROWS_MAX → length (record_line (mark_fields mark)) ≤ 14
 mark_short mark within =
-    let number : length (decimal mark.0) ≤ 9 =
-    length-decimal-le 9 mark.0 (omega arith) (omega (arith, within)) (omega (arith, within)) in
-    let whole = line_length (decimal mark.0) dash (mark_letter mark.1) in
-    omega (arith, number, whole)
+    let number = length-decimal-le 9 mark.0 (omega arith) (omega (arith, within))
+    (omega (arith, within)) in
+    omega (arith, number, line_length (decimal mark.0) dash (mark_letter mark.1))
 
 start_short : (at : ℕ) → at < 10 ^ 15 → length (decimal at) ≤ 15
 start_short at early = length-decimal-le 15 at (omega arith) early (omega (arith, early))
@@ -39,35 +38,27 @@ row_short : (fields : List (List ℕ)) (row : Event) → IsRow fields row
     → length (record_line (row_fields row)) ≤ 28
 row_short fields (Word at line word) is =
     let start = start_short at (IsDecimal-lt 15 is.0 at is.3) in
-    let whole = line_length (decimal at) (hex_word word) (letter_of line) in
-    omega (arith, start, whole)
+    omega (arith, start, line_length (decimal at) (hex_word word) (letter_of line))
 row_short fields (Break at span) is =
     let start = start_short at (IsDecimal-lt 15 is.0 at is.3) in
-    let short : span < 10 ^ 9 = IsDecimal-lt 9 is.1 span is.4 in
-    let long : length (decimal span) ≤ 9 =
-    length-decimal-le 9 span (omega arith) short (omega (arith, short)) in
-    let whole = line_length (decimal at) (decimal span) break_letter in
-    omega (arith, start, long, whole)
+    let short = IsDecimal-lt 9 is.1 span is.4 in
+    let long = length-decimal-le 9 span (omega arith) short (omega (arith, short)) in
+    omega (arith, start, long, line_length (decimal at) (decimal span) break_letter)
 
 rows_short : (records : List (List (List ℕ))) (rows : List Event) → AreRows records rows
     → length (flat_map record_line (map row_fields rows)) ≤ 28 * length rows
 rows_short [] [] told = omega arith
 rows_short (fields ∷ records) (row ∷ rows) told =
-    let first = row_short fields row told.0 in
-    let others = rows_short records rows told.1 in
     let both = length-append (record_line (row_fields row))
     (flat_map record_line (map row_fields rows)) in
-    omega (arith, first, others, both)
-rows_short [] (row ∷ rows) told = absurd told
-rows_short (fields ∷ records) [] told = absurd told
+    omega (arith, row_short fields row told.0, rows_short records rows told.1, both)
+rows_short records rows told = absurd told
 
 -- a mark takes 14 bytes at most, and a row 28
 pub explanation_short : (records : List (List (List ℕ))) (rows : List Event)
     (marks : List (ℕ × Mark)) → AreRows records rows → All (λ mark. mark.0 ≤ ROWS_MAX) marks
     → length (explanation_text marks rows) ≤ 14 * length marks + 28 * length rows
-explanation_short records rows [] told within =
-    let all = rows_short records rows told in
-    omega (arith, all)
+explanation_short records rows [] told within = omega (arith, rows_short records rows told)
 explanation_short records rows (mark ∷ marks) told within =
     let IsWithin : ℕ × Mark → Type 0 = λ m. m.0 ≤ ROWS_MAX in
     let first = mark_short mark (All-head IsWithin mark marks within) in

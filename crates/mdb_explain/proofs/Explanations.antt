@@ -14,7 +14,7 @@ use Rattle.mdb_explain.specs.Replay.{AreMarkRows, IsMarkRow, dash, mark_letter}
 use Rattle.mdb_verdict.specs.Rows.{AreRows}
 use Rattle.mdb_records.proofs.PlainRecords.{ArePlain, IsPlain, IsPlainByte, plain_append}
 use Rattle.mdb_records.proofs.PlainRecords.{read_of_lines}
-use Rattle.mdb_records.proofs.PlainRows.{IsWritten, one_plain, plain_of, row_written}
+use Rattle.mdb_records.proofs.PlainRows.{one_plain, plain_of, row_written}
 use Rattle.mdb_words.proofs.Numerals.{IsDecimal-decimal}
 
 -- Rows.
@@ -23,11 +23,10 @@ plain_rows : (records : List (List (List ℕ))) (rows : List Event) → AreRows 
     → ArePlain (map row_fields rows) × AreRows (map row_fields rows) rows
 plain_rows [] [] told = (tt, tt)
 plain_rows (fields ∷ records) (row ∷ rows) told =
-    let written : IsWritten row = row_written fields row told.0 in
+    let written = row_written fields row told.0 in
     let others = plain_rows records rows told.1 in
     ((written.1, others.0), (written.0, others.1))
-plain_rows [] (row ∷ rows) told = absurd told
-plain_rows (fields ∷ records) [] told = absurd told
+plain_rows records rows told = absurd told
 
 -- Marks.
 

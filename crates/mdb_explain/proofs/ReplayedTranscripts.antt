@@ -1,5 +1,5 @@
 -- The transcript of an input that is replayed with a yes is one for which `check` says yes.
-use Rattle.std.proofs.Common.{arith, refl, ap, sym, subst, ◌∙◌, ◌≡◌, ◌+◌, ℕ, List, [], ◌∷◌, ◌++◌}
+use Rattle.std.proofs.Common.{arith, refl, ap, sym, ◌∙◌, ◌≡◌, ℕ, List, [], ◌∷◌, ◌++◌}
 use Rattle.std.proofs.Common.{length, length-append, append_assoc, inl, inr, Result, Ok, Err}
 use Rattle.std.proofs.lemmas.List.{append-nil, take_all}
 use Rattle.mdb_words.specs.declared.event.Event.{Event}
@@ -18,23 +18,6 @@ use Rattle.mdb_verdict.specs.Rows.{AreRows}
 use Rattle.mdb_verdict.proofs.Headline.{FrontsAreReached, as_many}
 use Rattle.mdb_verdict.proofs.OneAnswer.{compared, row_not_refused, row_one}
 
--- its rows have a run
-pub have_runs : (scope : Scope) (limit : ℕ) (records : List (List (List ℕ))) (report : Report)
-    (replayed : IsReplayed scope limit records report)
-    → HaveRun scope replayed.transcript (length replayed.transcript)
-have_runs scope limit records report replayed =
-    let all : List (List (List ℕ)) = replayed.transcript in
-    let P : List (List (List ℕ)) → Type 0 = λ l. AreRows l replayed.rows in
-    record {
-      rows = replayed.rows;
-      are = record {
-        told = subst P (sym (take_all (length all) all (omega arith))) replayed.are_rows;
-        number = as_many all replayed.rows replayed.are_rows;
-      };
-      sums = replayed.is.sums;
-      run = replayed.is.reached.run;
-    }
-
 -- Rows lead up to a record: where all records are rows, so is that one, and the row after them.
 record RowAfter (all rows : List Event) (fields : List (List ℕ)) : Type 0 where
   event : Event
@@ -48,58 +31,68 @@ row_after : (scope : Scope) (records : List (List (List ℕ))) (all rows : List 
 row_after scope records all rows fields told leads =
     elim (compared records leads.done [] (fields ∷ leads.rest) all rows told leads.told
     (append-nil records ∙ leads.split)) [
-      | inl same ↦ let clash : [] ≡ fields ∷ leads.rest = same.1 in absurd (cc clash)
-      | inr goes ↦ elim goes [
-        | inl on ↦
-            let clash : [] ≡ on.fields ∷ on.after = on.record_is in absurd (cc clash)
-        | inr on ↦
-            let both : on.fields ∷ on.after ≡ fields ∷ leads.rest = sym on.record_is in
-            let same : on.fields ≡ fields = cc both in
-            record {
-              event = on.event;
-              more = on.more;
-              told = subst (λ f. IsRow f on.event) same on.row;
-              split = on.longer_is;
-            }
-      ]
+      | inl same ↦ absurd (cc (same.1))
+      | inr (inl on) ↦ absurd (cc (on.record_is))
+      | inr (inr on) ↦
+          let same : on.fields ≡ fields = cc (on.record_is) in
+          record {
+            event = on.event;
+            more = on.more;
+            told = rw same at on.row;
+            split = on.longer_is;
+          }
     ]
 
--- where all rows have a run, so do those up to the one after rows that lead up to a record
-reached_after : (scope : Scope) → FrontsAreReached scope → (all rows : List Event)
-    (fields : List (List ℕ)) (event : Event) → RowAfter all rows fields → IsRow fields event
-    → IsReached scope all → IsReached scope (rows ++ event ∷ [])
-reached_after scope fronts all rows fields event after told reached =
-    let row : after.event ≡ event = row_one fields after.event event after.told told in
-    let split : all ≡ (rows ++ event ∷ []) ++ after.more =
-    after.split ∙ (ap (λ e. rows ++ e ∷ after.more) row
-    ∙ sym (append_assoc rows (event ∷ []) after.more)) in
-    fronts (rows ++ event ∷ []) after.more (subst (IsReached scope) split reached)
+module _ (scope : Scope) (limit : ℕ) (records : List (List (List ℕ))) (report : Report)
+    (replayed : IsReplayed scope limit records report) where
+  -- its rows have a run
+  pub have_runs : HaveRun scope replayed.transcript (length replayed.transcript)
+  have_runs =
+      let all : List (List (List ℕ)) = replayed.transcript in
+      record {
+        rows = replayed.rows;
+        are = record {
+          told = rw (take_all (length all) all (omega arith)) replayed.are_rows;
+          number = as_many all replayed.rows replayed.are_rows;
+        };
+        sums = replayed.is.sums;
+        run = replayed.is.reached.run;
+      }
 
--- so the answer to it is a yes
-pub replayed_says_yes : (scope : Scope) → FrontsAreReached scope → (limit : ℕ)
-    (records : List (List (List ℕ))) (report : Report) (answer : Result Outcome RunFault)
-    (replayed : IsReplayed scope limit records report)
-    → IsAnswer scope limit replayed.transcript answer → IsOwnAnswer answer
-    → (checked : Report) × (answer ≡ Ok (Yes checked))
-replayed_says_yes scope fronts limit records report (Ok (Yes checked)) replayed is own =
-    (checked, refl)
-replayed_says_yes scope fronts limit records report (Ok (No offence)) replayed is own =
-    let after = row_after scope replayed.transcript replayed.rows is.rows is.fields
-    replayed.are_rows is.stops in
-    absurd (is.is.not_reached (reached_after scope fronts replayed.rows is.rows is.fields is.row
-    after is.told (replayed.is.sums, replayed.is.reached.run)))
-replayed_says_yes scope fronts limit records report (Err (run.BadRow row fault)) replayed is own =
-    let after = row_after scope replayed.transcript replayed.rows is.rows is.fields
-    replayed.are_rows is.stops in
-    absurd (row_not_refused is.fields after.event fault after.told is.refused)
-replayed_says_yes scope fronts limit records report (Err run.TooLong) replayed is own =
-    let after = row_after scope replayed.transcript replayed.rows is.rows is.fields
-    replayed.are_rows is.stops in
-    let all : length replayed.rows ≡ length is.rows + length (after.event ∷ after.more) =
-    ap length after.split ∙ length-append is.rows (after.event ∷ after.more) in
-    let few = replayed.few_rows in
-    let full = is.full in
-    absurd (omega (arith, all, few, full))
-replayed_says_yes scope fronts limit records report (Err run.Read) replayed is own = absurd own
-replayed_says_yes scope fronts limit records report (Err run.Write) replayed is own = absurd own
-replayed_says_yes scope fronts limit records report (Err run.Memory) replayed is own = absurd own
+  -- where all rows have a run, so do those up to the one after rows that lead up to a record
+  reached_after : FrontsAreReached scope → (rows : List Event) (fields : List (List ℕ))
+      (event : Event) → RowAfter replayed.rows rows fields → IsRow fields event
+      → IsReached scope (rows ++ event ∷ [])
+  reached_after fronts rows fields event after told =
+      let split : replayed.rows ≡ (rows ++ event ∷ []) ++ after.more =
+      after.split ∙ (ap (λ e. rows ++ e ∷ after.more)
+      (row_one fields after.event event after.told told)
+      ∙ sym (append_assoc rows (event ∷ []) after.more)) in
+      let all : IsReached scope replayed.rows = (replayed.is.sums, replayed.is.reached.run) in
+      fronts (rows ++ event ∷ []) after.more (rw split at all)
+
+  -- and so does the row after them
+  after : {rows : List Event} {fields : List (List ℕ)}
+      → LeadUpTo scope replayed.transcript rows fields → RowAfter replayed.rows rows fields
+  after {rows = rows} {fields = fields} leads =
+      row_after scope replayed.transcript replayed.rows rows fields replayed.are_rows leads
+
+  -- so the answer to it is a yes
+  pub says_yes : FrontsAreReached scope → (answer : Result Outcome RunFault)
+      → IsAnswer scope limit replayed.transcript answer → IsOwnAnswer answer
+      → (checked : Report) × (answer ≡ Ok (Yes checked))
+  says_yes fronts (Ok (Yes checked)) is own = (checked, refl)
+  says_yes fronts (Ok (No offence)) is own = absurd (is.is.not_reached
+      (reached_after fronts is.rows is.fields is.row (after is.stops) is.told))
+  says_yes fronts (Err (run.BadRow row fault)) is own = absurd (row_not_refused is.fields
+      (after is.stops).event fault (after is.stops).told is.refused)
+  says_yes fronts (Err run.TooLong) is own =
+      let next = after is.stops in
+      absurd (omega (
+        arith,
+        ap length next.split,
+        length-append is.rows (next.event ∷ next.more),
+        replayed.few_rows,
+        is.full,
+      ))
+  says_yes fronts (Err fault) is own = absurd own

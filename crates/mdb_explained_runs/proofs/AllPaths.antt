@@ -1,41 +1,20 @@
 -- The paths of a device among those of all, whose chains share their links.
-use Rattle.std.proofs.Common.{arith, ap, sym, subst, Contains, ◌∙◌, ◌≡◌, ◌+◌, ◌^◌, ℕ, Bool, true, false, List, ◌∷◌, ◌++◌, length}
-use Rattle.std.proofs.Common.{Result, Ok, inl, inr, refl, get_or, ◌<◌, ◌≤◌}
-use Rattle.std.specs.Bool.{OnFalse, OnTrue}
-use Rattle.std.specs.Prelude.{IfOk}
-use Rattle.mdb_words.specs.declared.event.Event.{Event}
-use Rattle.mdb_msgs.specs.declared.command.Device.{Device}
-use Rattle.mdb_bus.specs.declared.act.Act.{Act}
-use Rattle.mdb_bus.specs.declared.scope.Beginning.TheVariants.{PowerOn}
-use Rattle.mdb_bus.specs.declared.scope.Profile.{Profile}
-use Rattle.mdb_bus.specs.ActLists.{Piece, Whole, acts_of, events_of}
-use Rattle.mdb_machine.specs.Pair.{IsActOf}
-use Rattle.mdb_explained_runs.specs.declared.explain.all_paths.AllPaths.{AllPaths}
-use Rattle.mdb_explained_runs.specs.declared.explain.best.Best.{Best}
-use Rattle.mdb_explained_runs.specs.declared.explain.best.Weight.{Weight}
-use Rattle.mdb_explained_runs.specs.declared.explain.chains.Link.{Link}
+use Rattle.mdb_explained_runs.proofs.Words
+use Words.{arith, ap, sym, subst, Contains, ◌∙◌, ◌≡◌, ◌+◌, ◌^◌, ℕ, Bool, true, false, List, ◌∷◌}
+use Words.{◌++◌, length, Result, Ok, inl, inr, refl, get_or, ◌<◌, ◌≤◌, OnFalse, OnTrue, IfOk, Event}
+use Words.{Device, Act, PowerOn, Profile, Piece, Whole, acts_of, events_of, IsActOf, AllPaths, Best}
+use Words.{Weight, Link, Goal, DEVICES, device_place, Mark, machine_of, own_marks, AreAllFacts}
+use Words.{AreAllPaths, AreAllWithin, AreBestMarks, HasNoWay, weight_for, Denotes, IsChain}
+use Words.{KeepChains, ints, below, earlier, placed, same_or_not, is_machine_of, unmoved}
 use Rattle.mdb_explained_runs.specs.declared.explain.paths.Paths.{Paths}
-use Rattle.mdb_follow.specs.declared.goal.Goal.{Goal}
-use Rattle.mdb_follow.specs.declared.report.TheConstants.Report.{DEVICES}
-use Rattle.mdb_follow.specs.ReportedDevices.{device_place}
-use Rattle.mdb_explained_runs.specs.declared.mark.Mark.{Mark}
-use Rattle.mdb_follow.specs.Machines.{machine_of}
-use Rattle.mdb_explained_runs.specs.Marks.{own_marks}
 use Rattle.mdb_follow.specs.Sides.{FactsOf, code_of, codes_of, stands_for}
-use Rattle.mdb_explained_runs.specs.inner.AllPaths.{AreAllFacts, AreAllPaths, AreAllWithin}
-use Rattle.mdb_explained_runs.specs.inner.AllPaths.{AreBestMarks, AreFactsOf, ArePathsOf, AreWithinOf}
-use Rattle.mdb_explained_runs.specs.inner.AllPaths.{HasNoWay, HasWay, LeadsPathsOf, OneLeadsPaths, paths_in}
-use Rattle.mdb_explained_runs.specs.inner.AllPaths.{weight_for}
-use Rattle.mdb_explained_runs.specs.inner.Chains.{Denotes, IsChain, KeepChains}
+use Rattle.mdb_explained_runs.specs.inner.AllPaths.{AreFactsOf, ArePathsOf, AreWithinOf}
+use Rattle.mdb_explained_runs.specs.inner.AllPaths.{HasWay, LeadsPathsOf, OneLeadsPaths, paths_in}
 use Rattle.mdb_explained_runs.specs.inner.Paths.{ArePaths, IsBestOf}
 use Rattle.mdb_explained_runs.proofs.Bests.{as_good-then}
 use Rattle.mdb_explained_runs.proofs.Chains.{denotes-one, keep-same, keep-then}
-use Rattle.std.proofs.lemmas.Int.{ints}
 use Rattle.mdb_explained_runs.proofs.EntryLimits.{entries-within-kept}
 use Rattle.mdb_explained_runs.proofs.Paths.{paths-kept, paths-still}
-use Rattle.mdb_follow.proofs.ByDevice.{below, earlier, placed, same_or_not}
-use Rattle.mdb_follow.proofs.Machines.{is_machine_of}
-use Rattle.mdb_follow.proofs.Sided.{unmoved}
 
 pub on-false : (b : Bool) (P Q : Type 0) → (P → Q) → OnFalse b P → OnFalse b Q
 on-false true P Q weaker h = tt

@@ -1,28 +1,11 @@
 -- The best marks of each device, for a goal: with them no run goes further towards the end of the
 -- range, and none that comes there has fewer marks of a device.
-use Rattle.std.proofs.Common.{arith, inl, inr, sym, ap, ◌∙◌, ◌≡◌, ◌≤◌, ℕ, ℤ, ◌≤ℤ◌}
-use Rattle.std.proofs.Common.{List, length}
-use Rattle.std.proofs.lemmas.Int.{ints}
-use Rattle.std.proofs.lemmas.Bool.{false_from_ne_true}
-use Rattle.mdb_msgs.specs.declared.command.Device.{Device}
-use Rattle.mdb_msgs.specs.Devices.{same_device}
+use Rattle.mdb_explained_runs.proofs.Words
+use Words.{arith, inl, inr, sym, ap, ◌∙◌, ◌≡◌, ◌≤◌, ℕ, ℤ, ◌≤ℤ◌, List, length, ints}
+use Words.{false_from_ne_true, Device, same_device, PowerOn, Profile, Piece, acts_of, Bound, Least}
+use Words.{Greatest, Goal, Mark, account_device, Choices, Follows, IsAsFar, goal_value, StateOf}
+use Words.{machine_of, own_marks, AllSums, AreBestMarks, weight_for, towards, weigh, same_or_not}
 use Rattle.mdb_msgs.specs.shared.SameDevices.{is_one, itself}
-use Rattle.mdb_bus.specs.declared.scope.Beginning.TheVariants.{PowerOn}
-use Rattle.mdb_bus.specs.declared.scope.Profile.{Profile}
-use Rattle.mdb_bus.specs.ActLists.{Piece, acts_of}
-use Rattle.mdb_follow.specs.declared.goal.Bound.{Bound}
-use Rattle.mdb_follow.specs.declared.goal.Bound.TheVariants.{Least, Greatest}
-use Rattle.mdb_follow.specs.declared.goal.Goal.{Goal}
-use Rattle.mdb_explained_runs.specs.declared.mark.Mark.{Mark}
-use Rattle.mdb_follow.specs.AccountNames.{account_device}
-use Rattle.mdb_follow.specs.Choosing.{Choices, Follows}
-use Rattle.mdb_follow.specs.GoalEnds.{IsAsFar, goal_value}
-use Rattle.mdb_follow.specs.Machines.{StateOf, machine_of}
-use Rattle.mdb_explained_runs.specs.Marks.{own_marks}
-use Rattle.mdb_follow.specs.Runs.{AllSums}
-use Rattle.mdb_explained_runs.specs.inner.AllPaths.{AreBestMarks, weight_for}
-use Rattle.mdb_explained_runs.specs.inner.Weights.{towards, weigh}
-use Rattle.mdb_follow.proofs.ByDevice.{same_or_not}
 
 -- what the sums of the goal's device count is the goal's value, towards its end
 goal-weighed : (goal : Goal) (sums : AllSums)

@@ -1,18 +1,12 @@
 -- What is as good as what, and entries that are taken in.
-use Rattle.std.proofs.Common.{arith, inl, inr, refl, sym, subst, ap, ◌∙◌, ◌≡◌, ◌≢◌, ◌⊎◌, ◌+◌, ◌<◌, ◌≤◌, ℕ, ℤ}
-use Rattle.std.proofs.Common.{◌+ℤ◌, List, [], ◌∷◌, ◌++◌, length, set, take, get_or, Contains}
-use Rattle.std.proofs.lemmas.Bool.{cases_eq}
-use Rattle.std.proofs.lemmas.Int.{ints}
+use Rattle.mdb_explained_runs.proofs.Words
+use Words.{arith, inl, inr, refl, sym, subst, ap, ◌∙◌, ◌≡◌, ◌≢◌, ◌⊎◌, ◌+◌, ◌<◌, ◌≤◌, ℕ, ℤ, ◌+ℤ◌}
+use Words.{List, [], ◌∷◌, ◌++◌, length, set, take, get_or, Contains, cases_eq, ints, take_all}
+use Words.{take_more, Contains-append_left, Contains-push, Contains-get_or, Contains-push_cases}
+use Words.{Best, Choice, Plain, marks_at, HasAsGood, contains-cases, contains-here, contains-there}
 use Rattle.std.proofs.lemmas.List.{get_or-set_other, get_or-set_same}
-use Rattle.std.proofs.lemmas.List.{get_or_default, length-set, take_all, take_more}
-use Rattle.std.proofs.lemmas.List.Elements.{Contains-append_left, Contains-push}
-use Rattle.std.proofs.lemmas.List.Elements.{Contains-get_or, Contains-push_cases}
-use Rattle.mdb_explained_runs.specs.declared.explain.best.Best.{Best}
-use Rattle.mdb_machine.specs.declared.choice.Choice.{Choice}
-use Rattle.mdb_machine.specs.declared.choice.Choice.TheVariants.{Plain}
-use Rattle.mdb_explained_runs.specs.Marks.{marks_at}
-use Rattle.mdb_explained_runs.specs.inner.Paths.{HasAsGood, HasCodeAt, IsAsGood, IsBestOf, TakesIn}
-use Rattle.mdb_follow.proofs.Listed.{contains-cases, contains-here, contains-there}
+use Rattle.std.proofs.lemmas.List.{get_or_default, length-set}
+use Rattle.mdb_explained_runs.specs.inner.Paths.{HasCodeAt, IsAsGood, IsBestOf, TakesIn}
 
 -- a best is as good as another
 abbrev pub IsAsGoodAs : Best → Best → Type 0

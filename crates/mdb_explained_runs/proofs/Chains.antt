@@ -1,14 +1,11 @@
 -- Chains in links, as they grow and as they are read.
-use Rattle.std.proofs.Common.{arith, refl, sym, subst, ap, ◌∙◌, ◌≡◌, ◌+◌, ◌<◌, ◌≤◌, ℕ, List, [], ◌∷◌}
-use Rattle.std.proofs.Common.{◌++◌, length, reverse, slice_get, Some, append_assoc, length-append}
-use Rattle.std.proofs.lemmas.Option.{get_or_from_slice_get, same_Some, slice_get_read}
+use Rattle.mdb_explained_runs.proofs.Words
+use Words.{arith, refl, sym, subst, ap, ◌∙◌, ◌≡◌, ◌+◌, ◌<◌, ◌≤◌, ℕ, List, [], ◌∷◌, ◌++◌, length}
+use Words.{reverse, slice_get, Some, append_assoc, length-append, get_or_from_slice_get, same_Some}
+use Words.{slice_get_read, get_or-append_seam, Link, Mark, Denotes, DenotesAt, IsChain, KeepChains}
 use Rattle.std.proofs.lemmas.Option.{slice_get_within}
 use Rattle.std.proofs.lemmas.List.{append-nil, get_or_append_left, reverse-append}
-use Rattle.std.proofs.Math.Seq.{get_or-append_seam}
 use Rattle.mdb_explained_runs.specs.declared.explain.chains.Chain.{Chain}
-use Rattle.mdb_explained_runs.specs.declared.explain.chains.Link.{Link}
-use Rattle.mdb_explained_runs.specs.declared.mark.Mark.{Mark}
-use Rattle.mdb_explained_runs.specs.inner.Chains.{Denotes, DenotesAt, IsChain, KeepChains}
 use Rattle.mdb_explained_runs.specs.inner.Chains.{linked, nothing}
 
 -- with the same links

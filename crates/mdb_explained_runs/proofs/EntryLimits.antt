@@ -1,14 +1,7 @@
 -- How far from 0 the values of entries are.
-use Rattle.std.proofs.Common.{arith, ◌+◌, ◌^◌, ℕ, ◌≤◌, List, get_or}
-use Rattle.std.proofs.lemmas.Int.{ints}
-use Rattle.std.proofs.lemmas.List.Elements.{All-contains, Contains-get_or}
-use Rattle.mdb_machine.specs.declared.choice.Choice.{Choice}
-use Rattle.mdb_machine.specs.declared.gains.Gains.{Gains}
-use Rattle.mdb_explained_runs.specs.declared.explain.best.Best.{Best}
-use Rattle.mdb_explained_runs.specs.declared.explain.best.Weight.{Weight}
-use Rattle.mdb_explained_runs.specs.declared.explain.chains.Link.{Link}
-use Rattle.mdb_explained_runs.specs.inner.Chains.{KeepChains}
-use Rattle.mdb_explained_runs.specs.inner.Paths.{AreEntriesWithin, AreLed, IsEntryWithin}
+use Rattle.mdb_explained_runs.proofs.Words
+use Words.{arith, ◌+◌, ◌^◌, ℕ, ◌≤◌, List, get_or, ints, All-contains, Contains-get_or, Choice}
+use Words.{Gains, Best, Weight, Link, KeepChains, AreEntriesWithin, AreLed, IsEntryWithin}
 use Rattle.mdb_explained_runs.proofs.Bests.{marks-few}
 use Rattle.mdb_explained_runs.proofs.Weights.{weight-near}
 

@@ -1,35 +1,15 @@
 -- The best marks of each device towards a goal, as one list: they explain it.
-use Rattle.std.proofs.Common.{arith, refl, sym, ap, ◌∙◌, ◌≡◌, ℕ, ◌+◌, ◌≤◌, inl, inr, []}
-use Rattle.std.proofs.Common.{List, length}
-use Rattle.mdb_words.specs.declared.event.Event.{Event}
-use Rattle.mdb_msgs.specs.declared.command.Device.{Device}
+use Rattle.mdb_explained_runs.proofs.Words
+use Words.{arith, refl, sym, ap, ◌∙◌, ◌≡◌, ℕ, ◌+◌, ◌≤◌, inl, inr, [], List, length, Event, Device}
+use Words.{IsActList, Piece, acts_of, profile_of, PowerOn, Profile, Scope, Seeker, Goal, Mark}
+use Words.{account_device, Choices, device_place, Explains, machine_of, choices_in, marks_of}
+use Words.{own_marks, from_power_on, AllSums, IsReached, States, AreAllPaths, AreBestMarks}
+use Words.{IsMergeOf, IsOfBoth, IsSeeker, below, earlier, same_or_not, follows_as, merged}
+use Words.{merged_agrees, OneActList, split_with_choices, is_machine_of}
 use Rattle.mdb_msgs.specs.declared.device_set.DeviceSet.{DeviceSet}
-use Rattle.mdb_bus.specs.ActLists.{IsActList, Piece, acts_of}
 use Rattle.mdb_bus.specs.Bus as link
-use Rattle.mdb_bus.specs.Scopes.{profile_of}
-use Rattle.mdb_bus.specs.declared.scope.Beginning.TheVariants.{PowerOn}
-use Rattle.mdb_bus.specs.declared.scope.Profile.{Profile}
-use Rattle.mdb_bus.specs.declared.scope.Scope.{Scope}
-use Rattle.mdb_explained_runs.specs.declared.explain.seeker.Seeker.{Seeker}
-use Rattle.mdb_follow.specs.declared.goal.Goal.{Goal}
-use Rattle.mdb_explained_runs.specs.declared.mark.Mark.{Mark}
-use Rattle.mdb_follow.specs.AccountNames.{account_device}
-use Rattle.mdb_follow.specs.Choosing.{Choices}
-use Rattle.mdb_follow.specs.ReportedDevices.{device_place}
-use Rattle.mdb_explained_runs.specs.Goals.{Explains}
-use Rattle.mdb_follow.specs.Machines.{machine_of}
-use Rattle.mdb_explained_runs.specs.Marks.{choices_in, marks_of, own_marks}
-use Rattle.mdb_bus.specs.Scopes.{from_power_on}
-use Rattle.mdb_follow.specs.Runs.{AllSums, IsReached, States}
-use Rattle.mdb_explained_runs.specs.inner.AllPaths.{AreAllPaths, AreBestBelow, AreBestMarks, HasWay}
-use Rattle.mdb_explained_runs.specs.inner.Merges.{IsMergeOf, IsOfBoth}
-use Rattle.mdb_explained_runs.specs.inner.Seekers.{IsSeeker}
+use Rattle.mdb_explained_runs.specs.inner.AllPaths.{AreBestBelow, HasWay}
 use Rattle.mdb_explained_runs.proofs.BestMarks.{farthest-of, fewest-of}
-use Rattle.mdb_follow.proofs.ByDevice.{below, earlier, same_or_not}
-use Rattle.mdb_follow.proofs.Choosing.{follows_as, merged, merged_agrees}
-use Rattle.mdb_follow.proofs.Following.{OneActList}
-use Rattle.mdb_follow.proofs.Joining.{split_with_choices}
-use Rattle.mdb_follow.proofs.Machines.{is_machine_of}
 use Rattle.mdb_explained_runs.proofs.MarkedRuns.{JoinWithChoices, marked-run, marks_rise, rising_one, ways-of}
 use Rattle.mdb_explained_runs.proofs.Merging.{all_merged, anothers, its_own, merged_more}
 use Rattle.mdb_explained_runs.proofs.Merging.{merged_enough, merged_none, with_own}

@@ -1,45 +1,28 @@
 -- The last mark of a run that stands at its last row: the act that this row ends is one on which it
 -- may stand.
-use Rattle.std.proofs.Common.{arith, sym, ap, ◌∙◌, ◌≡◌, ℕ, List, []}
-use Rattle.std.proofs.Common.{◌∷◌, ◌++◌, All, append-nil, length, length-append, Some, true}
-use Rattle.std.proofs.lemmas.List.{same_from_push}
-use Rattle.mdb_msgs.specs.Commands.{device_of}
+use Rattle.mdb_explained_runs.proofs.Words
+use Words.{arith, sym, ap, ◌∙◌, ◌≡◌, ℕ, List, [], ◌∷◌, ◌++◌, All, length, length-append, Some, true}
+use Words.{same_from_push, device_of, ReaderCommand, ReaderUnit, First, Second, Reply, Act}
+use Words.{Beginning, Profile, Scope, profile_of, ArePieces, Piece, Whole, acts_of, events_of}
+use Words.{piece_events, Choice, CanStand, approves, MayBeRead, StateByProfile, Mark, AllFollow}
+use Words.{Choices, Follows, StateOf, machine_of, choice_by, marks_at, marks_of, MayStandOnNewest}
+use Words.{AllSums, States, Sums, All-nil}
+use Rattle.std.proofs.Common.{append-nil}
 use Rattle.mdb_msgs.specs.declared.command.Command.{Command}
 use Rattle.mdb_msgs.specs.declared.command.Command.TheVariants as commands
 use Rattle.mdb_msgs.specs.declared.command.Device.TheVariants as devices
-use Rattle.mdb_msgs.specs.declared.command.ReaderCommand.{ReaderCommand}
-use Rattle.mdb_msgs.specs.declared.command.ReaderUnit.{ReaderUnit}
-use Rattle.mdb_msgs.specs.declared.command.ReaderUnit.TheVariants.{First, Second}
-use Rattle.mdb_msgs.specs.declared.reply.Reply.{Reply}
-use Rattle.mdb_bus.specs.declared.act.Act.{Act}
 use Rattle.mdb_bus.specs.declared.act.Act.TheVariants as acts
-use Rattle.mdb_bus.specs.declared.scope.Beginning.{Beginning}
-use Rattle.mdb_bus.specs.declared.scope.Profile.{Profile}
 use Rattle.mdb_bus.specs.declared.scope.Profile.TheVariants.{Base, Extended}
-use Rattle.mdb_bus.specs.declared.scope.Scope.{Scope}
-use Rattle.mdb_bus.specs.Scopes.{profile_of}
-use Rattle.mdb_bus.specs.ActLists.{ArePieces, Piece, Whole, acts_of, events_of, piece_events}
-use Rattle.mdb_machine.specs.declared.choice.Choice.{Choice}
 use Rattle.mdb_machine.specs.declared.choice.Choice.TheVariants as choices
-use Rattle.mdb_machine.specs.Choices.{CanStand, approves}
-use Rattle.mdb_machine.specs.Kept.{MayBeRead}
-use Rattle.mdb_cashless.specs.declared.by_profile.state.StateByProfile.{StateByProfile}
 use Rattle.mdb_cashless.specs.declared.by_profile.state.StateByProfile.TheVariants as variants
 use Rattle.mdb_cashless.specs.ByProfile.{base_state, by_profile, extended_state, machine_in}
 use Rattle.mdb_cashless.specs.ExtendedReader as extended
 use Rattle.mdb_cashless.specs.Reader as base
 use Rattle.mdb_cashless.specs.ReaderMessages.{parts_of}
-use Rattle.mdb_explained_runs.specs.declared.mark.Mark.{Mark}
 use Rattle.mdb_explained_runs.specs.declared.mark.Mark.TheVariants as marks
-use Rattle.mdb_follow.specs.Choosing.{AllFollow, Choices, Follows}
-use Rattle.mdb_follow.specs.Machines.{StateOf, machine_of}
-use Rattle.mdb_explained_runs.specs.Marks.{MayStandOn, MayTellOfRestart, choice_by, marks_at, marks_of}
-use Rattle.mdb_explained_runs.specs.ReplayFaults.{MayStandOnNewest}
-use Rattle.mdb_follow.specs.Runs.{AllSums, States}
-use Rattle.mdb_follow.specs.Sums.{Sums}
+use Rattle.mdb_explained_runs.specs.Marks.{MayStandOn, MayTellOfRestart}
 use Rattle.mdb_follow.proofs.ByProfile.{own_way}
 use Rattle.mdb_explained_runs.proofs.MarkedRuns.{IsBefore, all_before, all_within, none_at}
-use Rattle.std.proofs.lemmas.List.Elements.{All-nil}
 
 -- the last of the same marks is one mark
 mark-told : (old ms : List (ℕ × Mark)) (one mark : ℕ × Mark) → old ++ one ∷ [] ≡ ms ++ mark ∷ []

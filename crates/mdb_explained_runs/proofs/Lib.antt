@@ -19,7 +19,7 @@ pub mod Paths
 pub mod ReplayReports
 pub mod Replaying
 pub mod Seeking
-pub mod ShorterPieces
 pub mod Steps
 pub mod Tracked
 pub mod Weights
+mod Words

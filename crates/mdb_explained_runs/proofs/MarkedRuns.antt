@@ -1,32 +1,16 @@
 -- Marks: they tell what is chosen, and their rows rise.
-use Rattle.std.proofs.Common.{arith, refl, sym, ap, subst, ◌∙◌, ◌≡◌, ◌↔◌, inl, inr}
-use Rattle.std.proofs.Common.{ℕ, ◌<◌, List, [], ◌∷◌, ◌++◌, length}
-use Rattle.std.proofs.Common.{length-append, All, Contains}
-use Rattle.std.proofs.Common.{Option, Some, None, true}
-use Rattle.std.proofs.Math.Bool.{Bool-set}
-use Rattle.std.proofs.lemmas.List.{append-nil, same_from_push}
-use Rattle.std.proofs.lemmas.List.Elements.{All-append, All-contains, All-nil, All-tail}
-use Rattle.std.proofs.lemmas.List.Elements.{All-push, Contains-push}
-use Rattle.mdb_words.specs.declared.event.Event.{Event}
-use Rattle.mdb_bus.specs.declared.act.Act.{Act}
+use Rattle.mdb_explained_runs.proofs.Words
+use Words.{arith, refl, sym, ap, subst, ◌∙◌, ◌≡◌, ◌↔◌, inl, inr, ℕ, ◌<◌, List, [], ◌∷◌, ◌++◌}
+use Words.{length, length-append, All, Contains, Option, Some, None, true, Bool-set, same_from_push}
+use Words.{All-append, All-contains, All-nil, All-tail, All-push, Contains-push, Event, Act, Scope}
+use Words.{ArePieces, IsActList, Piece, Whole, acts_of, events_of, piece_events, contains-cases}
+use Words.{contains-here, contains-none, contains-there, Choice, Plain, Lost, Restart, Again}
+use Words.{CanStand, approves, Mark, AllFollow, Choices, ChoicesBy, choices_of, AllSums, IsWay}
+use Words.{States, OneActList, split_with_choices, Loss, LossFits, Beginning, Rise, StandsWithin}
+use Words.{choice_by, marks_at, marks_of, with_mark, MarkedRun, choices_in}
+use Rattle.std.proofs.lemmas.List.{append-nil}
 use Rattle.mdb_bus.specs.declared.act.Act.TheVariants as kinds
-use Rattle.mdb_bus.specs.declared.scope.Scope.{Scope}
-use Rattle.mdb_bus.specs.ActLists.{ArePieces, IsActList, Piece, Whole, acts_of}
-use Rattle.mdb_bus.specs.ActLists.{events_of, piece_events}
-use Rattle.mdb_follow.proofs.Listed.{contains-cases, contains-here, contains-none, contains-there}
-use Rattle.mdb_machine.specs.declared.choice.Choice.{Choice}
-use Rattle.mdb_machine.specs.declared.choice.Choice.TheVariants.{Plain, Lost, Restart, Again}
-use Rattle.mdb_machine.specs.Choices.{CanStand, approves}
-use Rattle.mdb_explained_runs.specs.declared.mark.Mark.{Mark}
 use Rattle.mdb_explained_runs.specs.declared.mark.Mark.TheVariants as marks
-use Rattle.mdb_follow.specs.Choosing.{AllFollow, Choices, ChoicesBy, choices_of}
-use Rattle.mdb_follow.specs.Runs.{AllSums, IsWay, States}
-use Rattle.mdb_follow.proofs.Following.{OneActList}
-use Rattle.mdb_follow.proofs.Joining.{split_with_choices}
-use Rattle.mdb_bus.specs.Loss.{Loss, LossFits}
-use Rattle.mdb_bus.specs.declared.scope.Beginning.{Beginning}
-use Rattle.mdb_explained_runs.specs.Marks.{Rise, StandsWithin, choice_by, marks_at, marks_of, with_mark}
-use Rattle.mdb_explained_runs.specs.Marks.{MarkedRun, choices_in}
 
 -- a mark stands before a row
 abbrev pub IsBefore : ℕ → ℕ × Mark → Type 0

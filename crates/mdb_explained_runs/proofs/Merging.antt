@@ -1,21 +1,13 @@
 -- Lists of marks as one: it has their elements, and it rises where they do.
-use Rattle.std.proofs.Common.{ap, arith, refl, sym, ◌≡◌, ◌⊎◌, inl, inr, ℕ, ◌+◌, ◌<◌, ◌≤◌}
-use Rattle.std.proofs.Common.{List, [], ◌∷◌, length, get_or, All, Contains}
-use Rattle.std.specs.Prelude.{if◌then◌else◌}
-use Rattle.std.proofs.lemmas.Bool.{false_from_ne_true}
-use Rattle.std.proofs.lemmas.List.Elements.{Contains-get_or}
-use Rattle.mdb_msgs.specs.declared.command.Device.{Device}
-use Rattle.mdb_msgs.specs.Devices.{same_device}
+use Rattle.mdb_explained_runs.proofs.Words
+use Words.{ap, arith, refl, sym, ◌≡◌, ◌⊎◌, inl, inr, ℕ, ◌+◌, ◌<◌, ◌≤◌, List, [], ◌∷◌, length}
+use Words.{get_or, All, Contains, if◌then◌else◌, false_from_ne_true, Contains-get_or, Device}
+use Words.{same_device, device_place, below, earlier, same_or_not, Mark, Rise, IsMergeOf, IsOfBoth}
+use Words.{Merges, of_one, of_other, contains-cases, contains-here, contains-none, contains-there}
 use Rattle.mdb_msgs.specs.shared.SameDevices.{is_one, says}
-use Rattle.mdb_follow.specs.ReportedDevices.{device_place}
-use Rattle.mdb_follow.proofs.ByDevice.{below, earlier, same_or_not}
-use Rattle.mdb_explained_runs.specs.declared.mark.Mark.{Mark}
-use Rattle.mdb_explained_runs.specs.Marks.{Rise}
-use Rattle.mdb_explained_runs.specs.inner.Merges.{AreApart, IsFront, IsMergeBelow, IsMergeOf}
-use Rattle.mdb_explained_runs.specs.inner.Merges.{IsOfBoth, Merges}
-use Rattle.mdb_explained_runs.specs.inner.Merges.{nothing, of_one, of_other}
+use Rattle.mdb_explained_runs.specs.inner.Merges.{AreApart, IsFront, IsMergeBelow}
+use Rattle.mdb_explained_runs.specs.inner.Merges.{nothing}
 use Rattle.mdb_explained_runs.proofs.MarkedRuns.{later_in}
-use Rattle.mdb_follow.proofs.Listed.{contains-cases, contains-here, contains-none, contains-there}
 
 -- nothing is left of both
 pub none_left : (one other : List (ℕ × Mark)) → length one ≡ 0 → length other ≡ 0

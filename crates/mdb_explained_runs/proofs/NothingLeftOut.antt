@@ -1,40 +1,13 @@
 -- A replay blames no device that is left out, and tells nothing of one.
-use Rattle.std.proofs.Common.{ap, subst, sym, ◌∙◌, ◌≡◌, inl, inr, ℤ, ℕ, pos}
-use Rattle.std.specs.Prelude.{◌-ℤ◌}
-use Rattle.std.proofs.Common.{List, [], ◌∷◌, ◌++◌, ◌&&◌, Option, Some, All}
-use Rattle.std.proofs.lemmas.List.Elements.{All-from_recursion}
-use Rattle.mdb_words.specs.declared.event.Event.{Event}
-use Rattle.mdb_msgs.specs.declared.command.Device.{Device}
-use Rattle.mdb_bus.specs.declared.fault.Blame.{Blame}
-use Rattle.mdb_bus.specs.declared.fault.Rule.{Rule}
-use Rattle.mdb_bus.specs.declared.scope.Scope.{Scope}
-use Rattle.mdb_bus.specs.ActLists.{ArePieces, Piece, Whole, acts_of}
-use Rattle.mdb_bus.specs.ExtendedHaste.{haste_of, is_excused}
-use Rattle.mdb_follow.specs.Senders.{sender_of}
-use Rattle.mdb_bus.specs.LeavingOut.{acts_with, breaks_among, IsLeftOut}
-use Rattle.mdb_bus.specs.LinkFaults.{IsLinkFault, blame_on}
-use Rattle.mdb_bus.specs.Scopes.{IsFollowed}
-use Rattle.mdb_machine.specs.Pair.{IsBreak, own_acts}
-use Rattle.mdb_follow.specs.declared.account.Account.{Account}
-use Rattle.mdb_follow.specs.declared.account_name.AccountName.{AccountName}
-use Rattle.mdb_follow.specs.declared.offence.Offence.{Offence}
-use Rattle.mdb_follow.specs.declared.range.Range.{Range}
-use Rattle.mdb_follow.specs.declared.report.Report.{Report}
-use Rattle.mdb_follow.specs.AccountNames.{account_device, account_of, account_slot, sums_of}
-use Rattle.mdb_follow.specs.LeavingOut.{HasNothingLeftOut}
-use Rattle.mdb_follow.specs.Ranges.{IsRange, no_account, no_range}
-use Rattle.mdb_follow.specs.AccountRanges.{IsAccount}
-use Rattle.mdb_follow.specs.Report.{device_report, device_report_of}
-use Rattle.mdb_follow.specs.Runs.{AllSums, Run}
-use Rattle.mdb_follow.specs.Sums.{Sums, no_sums}
-use Rattle.mdb_follow.proofs.OwnWays.{are_breaks}
-use Rattle.mdb_follow.proofs.ReportsWithout.{BreaksTellNothing, blamed_in, not_early}
-use Rattle.mdb_follow.proofs.SilencesWithout.{NamesFollowed, nothing_counted}
-use Rattle.mdb_follow.proofs.Told.{listed}
-use Rattle.mdb_explained_runs.specs.declared.mark.Mark.{Mark}
-use Rattle.mdb_explained_runs.specs.Marks.{MarkedRun}
-use Rattle.mdb_explained_runs.specs.ReplayFaults.{IsReplayOffence}
-use Rattle.mdb_explained_runs.specs.Replays.{IsReplayReport}
+use Rattle.mdb_explained_runs.proofs.Words
+use Words.{ap, subst, sym, ◌∙◌, ◌≡◌, inl, inr, ℤ, ℕ, pos, ◌-ℤ◌, List, [], ◌∷◌, ◌++◌, ◌&&◌, Option}
+use Words.{Some, All, All-from_recursion, Event, Device, Blame, Rule, Scope, ArePieces, Piece}
+use Words.{Whole, acts_of, haste_of, is_excused, sender_of, acts_with, breaks_among, IsLeftOut}
+use Words.{IsLinkFault, blame_on, IsFollowed, IsBreak, own_acts, Account, AccountName, Offence}
+use Words.{Range, Report, account_device, account_of, account_slot, sums_of, HasNothingLeftOut}
+use Words.{IsRange, no_account, no_range, IsAccount, device_report, device_report_of, AllSums, Run}
+use Words.{Sums, no_sums, are_breaks, BreaksTellNothing, blamed_in, not_early, NamesFollowed}
+use Words.{nothing_counted, listed, Mark, MarkedRun, IsReplayOffence, IsReplayReport}
 use Rattle.mdb_explained_runs.proofs.ReplayReports.{named_in_replay}
 
 -- no offence of a replay is blamed on a device that is left out

@@ -1,21 +1,14 @@
 -- A reader by the extended profile has one step at most from power-on, by an act under a choice.
-use Rattle.std.proofs.Common.{◌≡◌, ℕ, false, List, sym, inl, inr, ◌∙◌}
-use Rattle.mdb_msgs.specs.declared.command.ReaderCommand.{ReaderCommand}
+use Rattle.mdb_explained_runs.proofs.Words.{◌≡◌, ℕ, false, List, sym, inl, inr, ◌∙◌, ReaderCommand}
+use Rattle.mdb_explained_runs.proofs.Words.{ReaderUnit, Reply, Act, PowerOn, Profile, Choice, own}
 use Rattle.mdb_msgs.specs.declared.command.ReaderCommand.TheVariants as readers
-use Rattle.mdb_msgs.specs.declared.command.ReaderUnit.{ReaderUnit}
-use Rattle.mdb_msgs.specs.declared.reply.Reply.{Reply}
-use Rattle.mdb_bus.specs.declared.act.Act.{Act}
 use Rattle.mdb_bus.specs.declared.act.Act.TheVariants as acts
-use Rattle.mdb_bus.specs.declared.scope.Beginning.TheVariants.{PowerOn}
-use Rattle.mdb_bus.specs.declared.scope.Profile.{Profile}
-use Rattle.mdb_machine.specs.declared.choice.Choice.{Choice}
 use Rattle.mdb_machine.specs.Known.{Is}
 use Rattle.mdb_cashless.specs.declared.approvals.sale.Sale.{Sale}
 use Rattle.mdb_cashless.specs.declared.approvals.sale.Sale.TheVariants.{Unknown, Unawaited, Approved, Sold}
 use Rattle.mdb_cashless.specs.declared.approvals.state.ApprovalState.{ApprovalState}
 use Rattle.mdb_cashless.specs.ExtendedFacts.{Facts, facts_of}
 use Rattle.mdb_cashless.specs.ExtendedReader.{AskStep, IsSale, MayAsk, MaySell, ReaderStep, ReplyStep, VmcAckStep, machine}
-use Rattle.mdb_cashless.specs.Units.{own}
 use Rattle.mdb_cashless.specs.shared.ApprovalWays as ways
 use Rattle.mdb_cashless.specs.shared.ApprovalWays.{IsSure}
 use Rattle.mdb_explained_runs.proofs.OneKind.{IsOneStep, own_one, some_one}

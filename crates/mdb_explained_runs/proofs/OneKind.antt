@@ -1,7 +1,5 @@
 -- Steps of which there is one at most.
-use Rattle.std.proofs.Common.{◌≡◌, Option, Some, None, sym, ◌∙◌}
-use Rattle.mdb_machine.specs.declared.gains.Gains.{Gains}
-use Rattle.mdb_machine.specs.Gains.{Stays}
+use Rattle.mdb_explained_runs.proofs.Words.{◌≡◌, Option, Some, None, sym, ◌∙◌, Gains, Stays}
 use Rattle.mdb_machine.specs.Steps.{ForOwn}
 
 -- two steps of a kind from one state are the same

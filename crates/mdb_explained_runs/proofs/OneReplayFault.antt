@@ -1,32 +1,12 @@
 -- A row has one fault with given marks.
-use Rattle.std.proofs.Common.{refl, sym, ap, subst, ◌∙◌, ◌≡◌, ◌⊎◌, inl, inr, ℕ, List, [], ◌∷◌, ◌++◌}
-use Rattle.std.proofs.Common.{Option}
-use Rattle.mdb_words.specs.declared.event.Event.{Event}
-use Rattle.mdb_msgs.specs.declared.command.Device.{Device}
-use Rattle.mdb_bus.specs.declared.act.Act.{Act}
-use Rattle.mdb_bus.specs.declared.fault.Blame.{Blame}
-use Rattle.mdb_bus.specs.declared.fault.Rule.{Rule}
-use Rattle.mdb_bus.specs.declared.scope.Profile.{Profile}
-use Rattle.mdb_bus.specs.declared.scope.Scope.{Scope}
-use Rattle.mdb_bus.specs.Scopes.{profile_of}
-use Rattle.mdb_bus.specs.ActLists.{IsActList, Piece, Whole, acts_of}
-use Rattle.mdb_machine.specs.declared.choice.Choice.{Choice}
-use Rattle.mdb_machine.specs.Gains.{no_gains}
-use Rattle.mdb_machine.specs.Machine.{Machine}
-use Rattle.mdb_machine.specs.Pair.{IsMachineOf}
-use Rattle.mdb_explained_runs.specs.declared.mark.Mark.{Mark}
-use Rattle.mdb_follow.specs.declared.offence.Offence.{Offence}
-use Rattle.mdb_explained_runs.specs.declared.replay.ReplayFault.{ReplayFault}
+use Rattle.mdb_explained_runs.proofs.Words
+use Words.{refl, sym, ap, subst, ◌∙◌, ◌≡◌, ◌⊎◌, inl, inr, ℕ, List, [], ◌∷◌, ◌++◌, Option, Event}
+use Words.{Device, Act, Blame, Rule, Profile, Scope, profile_of, IsActList, Piece, Whole, acts_of}
+use Words.{Choice, no_gains, Machine, IsMachineOf, Mark, Offence, ReplayFault, machine_of}
+use Words.{BreaksLink, act_fault, rule_of, LinkFault, BreaksMarkedMachine, HasMarkedRun}
+use Words.{HasNoMarkedStep, IsMarkFault, IsReplayFault, IsReplayOffence, MayStandOnNewest}
+use Words.{HasNoStepFrom, is_machine_of, of_or_not, whose, whose_is, BusLaws}
 use Rattle.mdb_explained_runs.specs.declared.replay.ReplayFault.TheVariants as faults
-use Rattle.mdb_follow.specs.Machines.{machine_of}
-use Rattle.mdb_follow.specs.Offences.{BreaksLink, act_fault, rule_of}
-use Rattle.mdb_bus.specs.declared.fault.LinkFault.{LinkFault}
-use Rattle.mdb_explained_runs.specs.ReplayFaults.{BreaksMarkedMachine, HasMarkedRun, HasNoMarkedStep}
-use Rattle.mdb_explained_runs.specs.ReplayFaults.{IsMarkFault, IsReplayFault, IsReplayOffence}
-use Rattle.mdb_explained_runs.specs.ReplayFaults.{MayStandOnNewest}
-use Rattle.mdb_explained_runs.specs.Tracks.{HasNoStepFrom}
-use Rattle.mdb_follow.proofs.Machines.{is_machine_of, of_or_not, whose, whose_is}
-use Rattle.mdb_follow.proofs.OneAnswer.{BusLaws}
 
 -- an act by which a machine has no step from some state is of its device alone
 whose_from : {State : Type 0} (device : Device) (machine : Machine State)

@@ -1,22 +1,16 @@
 -- From power-on a machine has one step at most by an act under a choice, from a state: so it has
 -- one way through acts with given choices.
-use Rattle.std.proofs.Common.{sym, ap, refl, ◌∙◌, ◌≡◌, ◌↔◌, inl, inr, Bool, true, false}
-use Rattle.std.proofs.Common.{List, [], ◌∷◌, ◌++◌, Option, Some, None}
-use Rattle.std.specs.Prelude.{IsSomeAnd}
-use Rattle.std.proofs.lemmas.List.{append_cancel_left}
+use Rattle.mdb_explained_runs.proofs.Words
+use Words.{sym, ap, refl, ◌∙◌, ◌≡◌, ◌↔◌, inl, inr, Bool, true, false, List, [], ◌∷◌, ◌++◌, Option}
+use Words.{Some, None, IsSomeAnd, append_cancel_left, Device, ReaderCommand, ReaderUnit, Reply, Act}
+use Words.{PowerOn, Profile, Choice, Gains, Stays, IsNew, Machine, StateByProfile, own, Choices}
+use Words.{Follows, machine_of, Sums, added}
 use Rattle.mdb_msgs.specs.declared.command.ChangerCommand.{ChangerCommand}
 use Rattle.mdb_msgs.specs.declared.command.ChangerCommand.TheVariants as changer_commands
 use Rattle.mdb_msgs.specs.declared.command.BillCommand.{BillCommand}
 use Rattle.mdb_msgs.specs.declared.command.BillCommand.TheVariants as bill_commands
-use Rattle.mdb_msgs.specs.declared.command.Device.{Device}
 use Rattle.mdb_msgs.specs.declared.command.Device.TheVariants as devices
-use Rattle.mdb_msgs.specs.declared.command.ReaderCommand.{ReaderCommand}
-use Rattle.mdb_msgs.specs.declared.command.ReaderUnit.{ReaderUnit}
-use Rattle.mdb_msgs.specs.declared.reply.Reply.{Reply}
-use Rattle.mdb_bus.specs.declared.act.Act.{Act}
 use Rattle.mdb_bus.specs.declared.act.Act.TheVariants as acts
-use Rattle.mdb_bus.specs.declared.scope.Beginning.TheVariants.{PowerOn}
-use Rattle.mdb_bus.specs.declared.scope.Profile.{Profile}
 use Rattle.mdb_bus.specs.declared.scope.Profile.TheVariants as profiles
 use Rattle.mdb_cash.specs.declared.bill.activity.BillActivity.{BillActivity}
 use Rattle.mdb_cash.specs.declared.bill.activity.BillActivity.TheVariants as activity
@@ -24,8 +18,6 @@ use Rattle.mdb_cash.specs.declared.bill.state.BillState.{BillState}
 use Rattle.mdb_cash.specs.declared.bill.state.Escrow.{Escrow}
 use Rattle.mdb_cash.specs.declared.bill.state.Escrow.TheVariants.{Waiting}
 use Rattle.mdb_cash.specs.declared.changer.state.ChangerState.{ChangerState}
-use Rattle.mdb_machine.specs.declared.choice.Choice.{Choice}
-use Rattle.mdb_machine.specs.declared.gains.Gains.{Gains}
 use Rattle.mdb_machine.specs.declared.kept.Part.{Part}
 use Rattle.mdb_cash.specs.Bill as bill
 use Rattle.mdb_cash.specs.BillValues as bill_values
@@ -33,14 +25,10 @@ use Rattle.mdb_cash.specs.BillFacts as bill_facts
 use Rattle.mdb_cash.specs.Changer as changer
 use Rattle.mdb_cash.specs.ChangerValues as changer_values
 use Rattle.mdb_cash.specs.ChangerFacts as changer_facts
-use Rattle.mdb_machine.specs.Gains.{Stays}
 use Rattle.mdb_machine.specs.Keeper.{Facts, Tables}
 use Rattle.mdb_machine.specs.KeeperSteps.{AckStep, Conduct, KeeperStep, ReplyStep}
-use Rattle.mdb_machine.specs.Kept.{IsNew}
-use Rattle.mdb_machine.specs.Machine.{Machine}
 use Rattle.mdb_cash.specs.shared.BillCodes.{same_type}
 use Rattle.mdb_cashless.specs.declared.reader.state.ReaderState.{ReaderState}
-use Rattle.mdb_cashless.specs.declared.by_profile.state.StateByProfile.{StateByProfile}
 use Rattle.mdb_cashless.specs.declared.by_profile.state.StateByProfile.TheVariants.{Base, Extended}
 use Rattle.mdb_cashless.specs.ByProfile as by_profile
 use Rattle.mdb_cashless.specs.ByProfile.{StepOf, base_state, extended_state, machine_in, strayed}
@@ -49,10 +37,6 @@ use Rattle.mdb_cashless.specs.shared.ByProfileWays.{IsPart, base_part, extended_
 use Rattle.mdb_cashless.specs.Reader as reader
 use Rattle.mdb_cashless.specs.ReaderFacts as reader_facts
 use Rattle.mdb_cashless.specs.ReaderValues as reader_values
-use Rattle.mdb_cashless.specs.Units.{own}
-use Rattle.mdb_follow.specs.Choosing.{Choices, Follows}
-use Rattle.mdb_follow.specs.Machines.{machine_of}
-use Rattle.mdb_follow.specs.Sums.{Sums, added}
 use Rattle.mdb_explained_runs.proofs.OneApproval.{approval_one}
 use Rattle.mdb_explained_runs.proofs.OneKind.{IsOneStep, own_one, some_one, stays_one}
 

@@ -1,33 +1,16 @@
 -- The marks of a run by devices: each is of one device.
-use Rattle.std.proofs.Common.{arith, refl, sym, ap, ◌∙◌, ◌≡◌, ◌↔◌, ◌⊎◌, inl, inr}
-use Rattle.std.proofs.Common.{ℕ, ◌+◌, ◌<◌, ◌≤◌, Bool, true, false, if◌then◌else◌}
-use Rattle.std.proofs.Common.{List, [], ◌∷◌, ◌++◌, get_or, length, length-append, All, Contains}
+use Rattle.mdb_explained_runs.proofs.Words
+use Words.{arith, refl, sym, ap, ◌∙◌, ◌≡◌, ◌↔◌, ◌⊎◌, inl, inr, ℕ, ◌+◌, ◌<◌, ◌≤◌, Bool, true, false}
+use Words.{if◌then◌else◌, List, [], ◌∷◌, ◌++◌, get_or, length, length-append, All, Contains}
+use Words.{All-contains, Contains-get_or, Contains-append_left, same_Some, Event, device_of}
+use Words.{same_device, Device, First, Second, Act, Scope, ArePieces, Piece, Whole, acts_of}
+use Words.{events_of, has_part, Choice, Plain, Lost, Again, CanStand, IsActOf, Mark, Choices, Rise}
+use Words.{marks_at, marks_of, own_marks, AgreeFor, merged, merged_agrees, contains-none}
 use Rattle.std.proofs.lemmas.List.{append-nil}
-use Rattle.std.proofs.lemmas.List.Elements.{All-contains, Contains-get_or}
-use Rattle.std.proofs.lemmas.List.Elements.{Contains-append_cases, Contains-append_left}
+use Rattle.std.proofs.lemmas.List.Elements.{Contains-append_cases}
 use Rattle.std.proofs.lemmas.List.Elements.{Contains-append_right}
-use Rattle.std.proofs.lemmas.Option.{same_Some}
-use Rattle.mdb_words.specs.declared.event.Event.{Event}
-use Rattle.mdb_msgs.specs.Commands.{device_of}
-use Rattle.mdb_msgs.specs.Devices.{same_device}
-use Rattle.mdb_msgs.specs.declared.command.Device.{Device}
 use Rattle.mdb_msgs.specs.declared.command.Device.TheVariants as devices
-use Rattle.mdb_msgs.specs.declared.command.ReaderUnit.TheVariants.{First, Second}
-use Rattle.mdb_bus.specs.declared.act.Act.{Act}
 use Rattle.mdb_bus.specs.declared.act.Act.TheVariants as kinds
-use Rattle.mdb_bus.specs.declared.scope.Scope.{Scope}
-use Rattle.mdb_bus.specs.ActLists.{ArePieces, Piece, Whole, acts_of}
-use Rattle.mdb_bus.specs.ActLists.{events_of}
-use Rattle.mdb_bus.specs.LeavingOut.{has_part}
-use Rattle.mdb_machine.specs.declared.choice.Choice.{Choice}
-use Rattle.mdb_machine.specs.declared.choice.Choice.TheVariants.{Plain, Lost, Again}
-use Rattle.mdb_machine.specs.Choices.{CanStand}
-use Rattle.mdb_machine.specs.Pair.{IsActOf}
-use Rattle.mdb_explained_runs.specs.declared.mark.Mark.{Mark}
-use Rattle.mdb_follow.specs.Choosing.{Choices}
-use Rattle.mdb_explained_runs.specs.Marks.{Rise, marks_at, marks_of, own_marks}
-use Rattle.mdb_follow.proofs.Choosing.{AgreeFor, merged, merged_agrees}
-use Rattle.mdb_follow.proofs.Listed.{contains-none}
 use Rattle.mdb_explained_runs.proofs.MarkedRuns.{IsAt, IsBefore, all_before, at_row, rise-more}
 
 -- what mdb_cash says of the acts that a device has a part in

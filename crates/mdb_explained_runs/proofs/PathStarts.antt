@@ -1,12 +1,8 @@
 -- The entries of the best ways through no act: one for each state in which a machine may start.
-use Rattle.std.proofs.Common.{arith, inl, inr, refl, sym, ◌∙◌, ◌≡◌, ◌+◌, ◌<◌, ℕ}
-use Rattle.std.proofs.Common.{List, [], ◌∷◌, ◌++◌}
-use Rattle.std.proofs.lemmas.Bool.{cases_eq}
-use Rattle.std.proofs.lemmas.List.Elements.{Contains-append_left, Contains-push}
-use Rattle.std.proofs.lemmas.List.Elements.{Contains-push_cases}
-use Rattle.mdb_machine.specs.Machine.{Machine}
-use Rattle.mdb_explained_runs.specs.declared.explain.best.Best.{Best}
-use Rattle.mdb_explained_runs.specs.inner.Paths.{AreStarts, no_path}
+use Rattle.mdb_explained_runs.proofs.Words.{arith, inl, inr, refl, sym, ◌∙◌, ◌≡◌, ◌+◌, ◌<◌, ℕ, List}
+use Rattle.mdb_explained_runs.proofs.Words.{[], ◌∷◌, ◌++◌, cases_eq, Contains-append_left}
+use Rattle.mdb_explained_runs.proofs.Words.{Contains-push, Contains-push_cases, Machine, Best}
+use Rattle.mdb_explained_runs.proofs.Words.{AreStarts, no_path}
 
 module _ {State : Type 0} {number code : ℕ} {code_of : State → ℕ} {machine : Machine State}
     {entries : List (ℕ × Best)} (state : State)

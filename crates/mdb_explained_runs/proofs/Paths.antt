@@ -1,37 +1,15 @@
 -- The best ways of one device: through no act, and through one act more.
-use Rattle.std.proofs.Common.{arith, refl, sym, subst, ap, ◌∙◌, ◌≡◌, ◌↔◌, ◌+◌, ◌<◌, ℕ}
-use Rattle.std.proofs.Common.{List, [], ◌∷◌, ◌++◌, length, get_or, Contains, Bool, true, false}
-use Rattle.std.proofs.Common.{if◌then◌else◌, length-append, take}
-use Rattle.std.proofs.lemmas.Int.{ints}
-use Rattle.std.proofs.lemmas.List.{append-nil, take_more}
-use Rattle.std.proofs.lemmas.List.Elements.{All-append, All-cons, All-contains, All-nil}
-use Rattle.std.proofs.lemmas.List.Elements.{Contains-get_or}
-use Rattle.mdb_words.specs.declared.event.Event.{Event}
-use Rattle.mdb_msgs.specs.declared.command.Device.{Device}
-use Rattle.mdb_bus.specs.declared.act.Act.{Act}
-use Rattle.mdb_bus.specs.ActLists.{Piece, Whole, acts_of, events_of}
-use Rattle.mdb_bus.specs.Pieces.{IsTail}
-use Rattle.mdb_bus.specs.LeavingOut.{has_part}
-use Rattle.mdb_machine.specs.declared.choice.Choice.{Choice}
-use Rattle.mdb_machine.specs.declared.choice.Choice.TheVariants.{Plain}
-use Rattle.mdb_machine.specs.declared.gains.Gains.{Gains}
-use Rattle.mdb_machine.specs.Choices.{CanStand}
-use Rattle.mdb_machine.specs.Gains.{Stays, no_gains}
-use Rattle.mdb_machine.specs.Machine.{Machine}
-use Rattle.mdb_explained_runs.specs.declared.explain.best.Best.{Best}
-use Rattle.mdb_explained_runs.specs.declared.explain.best.Weight.{Weight}
-use Rattle.mdb_explained_runs.specs.declared.explain.chains.Link.{Link}
-use Rattle.mdb_explained_runs.specs.declared.mark.Mark.{Mark}
-use Rattle.mdb_follow.specs.Choosing.{Choices, Follows}
-use Rattle.mdb_explained_runs.specs.Marks.{marks_at, own_marks}
-use Rattle.mdb_follow.specs.Sums.{Sums, added, no_sums}
-use Rattle.mdb_explained_runs.specs.inner.Chains.{Denotes, KeepChains, nothing}
-use Rattle.mdb_explained_runs.specs.inner.Paths.{AllRest, AreEntriesWithin, AreLed, AreStarts}
-use Rattle.mdb_explained_runs.specs.inner.Paths.{HasAsGood, IsLed, IsPath, IsPaths, RestsAt}
-use Rattle.mdb_explained_runs.specs.inner.Paths.{no_path}
-use Rattle.mdb_explained_runs.specs.inner.Weights.{weigh, weight_of}
+use Rattle.mdb_explained_runs.proofs.Words
+use Words.{arith, refl, sym, subst, ap, ◌∙◌, ◌≡◌, ◌↔◌, ◌+◌, ◌<◌, ℕ, List, [], ◌∷◌, ◌++◌, length}
+use Words.{get_or, Contains, Bool, true, false, if◌then◌else◌, length-append, take, ints, take_more}
+use Words.{All-append, All-cons, All-contains, All-nil, Contains-get_or, Event, Device, Act, Piece}
+use Words.{Whole, acts_of, events_of, IsTail, has_part, Choice, Plain, Gains, CanStand, Stays}
+use Words.{no_gains, Machine, Best, Weight, Link, Mark, Choices, Follows, marks_at, own_marks, Sums}
+use Words.{added, no_sums, Denotes, KeepChains, AllRest, AreEntriesWithin, AreLed, AreStarts}
+use Words.{HasAsGood, IsLed, IsPath, IsPaths, RestsAt, no_path, weigh, weight_of, contains-none}
+use Rattle.std.proofs.lemmas.List.{append-nil}
+use Rattle.mdb_explained_runs.specs.inner.Chains.{nothing}
 use Rattle.mdb_explained_runs.proofs.Bests.{as_good-more, has-weaker}
-use Rattle.mdb_follow.proofs.Listed.{contains-none}
 use Rattle.mdb_explained_runs.proofs.Weights.{weigh-adds, weigh-none, weight-none}
 
 -- through no act

@@ -1,41 +1,15 @@
 -- What a replay reports: it is one, and where the marks explain a goal, it comes to its end.
-use Rattle.std.proofs.Common.{arith, refl, sym, ap, subst, ◌∙◌, ◌≡◌, ℕ, ℤ, ◌-ℤ◌, pos, List, length}
-use Rattle.std.proofs.lemmas.Int.{ints}
-use Rattle.mdb_words.specs.declared.event.Event.{Event}
-use Rattle.mdb_msgs.specs.declared.command.Device.{Device}
-use Rattle.mdb_bus.specs.declared.scope.Beginning.TheVariants.{PowerOn}
-use Rattle.mdb_bus.specs.Scopes.{profile_of}
-use Rattle.mdb_bus.specs.declared.scope.Scope.{Scope}
-use Rattle.mdb_bus.specs.ActLists.{acts_of}
-use Rattle.mdb_follow.specs.declared.account.Account.{Account}
-use Rattle.mdb_follow.specs.declared.account_name.AccountName.{AccountName}
-use Rattle.mdb_follow.specs.declared.goal.AccountSide.{AccountSide}
+use Rattle.mdb_explained_runs.proofs.Words
+use Words.{arith, refl, sym, ap, subst, ◌∙◌, ◌≡◌, ℕ, ℤ, ◌-ℤ◌, pos, List, length, ints, Event}
+use Words.{Device, PowerOn, profile_of, Scope, acts_of, Account, AccountName, AccountSide, Bound}
+use Words.{Least, Greatest, Goal, Mark, Range, Report, account_device, account_of, account_slot}
+use Words.{sums_of, AllFollow, Choices, side_range, side_value, IsAsFar, end_of, goal_value}
+use Words.{Explains, machine_of, MarkedRun, choices_in, IsRange, IsAccount, HasMarkedRun}
+use Words.{IsReplayReport, IsReport, report_of, AllSums, Run, AccountSums, OneActList, named}
+use Words.{named-account, one-end, one-list, with_accounts, split_with_choices}
 use Rattle.mdb_follow.specs.declared.goal.AccountSide.TheVariants as sides
-use Rattle.mdb_follow.specs.declared.goal.Bound.{Bound}
-use Rattle.mdb_follow.specs.declared.goal.Bound.TheVariants.{Least, Greatest}
-use Rattle.mdb_follow.specs.declared.goal.Goal.{Goal}
-use Rattle.mdb_explained_runs.specs.declared.mark.Mark.{Mark}
-use Rattle.mdb_follow.specs.declared.range.Range.{Range}
-use Rattle.mdb_follow.specs.declared.report.Report.{Report}
-use Rattle.mdb_follow.specs.AccountNames.{account_device, account_of, account_slot, sums_of}
-use Rattle.mdb_follow.specs.Choosing.{AllFollow, Choices}
-use Rattle.mdb_follow.specs.Ends.{side_range, side_value}
-use Rattle.mdb_follow.specs.GoalEnds.{IsAsFar, end_of, goal_value}
-use Rattle.mdb_explained_runs.specs.Goals.{Explains}
-use Rattle.mdb_follow.specs.Machines.{machine_of}
-use Rattle.mdb_explained_runs.specs.Marks.{MarkedRun, choices_in}
-use Rattle.mdb_follow.specs.Ranges.{IsRange}
-use Rattle.mdb_follow.specs.AccountRanges.{IsAccount}
-use Rattle.mdb_explained_runs.specs.ReplayFaults.{HasMarkedRun}
-use Rattle.mdb_explained_runs.specs.Replays.{IsReplayReport}
-use Rattle.mdb_follow.specs.Report.{IsReport, report_of}
-use Rattle.mdb_follow.specs.Runs.{AllSums, Run}
-use Rattle.mdb_follow.specs.Sums.{AccountSums}
-use Rattle.mdb_follow.proofs.Following.{OneActList}
-use Rattle.mdb_follow.proofs.OneAnswer.{named, named-account, one-end, one-list, with_accounts}
 use Rattle.mdb_explained_runs.proofs.OneStep.{AllIsKnown, machine_is_one, one_way}
 use Rattle.mdb_explained_runs.proofs.MarkedRuns.{followed}
-use Rattle.mdb_follow.proofs.Joining.{split_with_choices}
 
 -- rows with given marks have one report
 pub one_replay_report : (scope : Scope) → OneActList scope → (rows : List Event)

@@ -1,55 +1,31 @@
 -- What a replay that stands for events and marks goes on to, and what it answers.
-use Rattle.std.proofs.Common.{refl, sym, ap, subst, ◌∙◌, ◌≡◌, inl, inr, ℕ, ◌+◌, List, [], ◌∷◌, ◌++◌}
-use Rattle.std.proofs.Common.{◌↔◌, length, length-append, Option, Some}
-use Rattle.std.proofs.Common.{None}
-use Rattle.mdb_words.specs.declared.event.Event.{Event}
-use Rattle.mdb_msgs.specs.declared.command.Device.{Device}
+use Rattle.mdb_explained_runs.proofs.Words
+use Words.{refl, sym, ap, subst, ◌∙◌, ◌≡◌, inl, inr, ℕ, ◌+◌, List, [], ◌∷◌, ◌++◌, ◌↔◌, length}
+use Words.{length-append, Option, Some, None, Event, Device, First, Second, Act, Bus, LinkFault}
+use Words.{PowerOn, Profile, Scope, profile_of, IsActList, Piece, Whole, acts_of, events_of, IsTail}
+use Words.{GoesOn, Grown, IsLinkFault, Choice, CanStand, Mark, Offence, ReplayFault, Report, Tracks}
+use Words.{account_by, AllFollow, Choices, MarkedRun, choice_by, marks_of, with_mark, machine_of}
+use Words.{IsMarkFault, IsReplayFault, IsReplayOffence, MayStandAt, MayStandOnNewest}
+use Words.{IsReplayReport, report_of, AllSums, HasNoStepFrom, track_in, OneActList, whole-piece}
 use Rattle.mdb_msgs.specs.declared.command.Device.TheVariants as devices
-use Rattle.mdb_msgs.specs.declared.command.ReaderUnit.TheVariants.{First, Second}
-use Rattle.mdb_bus.specs.declared.act.Act.{Act}
 use Rattle.mdb_bus.specs.declared.act.Act.TheVariants as acts
-use Rattle.mdb_bus.specs.declared.bus.Bus.{Bus}
-use Rattle.mdb_bus.specs.declared.fault.LinkFault.{LinkFault}
-use Rattle.mdb_bus.specs.declared.scope.Beginning.TheVariants.{PowerOn}
-use Rattle.mdb_bus.specs.declared.scope.Profile.{Profile}
 use Rattle.mdb_bus.specs.declared.scope.Profile.TheVariants.{Extended}
-use Rattle.mdb_bus.specs.declared.scope.Scope.{Scope}
-use Rattle.mdb_bus.specs.Scopes.{profile_of}
-use Rattle.mdb_bus.specs.ActLists.{IsActList, Piece, Whole, acts_of, events_of}
-use Rattle.mdb_bus.specs.Pieces.{HasActList, IsTail, act_in}
+use Rattle.mdb_bus.specs.Pieces.{HasActList, act_in}
 use Rattle.mdb_bus.specs.Bus as link
-use Rattle.mdb_bus.specs.Bus.{GoesOn, Grown}
-use Rattle.mdb_bus.specs.LinkFaults.{IsLinkFault}
 use Rattle.mdb_bus.specs.ExtendedTimes.{AreFew, times_of}
 use Rattle.mdb_bus.specs.declared.untimely.Untimely.{Untimely}
-use Rattle.mdb_machine.specs.declared.choice.Choice.{Choice}
-use Rattle.mdb_machine.specs.Choices.{CanStand}
 use Rattle.mdb_follow.specs.declared.cell.Cell.{Cell}
-use Rattle.mdb_explained_runs.specs.declared.mark.Mark.{Mark}
 use Rattle.mdb_explained_runs.specs.declared.mark.Mark.TheVariants as mark_kinds
-use Rattle.mdb_follow.specs.declared.offence.Offence.{Offence}
 use Rattle.mdb_explained_runs.specs.declared.replay.Replay.{Replay}
-use Rattle.mdb_explained_runs.specs.declared.replay.ReplayFault.{ReplayFault}
-use Rattle.mdb_follow.specs.declared.report.Report.{Report}
-use Rattle.mdb_explained_runs.specs.declared.tracks.Tracks.{Tracks}
-use Rattle.mdb_follow.specs.Cells.{account_by}
-use Rattle.mdb_follow.specs.Choosing.{AllFollow, Choices}
-use Rattle.mdb_explained_runs.specs.Marks.{MarkedRun, choice_by, marks_of, with_mark}
-use Rattle.mdb_follow.specs.Machines.{machine_of}
-use Rattle.mdb_explained_runs.specs.ReplayFaults.{IsMarkFault, IsReplayFault, IsReplayOffence}
-use Rattle.mdb_explained_runs.specs.ReplayFaults.{MayStandAt, MayStandOnNewest}
-use Rattle.mdb_explained_runs.specs.Replays.{IsReplayReport, StandsFor, scope_of}
-use Rattle.mdb_follow.specs.Report.{report_of}
-use Rattle.mdb_follow.specs.Runs.{AllSums}
+use Rattle.mdb_explained_runs.specs.Replays.{StandsFor, scope_of}
 use Rattle.mdb_follow.specs.Silences.{asks_of}
-use Rattle.mdb_explained_runs.specs.Tracks.{AreTracks, HasNoStepFrom, chosen_more, track_in}
+use Rattle.mdb_explained_runs.specs.Tracks.{AreTracks, chosen_more}
 use Rattle.mdb_explained_runs.specs.inner.ReplaySteps.{HasReplayed, HasStopped}
 use Rattle.mdb_explained_runs.specs.inner.TrackSteps.{TracksLead}
 use Rattle.mdb_follow.proofs.Asks.{asks-go-on, asks-stay, no-act}
 use Rattle.mdb_explained_runs.proofs.LastMark.{last-stands}
 use Rattle.mdb_explained_runs.proofs.MarkedRuns.{JoinWithChoices, at-mark, followed, marked-run, ways-of}
-use Rattle.mdb_follow.proofs.Following.{OneActList, accounts-of-cells, cell-of-runs, list-on}
-use Rattle.mdb_follow.proofs.Following.{whole-piece}
+use Rattle.mdb_follow.proofs.Following.{accounts-of-cells, cell-of-runs, list-on}
 
 -- What is known of pieces: which choices have the marks, and that tracks stand for their acts with
 -- them.

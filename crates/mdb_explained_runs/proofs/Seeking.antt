@@ -1,34 +1,14 @@
 -- A seeker goes on row by row.
-use Rattle.std.proofs.Common.{arith, sym, subst, ap, ◌∙◌, ◌≡◌, ◌↔◌, ◌+◌, ◌*◌, ◌^◌, ◌≤◌, ◌<◌}
-use Rattle.std.proofs.Common.{ℕ, List, [], ◌∷◌, ◌++◌, length, length-append, Option, Some, None, Bool, true, false}
-use Rattle.std.proofs.Common.{add-one, append_assoc, drop, get_or, take}
-use Rattle.std.proofs.Math.Seq.{split_at}
-use Rattle.std.specs.Bool.{OnFalse, OnTrue}
-use Rattle.mdb_words.specs.declared.event.Event.{Event}
-use Rattle.mdb_msgs.specs.declared.command.Device.{Device}
-use Rattle.mdb_bus.specs.declared.act.Act.{Act}
-use Rattle.mdb_bus.specs.declared.bus.Bus.{Bus}
-use Rattle.mdb_bus.specs.declared.scope.Beginning.TheVariants.{PowerOn}
-use Rattle.mdb_bus.specs.declared.scope.Profile.{Profile}
-use Rattle.mdb_bus.specs.declared.scope.Scope.{Scope}
-use Rattle.mdb_bus.specs.ActLists.{IsActList, Piece, Whole}
-use Rattle.mdb_bus.specs.Pieces.{IsTail}
-use Rattle.mdb_bus.specs.ActLists.{acts_of, events_of}
+use Rattle.mdb_explained_runs.proofs.Words
+use Words.{arith, sym, subst, ap, ◌∙◌, ◌≡◌, ◌↔◌, ◌+◌, ◌*◌, ◌^◌, ◌≤◌, ◌<◌, ℕ, List, [], ◌∷◌, ◌++◌}
+use Words.{length, length-append, Option, Some, None, Bool, true, false, add-one, append_assoc}
+use Words.{drop, get_or, take, split_at, OnFalse, OnTrue, Event, Device, Act, Bus, PowerOn, Profile}
+use Words.{Scope, IsActList, Piece, Whole, IsTail, acts_of, events_of, GoesOn, Grown, AllPaths}
+use Words.{Goal, Seeker, IsSeeker, EachArrives, machine_of, IsReached, AreAllPaths, AreAllWithin}
+use Words.{HasNoWay, chosen, OneActList, split}
 use Rattle.mdb_bus.specs.Bus as link
-use Rattle.mdb_bus.specs.Bus.{GoesOn, Grown}
-use Rattle.mdb_explained_runs.specs.declared.explain.all_paths.AllPaths.{AllPaths}
-use Rattle.mdb_follow.specs.declared.goal.Goal.{Goal}
-use Rattle.mdb_explained_runs.specs.declared.explain.seeker.Seeker.{Seeker}
-use Rattle.mdb_explained_runs.specs.inner.Seekers.{IsSeeker}
-use Rattle.mdb_follow.specs.Tables.{EachArrives}
-use Rattle.mdb_follow.specs.Machines.{machine_of}
-use Rattle.mdb_follow.specs.Runs.{IsReached}
-use Rattle.mdb_explained_runs.specs.inner.AllPaths.{AreAllPaths, AreAllWithin, HasNoWay}
 use Rattle.mdb_explained_runs.proofs.Chains.{keep-same}
 use Rattle.mdb_explained_runs.proofs.Replaying.{after-none, before-newest, newest-whole}
-use Rattle.mdb_follow.proofs.Choosing.{chosen}
-use Rattle.mdb_follow.proofs.Following.{OneActList}
-use Rattle.mdb_follow.proofs.Joining.{split}
 use Rattle.mdb_explained_runs.proofs.EntryLimits.{entries-within-kept}
 use Rattle.mdb_explained_runs.proofs.Paths.{paths-tail}
 

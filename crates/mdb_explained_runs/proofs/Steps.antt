@@ -1,24 +1,11 @@
 -- What steps from entries lead to, as it is taken in.
-use Rattle.std.proofs.Common.{arith, inl, inr, refl, sym, subst, ◌∙◌, ◌≡◌, ◌≢◌, ◌+◌, ◌<◌, ℕ, ℤ}
-use Rattle.std.proofs.Common.{◌+ℤ◌, List, [], ◌∷◌, ◌++◌, length, take, get_or}
-use Rattle.std.proofs.lemmas.Int.{ints}
-use Rattle.std.proofs.lemmas.List.{take_more}
-use Rattle.std.proofs.lemmas.List.Elements.{Contains-append_left, Contains-push}
-use Rattle.std.proofs.lemmas.List.Elements.{Contains-push_cases}
-use Rattle.mdb_machine.specs.declared.choice.Choice.{Choice}
-use Rattle.mdb_machine.specs.declared.choice.Choice.TheVariants.{Plain}
-use Rattle.mdb_machine.specs.declared.gains.Gains.{Gains}
-use Rattle.mdb_machine.specs.SmallGains.{IsSmall}
-use Rattle.mdb_machine.specs.Pair.{IsStep}
+use Rattle.mdb_explained_runs.proofs.Words
+use Words.{arith, inl, inr, refl, sym, subst, ◌∙◌, ◌≡◌, ◌≢◌, ◌+◌, ◌<◌, ℕ, ℤ, ◌+ℤ◌, List, [], ◌∷◌}
+use Words.{◌++◌, length, take, get_or, ints, take_more, Contains-append_left, Contains-push}
+use Words.{Contains-push_cases, Choice, Plain, Gains, IsSmall, IsStep, Best, Weight, Link, marks_at}
+use Words.{KeepChains, AreLed, HasAsGood, IsLed, HasSteps, TakesSteps, weight_of}
 use Rattle.mdb_machine.proofs.Ways.{plain_or_not, step_as}
-use Rattle.mdb_explained_runs.specs.declared.explain.best.Best.{Best}
-use Rattle.mdb_explained_runs.specs.declared.explain.best.Weight.{Weight}
-use Rattle.mdb_explained_runs.specs.declared.explain.chains.Link.{Link}
-use Rattle.mdb_explained_runs.specs.Marks.{marks_at}
-use Rattle.mdb_explained_runs.specs.inner.Chains.{KeepChains}
-use Rattle.mdb_explained_runs.specs.inner.Paths.{AreLed, LinksGoOnFrom, HasAsGood, IsLed, TakesIn}
-use Rattle.mdb_explained_runs.specs.inner.Paths.{HasSteps, TakesSteps}
-use Rattle.mdb_explained_runs.specs.inner.Weights.{weight_of}
+use Rattle.mdb_explained_runs.specs.inner.Paths.{LinksGoOnFrom, TakesIn}
 use Rattle.mdb_explained_runs.proofs.Bests.{has-weaker, marks-most, takes-same}
 use Rattle.mdb_explained_runs.proofs.Chains.{keep-same}
 

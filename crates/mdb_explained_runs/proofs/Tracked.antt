@@ -1,35 +1,16 @@
 -- Tracks go on by the only step of their machine: that of one device, those of all, and those that
 -- have no part in an act.
-use Rattle.std.proofs.Common.{arith, refl, sym, ap, ◌∙◌, ◌≡◌, ◌≤◌, ◌+◌, ◌*◌, ◌^◌, ℕ, List, ◌∷◌}
-use Rattle.std.proofs.Common.{Some, ◌<◌, get_or, inl, inr, Ok, Err, Result}
-use Rattle.std.specs.Prelude.{IfErr, IfOk, OnErr}
-use Rattle.mdb_msgs.specs.declared.command.Device.{Device}
-use Rattle.mdb_bus.specs.declared.act.Act.{Act}
-use Rattle.mdb_bus.specs.declared.fault.Rule.{Rule}
-use Rattle.mdb_bus.specs.declared.scope.Beginning.TheVariants.{PowerOn}
-use Rattle.mdb_bus.specs.declared.scope.Profile.{Profile}
+use Rattle.mdb_explained_runs.proofs.Words
+use Words.{arith, refl, sym, ap, ◌∙◌, ◌≡◌, ◌≤◌, ◌+◌, ◌*◌, ◌^◌, ℕ, List, ◌∷◌, Some, ◌<◌, get_or, inl}
+use Words.{inr, Ok, Err, Result, IfErr, IfOk, OnErr, Device, Act, Rule, PowerOn, Profile, Choice}
+use Words.{Gains, no_gains, IsSmall, Machine, IsActOf, IsOnlyStep, Tracks, moved_cell, added}
+use Words.{DEVICES, Choices, machine_of, rule_of, HasNoStepFrom, IsTrackOf, TrackOf, track_in}
+use Words.{Front, front-next, same_or_not, is_machine_of, unmoved, untold}
 use Rattle.mdb_bus.specs.declared.scope.Profile.TheVariants.{Base}
-use Rattle.mdb_machine.specs.declared.choice.Choice.{Choice}
-use Rattle.mdb_machine.specs.declared.gains.Gains.{Gains}
-use Rattle.mdb_machine.specs.Gains.{no_gains}
-use Rattle.mdb_machine.specs.SmallGains.{IsSmall}
-use Rattle.mdb_machine.specs.Machine.{Machine}
-use Rattle.mdb_machine.specs.Pair.{IsActOf, IsOnlyStep}
 use Rattle.mdb_explained_runs.specs.declared.track.Track.{Track}
-use Rattle.mdb_explained_runs.specs.declared.tracks.Tracks.{Tracks}
-use Rattle.mdb_follow.specs.Cells.{moved_cell}
-use Rattle.mdb_follow.specs.Sums.{added}
-use Rattle.mdb_follow.specs.declared.report.TheConstants.Report.{DEVICES}
-use Rattle.mdb_follow.specs.Choosing.{Choices}
-use Rattle.mdb_follow.specs.Machines.{machine_of}
-use Rattle.mdb_follow.specs.Offences.{rule_of}
-use Rattle.mdb_explained_runs.specs.Tracks.{HasNoStepFrom, IsTrackOf, TrackOf, track_in}
 use Rattle.mdb_explained_runs.specs.inner.TrackSteps.{AreTracksWithin, IsTrackWithin, Leads}
 use Rattle.mdb_explained_runs.specs.inner.TrackSteps.{LeadsOf, OneLeads, TrackStops, TracksLead}
 use Rattle.mdb_explained_runs.specs.inner.TrackSteps.{TracksStop}
-use Rattle.mdb_follow.proofs.ByDevice.{Front, front-next, same_or_not}
-use Rattle.mdb_follow.proofs.Machines.{is_machine_of}
-use Rattle.mdb_follow.proofs.Sided.{unmoved, untold}
 use Rattle.mdb_follow.proofs.Ways.{no-gains}
 use Rattle.mdb_follow.proofs.Ends.{Moved, cell-moved, cell-moved-within, cell-same, cell-within-weaker}
 

@@ -1,20 +1,12 @@
 -- What sums and gains count for a goal.
-use Rattle.std.proofs.Common.{ap, arith, refl, ◌∙◌, ◌≡◌, ◌+◌, ◌<◌, ◌^◌, ℤ, pos, negsuc, neg_ℤ, ◌+ℤ◌, ◌≤ℤ◌}
-use Rattle.std.proofs.Common.{SFits, of_z, to_z, w64}
-use Rattle.std.proofs.lemmas.Int.{ints, to_z-of_z}
-use Rattle.mdb_machine.specs.declared.gains.Gains.{Gains}
-use Rattle.mdb_machine.specs.Gains.{no_gains}
-use Rattle.mdb_machine.specs.SmallGains.{IsSmall}
+use Rattle.mdb_explained_runs.proofs.Words
+use Words.{ap, arith, refl, ◌∙◌, ◌≡◌, ◌+◌, ◌<◌, ◌^◌, ℤ, pos, negsuc, neg_ℤ, ◌+ℤ◌, ◌≤ℤ◌, SFits, of_z}
+use Words.{to_z, w64, ints, to_z-of_z, Gains, no_gains, IsSmall, Weight, AccountSide, Bound, Least}
+use Words.{Greatest, side_value, AccountSums, Sums, added, no_sums, gained, towards, weigh}
+use Words.{weight_of}
 use Rattle.mdb_machine.proofs.Slots.{none_at, small_at}
-use Rattle.mdb_explained_runs.specs.declared.explain.best.Weight.{Weight}
 use Rattle.mdb_explained_runs.specs.declared.explain.best.Weight.TheVariants as weights
-use Rattle.mdb_follow.specs.declared.goal.AccountSide.{AccountSide}
 use Rattle.mdb_follow.specs.declared.goal.AccountSide.TheVariants as sides
-use Rattle.mdb_follow.specs.declared.goal.Bound.{Bound}
-use Rattle.mdb_follow.specs.declared.goal.Bound.TheVariants.{Least, Greatest}
-use Rattle.mdb_follow.specs.Ends.{side_value}
-use Rattle.mdb_follow.specs.Sums.{AccountSums, Sums, added, no_sums}
-use Rattle.mdb_explained_runs.specs.inner.Weights.{gained, towards, weigh, weight_of}
 
 -- a number so near to 0 is one of 64 bits
 near-fits : (z : ℤ) → neg_ℤ (pos (2 ^ 62 + 2 ^ 32)) ≤ℤ z → z ≤ℤ pos (2 ^ 62 + 2 ^ 32)

@@ -36,6 +36,7 @@ use mdb_cash::laws as cash_laws;
 use mdb_cashless::laws as cashless_laws;
 use mdb_follow::laws as follow_laws;
 use mdb_machine::laws as machine_laws;
+use mdb_msgs::laws as message_laws;
 
 /// Marks tell what is chosen of each act: choices with the same marks are the same.
 pub fn marks_tell_what_is_chosen()
@@ -113,8 +114,9 @@ pub fn fronts_of_marked_runs_have_the_marks_there()
     ensures { (scope : Scope) (rows more : List Event) (marks : List (ℕ × Mark))
         → HasMarkedRun scope (rows ++ more) marks → SplitAt scope rows marks }
 {
-    laws::transcripts_have_one_act_list();
-    laws::act_lists_go_on_row_by_row();
+    message_laws::first_byte_tells_the_device();
+    message_laws::need_leaves_a_command_open();
+    message_laws::need_leaves_another_command_open();
     follow_laws::ways_with_choices_join();
 }
 

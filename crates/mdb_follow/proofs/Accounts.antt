@@ -1,11 +1,7 @@
 -- The accounts one by one.
-use Rattle.std.proofs.Common.{◌≡◌, ◌<◌, map, refl, arith}
-use Rattle.mdb_msgs.specs.declared.command.ReaderUnit.TheVariants.{First}
-use Rattle.mdb_machine.specs.declared.gains.TheConstants.{SLOTS}
-use Rattle.mdb_follow.specs.declared.account.Account.{Account}
-use Rattle.mdb_follow.specs.declared.account_name.AccountName.{AccountName}
+use Rattle.mdb_follow.proofs.Words.{◌≡◌, ◌<◌, map, refl, arith, First, SLOTS, Account, AccountName}
+use Rattle.mdb_follow.proofs.Words.{ALL}
 use Rattle.mdb_follow.specs.declared.account_name.AccountName.TheVariants.{Approved, Sold}
-use Rattle.mdb_follow.specs.declared.account_name.TheConstants.AccountName.{ALL}
 use Rattle.mdb_follow.specs.AccountNames.{account_in, account_slot}
 
 -- each account has a slot

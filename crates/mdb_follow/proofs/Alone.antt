@@ -1,22 +1,9 @@
 -- A table of one entry, which is led over an act where it stands.
-use Rattle.std.proofs.Common.{◌≡◌, ◌⊎◌, ◌+◌, ◌<◌, ◌^◌, ℕ, Bool, false, true, refl}
-use Rattle.std.proofs.Common.{arith, List, [], ◌∷◌, length, Option, Some, None}
-use Rattle.std.specs.Bool.{OnFalse, OnTrue}
-use Rattle.std.specs.Prelude.{All, IfSome, ◌↔◌}
-use Rattle.std.proofs.lemmas.List.Elements.{All-nil}
-use Rattle.mdb_msgs.specs.declared.command.Device.{Device}
-use Rattle.mdb_bus.specs.declared.act.Act.{Act}
-use Rattle.mdb_machine.specs.declared.choice.Choice.TheVariants.{Plain}
-use Rattle.mdb_machine.specs.declared.gains.Gains.{Gains}
-use Rattle.mdb_machine.specs.SmallGains.{IsSmall}
-use Rattle.mdb_machine.specs.Pair.{IsChosenStep, IsMove, IsStep}
-use Rattle.mdb_machine.proofs.Ways.{small_moves}
-use Rattle.mdb_machine.specs.Machine.{Machine}
-use Rattle.mdb_follow.specs.declared.cell.Cell.{Cell}
-use Rattle.mdb_follow.specs.Arrivals.{Arrives}
-use Rattle.mdb_follow.specs.Limits.{IsCellWithin, IsTableWithin}
-use Rattle.mdb_follow.specs.Tables.{ArrivesAt, Bounds, IsTable}
-use Rattle.mdb_follow.specs.inner.Entries.{AreBelow, AreMoves, LeadTo}
+use Rattle.mdb_follow.proofs.Words
+use Words.{◌≡◌, ◌⊎◌, ◌+◌, ◌<◌, ◌^◌, ℕ, Bool, false, true, refl, arith, List, [], ◌∷◌, length}
+use Words.{Option, Some, None, OnFalse, OnTrue, All, IfSome, ◌↔◌, All-nil, Device, Act, Plain}
+use Words.{Gains, IsSmall, IsChosenStep, IsMove, IsStep, small_moves, Machine, Cell, Arrives}
+use Words.{IsCellWithin, IsTableWithin, ArrivesAt, Bounds, IsTable, AreBelow, AreMoves, LeadTo}
 use Rattle.mdb_follow.proofs.Led.{keyed-with_moves, led-more, led-none}
 use Rattle.mdb_follow.proofs.Led.{moves-kept, within-with_moves}
 use Rattle.mdb_follow.proofs.Listed.{contains-here}

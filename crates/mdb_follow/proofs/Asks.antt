@@ -1,24 +1,14 @@
 -- How the lists of asks go on with the pieces, and silences with them.
-use Rattle.std.proofs.Common.{refl, ap, sym, ◌∙◌, ◌≡◌, inl, inr, ℕ, List, [], ◌∷◌, ◌++◌}
-use Rattle.std.proofs.Common.{Option, Some, None}
-use Rattle.mdb_words.specs.declared.event.Event.{Event}
+use Rattle.mdb_follow.proofs.Words.{refl, ap, sym, ◌∙◌, ◌≡◌, inl, inr, ℕ, List, [], ◌∷◌, ◌++◌}
+use Rattle.mdb_follow.proofs.Words.{Option, Some, None, Event, Device, First, Second, Act, Piece}
+use Rattle.mdb_follow.proofs.Words.{Whole, acts_of, piece_events, IsTail, act_in, Beginning}
+use Rattle.mdb_follow.proofs.Words.{PowerOn, Joined, Grown, reported_of, stands_for, TimedAsk}
+use Rattle.mdb_follow.proofs.Words.{asks_of, last_start, limit_of, asks_after, limit_in}
 use Rattle.mdb_words.specs.Event.{start_of}
-use Rattle.mdb_msgs.specs.declared.command.Device.{Device}
 use Rattle.mdb_msgs.specs.declared.command.Device.TheVariants as devices
-use Rattle.mdb_msgs.specs.declared.command.ReaderUnit.TheVariants.{First, Second}
 use Rattle.mdb_cashless.specs.declared.by_profile.facts.KnownByProfile.{KnownByProfile}
-use Rattle.mdb_bus.specs.declared.act.Act.{Act}
 use Rattle.mdb_bus.specs.declared.act.Act.TheVariants as acts
-use Rattle.mdb_bus.specs.ActLists.{Piece, Whole, acts_of, piece_events}
-use Rattle.mdb_bus.specs.Pieces.{IsTail, act_in}
-use Rattle.mdb_bus.specs.declared.scope.Beginning.{Beginning}
-use Rattle.mdb_bus.specs.declared.scope.Beginning.TheVariants.{PowerOn, Joined}
 use Rattle.mdb_bus.specs.declared.scope.Profile.TheVariants as profiles
-use Rattle.mdb_bus.specs.Bus.{Grown}
-use Rattle.mdb_follow.specs.ReportedDevices.{reported_of}
-use Rattle.mdb_follow.specs.Sides.{stands_for}
-use Rattle.mdb_follow.specs.Silences.{TimedAsk, asks_of, last_start, limit_of}
-use Rattle.mdb_follow.specs.SilenceSteps.{asks_after, limit_in}
 
 pub tail-acts : (tail : Piece) (pieces : List Piece) → IsTail tail
     → acts_of (tail ∷ pieces) ≡ acts_of pieces

@@ -1,13 +1,9 @@
 -- What is kept of each device, by the places of the devices: that of one goes on, and in a loop
 -- over the devices that of each.
-use Rattle.std.proofs.Common.{refl, ap, sym, inl, inr, ◌∙◌, ◌≡◌, ◌⊎◌, ◌+◌, ◌<◌, ◌≤◌, ℕ}
-use Rattle.std.proofs.Common.{suc, arith, get_or}
-use Rattle.std.proofs.lemmas.Bool.{cases_eq}
-use Rattle.mdb_msgs.specs.declared.command.Device.{Device}
+use Rattle.mdb_follow.proofs.Words.{refl, ap, sym, inl, inr, ◌∙◌, ◌≡◌, ◌⊎◌, ◌+◌, ◌<◌, ◌≤◌, ℕ, suc}
+use Rattle.mdb_follow.proofs.Words.{arith, get_or, cases_eq, Device, First, Second, DEVICES}
+use Rattle.mdb_follow.proofs.Words.{device_place}
 use Rattle.mdb_msgs.specs.declared.command.Device.TheVariants as devices
-use Rattle.mdb_msgs.specs.declared.command.ReaderUnit.TheVariants.{First, Second}
-use Rattle.mdb_follow.specs.declared.report.TheConstants.Report.{DEVICES}
-use Rattle.mdb_follow.specs.ReportedDevices.{device_place}
 use Rattle.mdb_follow.specs.ByDevice.{OneGoes}
 
 -- what is of each device

@@ -1,14 +1,8 @@
 -- A way of a reader by either profile is one of the machine of its profile.
-use Rattle.std.proofs.Common.{refl, ◌≡◌, List, [], ◌∷◌, Option, Some, None}
-use Rattle.std.specs.Prelude.{IsSomeAnd}
-use Rattle.std.proofs.lemmas.Option.{same_Some}
-use Rattle.mdb_bus.specs.declared.act.Act.{Act}
-use Rattle.mdb_machine.specs.declared.gains.Gains.{Gains}
-use Rattle.mdb_machine.specs.Machine.{Machine}
-use Rattle.mdb_cashless.specs.declared.by_profile.state.StateByProfile.{StateByProfile}
+use Rattle.mdb_follow.proofs.Words.{refl, ◌≡◌, List, [], ◌∷◌, Option, Some, None, IsSomeAnd}
+use Rattle.mdb_follow.proofs.Words.{same_Some, Act, Gains, Machine, StateByProfile, Choices}
+use Rattle.mdb_follow.proofs.Words.{Follows, Sums}
 use Rattle.mdb_cashless.specs.ByProfile.{StepOf, machine_in}
-use Rattle.mdb_follow.specs.Choosing.{Choices, Follows}
-use Rattle.mdb_follow.specs.Sums.{Sums}
 
 module _ {State : Type 0} (its_state : StateByProfile → Option State) (power_on : StateByProfile)
     (machine : Machine State) where

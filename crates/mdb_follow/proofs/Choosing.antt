@@ -1,13 +1,7 @@
 -- What is chosen of each act. Ways of machines, each with choices of its own, are ways with one
 -- list of choices.
-use Rattle.std.proofs.Common.{◌≡◌, List, [], ◌∷◌}
-use Rattle.mdb_msgs.specs.declared.command.Device.{Device}
-use Rattle.mdb_bus.specs.declared.act.Act.{Act}
-use Rattle.mdb_machine.specs.Machine.{Machine}
-use Rattle.mdb_machine.specs.Pair.{IsActOf, IsMachineOf}
-use Rattle.mdb_follow.specs.Arrivals.{Arrives}
-use Rattle.mdb_follow.specs.Choosing.{Choices, Follows}
-use Rattle.mdb_follow.specs.Sums.{Sums}
+use Rattle.mdb_follow.proofs.Words.{◌≡◌, List, [], ◌∷◌, Device, Act, Machine, IsActOf, IsMachineOf}
+use Rattle.mdb_follow.proofs.Words.{Arrives, Choices, Follows, Sums}
 use Rattle.mdb_follow.proofs.Machines.{elsewhere_as, same_choice, whose}
 
 module _ {State : Type 0} (machine : Machine State) where

@@ -1,14 +1,9 @@
 -- However rows are cut into slices, the same is told of them.
-use Rattle.std.proofs.Common.{sym, ap, refl, ◌∙◌, ◌≡◌, ◌⊎◌, inl, inr}
-use Rattle.std.proofs.Common.{List, [], ◌∷◌, ◌++◌, append_assoc, append-nil, Result, Ok, Err}
-use Rattle.mdb_words.specs.declared.event.Event.{Event}
-use Rattle.mdb_follow.specs.declared.offence.Offence.{Offence}
-use Rattle.mdb_follow.specs.declared.report.Report.{Report}
-use Rattle.mdb_follow.specs.FirstOffences.{HasOffence}
-use Rattle.mdb_follow.specs.Report.{IsReport}
+use Rattle.mdb_follow.proofs.Words.{sym, ap, refl, ◌∙◌, ◌≡◌, ◌⊎◌, inl, inr, List, [], ◌∷◌, ◌++◌}
+use Rattle.mdb_follow.proofs.Words.{append_assoc, append-nil, Result, Ok, Err, Event, Offence}
+use Rattle.mdb_follow.proofs.Words.{Report, HasOffence, IsReport, Scope}
 use Rattle.mdb_follow.specs.Slices.{AnswersRows, AnswersInSlices, joined}
 use Rattle.mdb_follow.proofs.Slices.{Fronts, Longer, later}
-use Rattle.mdb_bus.specs.declared.scope.Scope.{Scope}
 
 -- a place in rows after a slice of them: what stands between the slice and the place
 record After (slice more front : List Event) (row : Event) (rest : List Event) : Type 0 where

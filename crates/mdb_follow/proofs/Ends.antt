@@ -1,21 +1,12 @@
 -- Ranges of sums of one kind and another, and of sums that a step added to.
-use Rattle.std.proofs.Common.{◌≡◌, ◌⊎◌, inl, inr, ℕ, ◌+◌, ◌≤◌, ◌<◌, ◌^◌, refl, sym, ◌∙◌, ap, arith}
-use Rattle.std.specs.Prelude.{ℤ, pos, neg_ℤ, ◌+ℤ◌, ◌-ℤ◌, ◌≤ℤ◌}
+use Rattle.mdb_follow.proofs.Words
+use Words.{◌≡◌, ◌⊎◌, inl, inr, ℕ, ◌+◌, ◌≤◌, ◌<◌, ◌^◌, refl, sym, ◌∙◌, ap, arith, ℤ, pos, neg_ℤ}
+use Words.{◌+ℤ◌, ◌-ℤ◌, ◌≤ℤ◌, ints, clamps, Gains, IsSmall, Range, Account, Cell, at_slot, small_at}
+use Words.{joined_cell, IsCell, moved_cell, IsAccountWithin, IsCellWithin, IsRangeWithin, IsRange}
+use Words.{no_account, IsAccount, AccountSums, Sums, added, no_range}
 use Rattle.std.specs.Int.{int_max, int_min}
-use Rattle.std.proofs.lemmas.Int.{ints, clamps}
-use Rattle.mdb_machine.specs.declared.gains.Gains.{Gains}
-use Rattle.mdb_machine.specs.SmallGains.{IsSmall}
-use Rattle.mdb_follow.specs.declared.range.Range.{Range}
-use Rattle.mdb_follow.specs.declared.account.Account.{Account}
-use Rattle.mdb_follow.specs.declared.cell.Cell.{Cell}
-use Rattle.mdb_machine.proofs.Slots.{at_slot, small_at}
-use Rattle.mdb_follow.specs.Cells.{joined_cell, joined_range, joined_slot, IsCell}
-use Rattle.mdb_follow.specs.Cells.{moved_account, moved_cell, moved_range, moved_slot}
-use Rattle.mdb_follow.specs.Limits.{IsAccountWithin, IsCellWithin, IsRangeWithin}
-use Rattle.mdb_follow.specs.Ranges.{IsRange, no_account}
-use Rattle.mdb_follow.specs.AccountRanges.{IsAccount}
-use Rattle.mdb_follow.specs.Sums.{AccountSums, Sums, added}
-use Rattle.mdb_follow.specs.Ranges.{no_range}
+use Rattle.mdb_follow.specs.Cells.{joined_range, joined_slot}
+use Rattle.mdb_follow.specs.Cells.{moved_account, moved_range, moved_slot}
 
 -- sums of a kind, with the gains of a step
 pub record Moved (Kind : Sums → Type 0) (gains : Gains) (sums : Sums) : Type 0 where

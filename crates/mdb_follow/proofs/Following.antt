@@ -1,71 +1,37 @@
 -- What a follower that stands for events goes on to, and what it answers.
-use Rattle.std.proofs.Common.{refl, sym, ap, subst, ◌∙◌, ◌≡◌, inl, inr, ℕ, ◌+◌, List}
-use Rattle.std.proofs.Common.{[], ◌∷◌, ◌++◌, length, length-append, ◌<◌, ◌≤◌, take, drop, get_or}
-use Rattle.std.proofs.Common.{append_assoc, add-one, arith, map, Option, Some, None}
-use Rattle.std.proofs.lemmas.List.{take_all, take_more}
+use Rattle.mdb_follow.proofs.Words
+use Words.{refl, sym, ap, subst, ◌∙◌, ◌≡◌, inl, inr, ℕ, ◌+◌, List, [], ◌∷◌, ◌++◌, length, ◌<◌, ◌≤◌}
+use Words.{take, get_or, append_assoc, add-one, arith, map, Option, Some, None, take_all, take_more}
+use Words.{OnTrue, Bool, true, false, Result, Ok, Err, IfErr, IfOk, IsErrAnd, IsSomeAnd, Event}
+use Words.{Device, First, Second, Act, Blame, LinkFault, Rule, ArePieces, IsActList, Piece, Whole}
+use Words.{acts_of, events_of, piece_events, HasActList, act_in, GoesOn, IsLinkFault, profile_of}
+use Words.{Profile, Beginning, SLOTS, AccountName, ALL, Cell, Offence, Report, account_by, IsCell}
+use Words.{slot_account, counted_with, HasTakenRows, IsAccountWithin, IsCellWithin, IsAccount, Sums}
+use Words.{ArrivesAnywhere, EachArrives, IsOffence, NoStep, rule_of, HasOffence, AreAccounts}
+use Words.{IsReport, report_of, Account, AllSums, IsReached, Run, Arrives, IsCell, slot_account}
+use Words.{machine_of, AreSides, asks_of, AreStanding, SidesStay, Scope, IfOk-weaker}
+use Rattle.std.proofs.Common.{length-append, drop}
 use Rattle.std.proofs.Math.Seq.{split_at, take-append-add}
-use Rattle.std.specs.Bool.{OnTrue}
-use Rattle.std.specs.Prelude.{Bool, true, false, Result, Ok, Err, IfErr, IfOk, IsErrAnd, IsSomeAnd}
-use Rattle.mdb_words.specs.declared.event.Event.{Event}
-use Rattle.mdb_msgs.specs.declared.command.Device.{Device}
 use Rattle.mdb_msgs.specs.declared.command.Device.TheVariants as devices
-use Rattle.mdb_msgs.specs.declared.command.ReaderUnit.TheVariants.{First, Second}
-use Rattle.mdb_bus.specs.declared.act.Act.{Act}
 use Rattle.mdb_bus.specs.declared.bus.Bus.{Bus}
-use Rattle.mdb_bus.specs.declared.fault.Blame.{Blame}
-use Rattle.mdb_bus.specs.declared.fault.LinkFault.{LinkFault}
-use Rattle.mdb_bus.specs.declared.fault.Rule.{Rule}
 use Rattle.mdb_bus.specs.declared.fault.Rule.TheVariants as rules
-use Rattle.mdb_bus.specs.ActLists.{ArePieces, IsActList, Piece, Whole, acts_of, events_of, piece_events}
-use Rattle.mdb_bus.specs.Pieces.{HasActList, act_in}
 use Rattle.mdb_bus.specs.Bus as link
-use Rattle.mdb_bus.specs.Bus.{GoesOn}
-use Rattle.mdb_bus.specs.LinkFaults.{IsLinkFault}
-use Rattle.mdb_bus.specs.Scopes.{profile_of}
 use Rattle.std.specs.Option.{ForSome}
 use Rattle.mdb_bus.specs.ExtendedTimes.{AreFew, counted_for, times_of, untimely_of, untimely_sender, with_sender}
-use Rattle.mdb_bus.specs.declared.scope.Profile.{Profile}
 use Rattle.mdb_bus.specs.declared.scope.Profile.TheVariants.{Base, Extended}
 use Rattle.mdb_bus.specs.declared.untimely.Untimely.{Untimely}
-use Rattle.mdb_bus.specs.declared.scope.Beginning.{Beginning}
-use Rattle.mdb_machine.specs.declared.gains.TheConstants.{SLOTS}
-use Rattle.mdb_follow.specs.declared.account_name.AccountName.{AccountName}
-use Rattle.mdb_follow.specs.declared.account_name.TheConstants.AccountName.{ALL}
-use Rattle.mdb_follow.specs.declared.cell.Cell.{Cell}
 use Rattle.mdb_follow.specs.declared.follower.Follower.{Follower}
-use Rattle.mdb_follow.specs.declared.offence.Offence.{Offence}
-use Rattle.mdb_follow.specs.declared.report.Report.{Report}
 use Rattle.mdb_follow.specs.AccountNames.{account_device, account_in, account_slot}
-use Rattle.mdb_follow.specs.Cells.{account_by, IsCell, slot_account}
-use Rattle.mdb_follow.specs.Counted.{counted_with}
 use Rattle.mdb_follow.specs.EndedActs.{IsEndedAct}
-use Rattle.mdb_follow.specs.Feeding.{HasTakenRows}
 use Rattle.mdb_follow.specs.Follower.{HasAccepted, StandsFor, is_late, rows_of, scope_of}
 use Rattle.mdb_follow.specs.Sales.{SalesFollowApprovals}
 use Rattle.mdb_follow.specs.inner.FollowerSteps.{HasFollowedAct, HasStopped}
-use Rattle.mdb_follow.specs.Limits.{IsAccountWithin, IsCellWithin}
-use Rattle.mdb_follow.specs.AccountRanges.{IsAccount}
-use Rattle.mdb_follow.specs.Sums.{Sums}
-use Rattle.mdb_follow.specs.Tables.{ArrivesAnywhere, EachArrives}
-use Rattle.mdb_follow.specs.Offences.{IsOffence, NoStep, rule_of}
-use Rattle.mdb_follow.specs.FirstOffences.{HasOffence}
-use Rattle.mdb_follow.specs.Report.{AreAccounts, IsReport, report_of}
-use Rattle.mdb_follow.specs.declared.account.Account.{Account}
-use Rattle.mdb_follow.specs.Runs.{AllSums, IsReached, Run}
-use Rattle.mdb_follow.specs.Arrivals.{Arrives}
-use Rattle.mdb_follow.specs.Cells.{IsCell, slot_account}
-use Rattle.mdb_follow.specs.Machines.{machine_of}
-use Rattle.mdb_follow.specs.Sides.{AreSides}
-use Rattle.mdb_follow.specs.Silences.{asks_of}
-use Rattle.mdb_follow.specs.inner.SideSteps.{AreStanding, SidesStay}
 use Rattle.mdb_follow.proofs.Accounts.{listed, slot-below}
 use Rattle.mdb_follow.proofs.Asks.{asks-go-on, asks-stay}
 use Rattle.mdb_follow.proofs.Machines.{with_one, with_one-same}
 use Rattle.mdb_follow.proofs.Reaching.{Joins, SomeArrive, SomeWay, run_of}
 use Rattle.mdb_follow.proofs.Joining.{split}
 use Rattle.mdb_follow.proofs.Sided.{by-stay}
-use Rattle.mdb_bus.specs.declared.scope.Scope.{Scope}
-use Rattle.std.proofs.lemmas.Result.{IfOk-weaker}
 use Rattle.mdb_follow.proofs.Ends.{account-moves}
 use Rattle.mdb_follow.specs.inner.FollowerSteps.{IsLike}
 

@@ -1,23 +1,15 @@
 -- Ways of each device, and of all.
-use Rattle.std.proofs.Common.{arith, refl, sym, ap, ◌∙◌, ◌≡◌, ◌↔◌, ◌<◌, cond, nat_eq, ℕ}
-use Rattle.std.proofs.Common.{Bool, true, false, List, [], ◌∷◌, length, length-append}
-use Rattle.std.proofs.lemmas.Bool.Decides.{nat_tests}
-use Rattle.mdb_msgs.specs.declared.command.Device.{Device}
-use Rattle.mdb_bus.specs.ActLists.{ArePieces, Piece, Whole, acts_of, events_of, piece_events}
+use Rattle.mdb_follow.proofs.Words
+use Words.{arith, refl, sym, ap, ◌∙◌, ◌≡◌, ◌↔◌, ◌<◌, cond, nat_eq, ℕ, Bool, true, false, List, []}
+use Words.{◌∷◌, length, nat_tests, Device, ArePieces, Piece, Whole, acts_of, events_of}
+use Words.{piece_events, IsHeard, Loss, LossFits, Beginning, Choice, Lost, EachArrives, machine_of}
+use Words.{AllSums, IsWay, States, AllFollow, Choices, choices_of, Scope}
+use Rattle.std.proofs.Common.{length-append}
 use Rattle.mdb_bus.specs.Acts.{IsAck}
 use Rattle.mdb_bus.specs.Wish.{HearsAsWished}
-use Rattle.mdb_bus.specs.Loss.{IsHeard, Loss, LossFits}
-use Rattle.mdb_bus.specs.declared.scope.Beginning.{Beginning}
-use Rattle.mdb_machine.specs.declared.choice.Choice.{Choice}
-use Rattle.mdb_machine.specs.declared.choice.Choice.TheVariants.{Lost}
-use Rattle.mdb_follow.specs.Tables.{EachArrives}
-use Rattle.mdb_follow.specs.Machines.{machine_of}
-use Rattle.mdb_follow.specs.Runs.{AllSums, IsWay, States}
 use Rattle.mdb_follow.specs.SameAcks.{HearSameAcks}
-use Rattle.mdb_follow.specs.Choosing.{AllFollow, Choices, choices_of}
 use Rattle.mdb_follow.proofs.Choosing.{arrives, chosen, follows_as, merged, merged_agrees}
 use Rattle.mdb_follow.proofs.Machines.{is_machine_of}
-use Rattle.mdb_bus.specs.declared.scope.Scope.{Scope}
 
 -- one of two, by whether two numbers are the same
 pick_same : (n : ℕ) (same apart : Bool) → cond (nat_eq n n) same apart ≡ same

@@ -1,21 +1,12 @@
 -- What is kept of silences goes on as the lists of asks do: of one device, and of each.
-use Rattle.std.proofs.Common.{sym, inl, inr, ◌∙◌, ◌≡◌, ◌+◌, ◌≤◌, ℕ, List}
-use Rattle.std.proofs.Common.{arith, length, set, get_or}
-use Rattle.std.specs.Prelude.{if◌then◌else◌}
-use Rattle.std.proofs.lemmas.Bool.{false_from_ne_true}
+use Rattle.mdb_follow.proofs.Words.{sym, inl, inr, ◌∙◌, ◌≡◌, ◌+◌, ◌≤◌, ℕ, List, arith, length, set}
+use Rattle.mdb_follow.proofs.Words.{get_or, if◌then◌else◌, false_from_ne_true, Device, same_device}
+use Rattle.mdb_follow.proofs.Words.{is_one, says, Silence, Silences, Nothing, device_place}
+use Rattle.mdb_follow.proofs.Words.{TimedAsk, no_counts, AreAtMost, silence_in, SilenceGoesOn}
 use Rattle.std.proofs.lemmas.Grind.{get_or-set_at}
 use Rattle.std.proofs.lemmas.List.{get_or-set_other}
-use Rattle.mdb_msgs.specs.declared.command.Device.{Device}
-use Rattle.mdb_msgs.specs.Devices.{same_device}
-use Rattle.mdb_msgs.specs.shared.SameDevices.{is_one, says}
 use Rattle.mdb_follow.specs.declared.silence.AskCounts.{AskCounts}
-use Rattle.mdb_follow.specs.declared.silence.Silence.{Silence}
-use Rattle.mdb_follow.specs.declared.silence.Silences.{Silences}
-use Rattle.mdb_follow.specs.declared.silence.Unanswered.TheVariants.{Nothing}
-use Rattle.mdb_follow.specs.ReportedDevices.{device_place}
-use Rattle.mdb_follow.specs.Silences.{TimedAsk, no_counts}
-use Rattle.mdb_follow.specs.SilencesKept.{AreAtMost, silence_in}
-use Rattle.mdb_follow.specs.SilenceSteps.{AllGoOn, SilenceGoesOn, OneGoesOn}
+use Rattle.mdb_follow.specs.SilenceSteps.{AllGoOn, OneGoesOn}
 use Rattle.mdb_follow.proofs.ByDevice.{below, one_place, same_or_not}
 
 -- what stands for that of a device that a list lacks; silences lack none

@@ -1,25 +1,13 @@
 -- Runs where further devices are left out.
-use Rattle.std.proofs.Common.{refl, sym, ◌∙◌, ◌≡◌, Bool, true, false, List}
-use Rattle.mdb_words.specs.declared.event.Event.{Event}
-use Rattle.mdb_msgs.specs.declared.command.Device.{Device}
-use Rattle.mdb_msgs.specs.DeviceSets.{has}
-use Rattle.mdb_bus.specs.declared.act.Act.{Act}
-use Rattle.mdb_bus.specs.declared.scope.Beginning.{Beginning}
-use Rattle.mdb_bus.specs.declared.scope.Scope.{Scope}
-use Rattle.mdb_bus.specs.ActLists.{ArePieces, IsActList, Piece, acts_of}
-use Rattle.mdb_bus.specs.LeavingOut.{LeavesOutMore, acts_with, breaks_among, leave_out, IsLeftOut}
-use Rattle.mdb_bus.specs.Scopes.{IsFollowed}
-use Rattle.mdb_follow.specs.Arrivals.{Arrives}
-use Rattle.mdb_follow.specs.Tables.{EachArrives}
-use Rattle.mdb_follow.specs.LeavingOut.{AreSumsWithout}
-use Rattle.mdb_follow.specs.Machines.{StateOf, machine_of}
-use Rattle.mdb_follow.specs.Runs.{AllSums, IsReached, Run}
-use Rattle.mdb_follow.specs.Sums.{Sums, no_sums}
+use Rattle.mdb_follow.proofs.Words
+use Words.{refl, sym, ◌∙◌, ◌≡◌, Bool, true, false, List, Event, Device, has, Act, Beginning, Scope}
+use Words.{ArePieces, IsActList, Piece, acts_of, LeavesOutMore, acts_with, breaks_among, leave_out}
+use Words.{IsLeftOut, IsFollowed, Arrives, EachArrives, AreSumsWithout, StateOf, machine_of}
+use Words.{AllSums, IsReached, Run, Sums, no_sums, Machine}
 use Rattle.mdb_follow.proofs.Joining.{split}
 use Rattle.mdb_follow.proofs.Machines.{is_machine_of}
 use Rattle.mdb_follow.proofs.OwnWays.{OwnActs, adds_nothing, first_of, some_way, ways_alike}
 use Rattle.mdb_follow.proofs.Reaching.{Joins, SomeWay, run_of, some_of}
-use Rattle.mdb_machine.specs.Machine.{Machine}
 
 -- what the crates below say of leaving out further devices
 pub record WithoutLaws : Type 0 where

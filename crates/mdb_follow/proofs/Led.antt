@@ -1,18 +1,10 @@
 -- What the steps from all entries lead to.
-use Rattle.std.proofs.Common.{◌≡◌, ◌⊎◌, inl, inr, ℕ, ◌+◌, ◌<◌, ◌^◌, sym, ap, subst, List, [], ◌∷◌}
-use Rattle.std.proofs.Common.{◌++◌, refl, length, get_or, take}
-use Rattle.std.specs.Prelude.{Contains, All, ◌↔◌}
-use Rattle.std.proofs.lemmas.List.Elements.{All-head, All-tail, Contains-append_left}
-use Rattle.std.proofs.lemmas.List.Elements.{Contains-get_or, Contains-push, Contains-push_cases}
-use Rattle.std.proofs.lemmas.List.{take_more}
-use Rattle.mdb_machine.specs.declared.gains.Gains.{Gains}
-use Rattle.mdb_machine.specs.SmallGains.{IsSmall}
-use Rattle.mdb_follow.specs.declared.cell.Cell.{Cell}
-use Rattle.mdb_follow.specs.Cells.{moved_cell, IsCell}
-use Rattle.mdb_follow.specs.Limits.{IsCellWithin, IsTableWithin}
-use Rattle.mdb_follow.specs.Sums.{Sums}
-use Rattle.mdb_follow.specs.Tables.{Bounds}
-use Rattle.mdb_follow.specs.inner.Entries.{AreApart, IsKeyed, with_cell, with_moves}
+use Rattle.mdb_follow.proofs.Words.{◌≡◌, ◌⊎◌, inl, inr, ℕ, ◌+◌, ◌<◌, ◌^◌, sym, ap, subst, List, []}
+use Rattle.mdb_follow.proofs.Words.{◌∷◌, ◌++◌, refl, length, get_or, take, Contains, All, ◌↔◌}
+use Rattle.mdb_follow.proofs.Words.{All-head, All-tail, Contains-append_left, Contains-get_or}
+use Rattle.mdb_follow.proofs.Words.{Contains-push, Contains-push_cases, take_more, Gains, IsSmall}
+use Rattle.mdb_follow.proofs.Words.{Cell, moved_cell, IsCell, IsCellWithin, IsTableWithin, Sums}
+use Rattle.mdb_follow.proofs.Words.{Bounds, AreApart, IsKeyed, with_cell, with_moves}
 use Rattle.mdb_follow.proofs.Ends.{Moved, cell-moved, cell-moved-within}
 use Rattle.mdb_follow.proofs.Listed.{bounds-same, bounds-with_cell, contains-cases, contains-here}
 use Rattle.mdb_follow.proofs.Listed.{contains-none, contains-there, keyed-with_cell}

@@ -30,3 +30,4 @@ pub mod Told
 pub mod TwoSteps
 pub mod Ways
 pub mod Within
+mod Words

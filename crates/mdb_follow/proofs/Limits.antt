@@ -1,10 +1,6 @@
 -- How far from 0 the ends of a table are.
-use Rattle.std.proofs.Common.{ℕ, ◌≤◌, List, [], ◌∷◌, get_or}
-use Rattle.std.proofs.lemmas.List.Elements.{All-head, All-tail}
-use Rattle.mdb_follow.specs.declared.cell.Cell.{Cell}
-use Rattle.mdb_follow.specs.Cells.{joined_cell}
-use Rattle.mdb_follow.specs.Limits.{IsCellWithin, IsTableWithin}
-use Rattle.mdb_follow.specs.inner.Entries.{joined_cells}
+use Rattle.mdb_follow.proofs.Words.{ℕ, ◌≤◌, List, [], ◌∷◌, get_or, All-head, All-tail, Cell}
+use Rattle.mdb_follow.proofs.Words.{joined_cell, IsCellWithin, IsTableWithin, joined_cells}
 use Rattle.mdb_follow.proofs.Ends.{cell-joined-within, cell-within-weaker}
 
 pub table-within-weaker : (limit more : ℕ) (entries : List (ℕ × Cell)) → limit ≤ more

@@ -1,22 +1,14 @@
 -- Lists, and the entries of a table as one: what a cell more makes of them.
-use Rattle.std.proofs.Common.{◌≡◌, ◌⊎◌, inl, inr, ℕ, zero, suc, ◌≤◌, ◌<◌, refl, sym, ◌∙◌, ap, subst}
-use Rattle.std.proofs.Common.{arith, Bool, true, false, List, [], ◌∷◌, ◌++◌, length, get_or, take}
-use Rattle.std.proofs.Common.{eqb, map}
-use Rattle.std.proofs.lemmas.List.{length-map}
-use Rattle.std.specs.Prelude.{Contains, All, slice_set, ◌==◌, if◌then◌else◌}
-use Rattle.std.specs.List.{IsDistinct, AllByRecursion, list_any}
-use Rattle.std.proofs.lemmas.List.Elements.{All-cons, All-head, All-tail}
-use Rattle.std.proofs.lemmas.Bool.{eqb-true, eq-eqb, false≢true}
-use Rattle.std.proofs.lemmas.Bool.Decides.{nat_tests}
+use Rattle.mdb_follow.proofs.Words
+use Words.{◌≡◌, ◌⊎◌, inl, inr, ℕ, zero, suc, ◌≤◌, ◌<◌, refl, sym, ◌∙◌, ap, subst, arith, Bool, true}
+use Words.{false, List, [], ◌∷◌, ◌++◌, length, get_or, take, eqb, map, length-map, Contains, All}
+use Words.{slice_set, ◌==◌, if◌then◌else◌, AllByRecursion, All-cons, All-head, All-tail, false≢true}
+use Words.{nat_tests, Cell, joined_cell, IsCell, IsCellWithin, IsTableWithin, Sums, Bounds}
+use Words.{AreApart, AreBelow, IsKeyed, Lacks, with_cell, cases_eq, false_from_ne_true}
+use Rattle.std.specs.List.{IsDistinct, list_any}
+use Rattle.std.proofs.lemmas.Bool.{eqb-true, eq-eqb}
 use Rattle.std.proofs.lemmas.Map.Steps.{length-le_from_distinct_below}
-use Rattle.mdb_follow.specs.declared.cell.Cell.{Cell}
-use Rattle.mdb_follow.specs.Cells.{joined_cell, IsCell}
-use Rattle.mdb_follow.specs.Limits.{IsCellWithin, IsTableWithin}
-use Rattle.mdb_follow.specs.Sums.{Sums}
-use Rattle.mdb_follow.specs.Tables.{Bounds}
-use Rattle.mdb_follow.specs.inner.Entries.{AreApart, AreBelow, IsKeyed, Lacks, with_cell}
 use Rattle.mdb_follow.proofs.Ends.{cell-joined, cell-joined-within, cell-same}
-use Rattle.std.proofs.lemmas.Bool.{cases_eq, false_from_ne_true}
 
 pub contains-cases : {X : Type 0} (x : X) (xs : List X) (y : X) → Contains (x ∷ xs) y
     → (x ≡ y) ⊎ Contains xs y

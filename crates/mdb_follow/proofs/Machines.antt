@@ -1,27 +1,13 @@
 -- The machines that are followed: what joining needs of each.
-use Rattle.std.proofs.Common.{refl, sym, ap, ◌∙◌, ◌≡◌, ◌⊎◌, inl, inr, ℕ, List, Option, Some, None, unwrap_or}
-use Rattle.std.proofs.lemmas.Option.{same_Some}
-use Rattle.mdb_msgs.specs.declared.command.Device.{Device}
+use Rattle.mdb_follow.proofs.Words
+use Words.{refl, sym, ap, ◌∙◌, ◌≡◌, ◌⊎◌, inl, inr, ℕ, List, Option, Some, None, unwrap_or}
+use Words.{same_Some, Device, First, Second, Act, Beginning, device_in, Choice, Plain, Again, Gains}
+use Words.{CanStand, no_gains, Machine, IsActOf, IsMachineOf, Arrives, machine_of, HasNoStep, Sums}
 use Rattle.mdb_msgs.specs.declared.command.Device.TheVariants as devices
-use Rattle.mdb_msgs.specs.declared.command.ReaderUnit.TheVariants.{First, Second}
-use Rattle.mdb_bus.specs.declared.act.Act.{Act}
 use Rattle.mdb_bus.specs.declared.act.Act.TheVariants as kinds
-use Rattle.mdb_bus.specs.declared.scope.Beginning.{Beginning}
-use Rattle.mdb_bus.specs.LeavingOut.{device_in}
-use Rattle.mdb_machine.specs.declared.choice.Choice.{Choice}
-use Rattle.mdb_machine.specs.declared.choice.Choice.TheVariants.{Plain, Again}
-use Rattle.mdb_machine.specs.declared.gains.Gains.{Gains}
 use Rattle.mdb_cash.specs.shared.BillWays as bill_ways
 use Rattle.mdb_cash.specs.shared.ChangerWays as changer_ways
-use Rattle.mdb_machine.specs.Choices.{CanStand}
-use Rattle.mdb_machine.specs.Gains.{no_gains}
-use Rattle.mdb_machine.specs.Machine.{Machine}
-use Rattle.mdb_machine.specs.Pair.{IsActOf, IsMachineOf}
 use Rattle.mdb_cashless.specs.shared.ByProfileWays as reader_ways
-use Rattle.mdb_follow.specs.Arrivals.{Arrives}
-use Rattle.mdb_follow.specs.Machines.{machine_of}
-use Rattle.mdb_follow.specs.Offences.{HasNoStep}
-use Rattle.mdb_follow.specs.Sums.{Sums}
 use Rattle.mdb_follow.proofs.ByDevice.{same_or_not}
 
 -- each device has a machine of its own

@@ -1,38 +1,17 @@
 -- Rows have one report, and a row has one offence.
-use Rattle.std.proofs.Common.{ap, arith, sym, subst, ◌∙◌, ◌≡◌, ◌⊎◌, inl, inr, ℕ, ℤ, ◌≤ℤ◌}
-use Rattle.std.proofs.Common.{List, [], ◌∷◌, ◌++◌, append_assoc, append-nil, length, map, Option}
-use Rattle.std.proofs.Common.{Some, None}
-use Rattle.std.proofs.lemmas.Int.{ints}
-use Rattle.mdb_words.specs.declared.event.Event.{Event}
-use Rattle.mdb_bus.specs.declared.act.Act.{Act}
-use Rattle.mdb_bus.specs.declared.fault.Blame.{Blame}
-use Rattle.mdb_bus.specs.declared.fault.Rule.{Rule}
-use Rattle.mdb_bus.specs.ActLists.{ArePieces, Piece, Whole, acts_of}
-use Rattle.mdb_bus.specs.Pieces.{HasActList, with_act}
-use Rattle.mdb_bus.specs.ActLists.{events_of}
-use Rattle.mdb_bus.specs.LinkFaults.{IsLinkFault, RowBreaks, situation_of}
-use Rattle.mdb_bus.specs.declared.scope.Beginning.{Beginning}
-use Rattle.mdb_follow.specs.declared.account_name.AccountName.{AccountName}
-use Rattle.mdb_follow.specs.declared.account_name.TheConstants.AccountName.{ALL}
-use Rattle.mdb_follow.specs.declared.account.Account.{Account}
-use Rattle.mdb_follow.specs.declared.offence.Offence.{Offence}
-use Rattle.mdb_follow.specs.declared.range.Range.{Range}
-use Rattle.mdb_follow.specs.declared.report.Report.{Report}
+use Rattle.mdb_follow.proofs.Words
+use Words.{ap, arith, sym, subst, ◌∙◌, ◌≡◌, ◌⊎◌, inl, inr, ℕ, ℤ, ◌≤ℤ◌, List, [], ◌∷◌, ◌++◌}
+use Words.{append_assoc, append-nil, length, map, Option, Some, None, ints, Event, Act, Blame, Rule}
+use Words.{ArePieces, Piece, Whole, acts_of, HasActList, with_act, events_of, IsLinkFault}
+use Words.{RowBreaks, situation_of, Beginning, AccountName, ALL, Account, Offence, Range, Report}
+use Words.{IsRange, IsAccount, AccountSums, IsOffence, LinkFault, AreAccounts, IsReport, report_of}
+use Words.{AllSums, IsReached, Run, machine_of, NoStep, rule_of, Scope}
 use Rattle.mdb_follow.specs.AccountNames.{account_of, sums_of}
-use Rattle.mdb_follow.specs.Ranges.{IsRange}
-use Rattle.mdb_follow.specs.AccountRanges.{IsAccount}
-use Rattle.mdb_follow.specs.Sums.{AccountSums}
-use Rattle.mdb_follow.specs.Offences.{BreaksLink, BreaksMachine, IsOffence, act_fault}
-use Rattle.mdb_bus.specs.declared.fault.LinkFault.{LinkFault}
-use Rattle.mdb_follow.specs.Report.{AreAccounts, IsReport, report_of}
-use Rattle.mdb_follow.specs.Runs.{AllSums, IsReached, Run}
-use Rattle.mdb_follow.specs.Machines.{machine_of}
-use Rattle.mdb_follow.specs.Offences.{NoStep, rule_of}
+use Rattle.mdb_follow.specs.Offences.{BreaksLink, BreaksMachine, act_fault}
 use Rattle.mdb_follow.proofs.Accounts.{listed}
 use Rattle.mdb_follow.proofs.Following.{OneActList}
 use Rattle.mdb_follow.proofs.Machines.{is_machine_of, whose, whose_none}
 use Rattle.mdb_follow.proofs.Reaching.{GoOnRowByRow, SomeArrive, before_last, some_of}
-use Rattle.mdb_bus.specs.declared.scope.Scope.{Scope}
 
 -- two ends that lie within each other are one
 pub one-end : (a b : ℤ) → a ≤ℤ b → b ≤ℤ a → a ≡ b

@@ -1,20 +1,13 @@
 -- What is known of any device, and the amounts of it without a value, by what is known of each.
-use Rattle.std.proofs.Common.{refl, ◌≡◌, ℕ, List, [], None, All}
-use Rattle.mdb_msgs.specs.declared.command.Device.{Device}
+use Rattle.mdb_follow.proofs.Words.{refl, ◌≡◌, ℕ, List, [], None, All, Device, ReaderUnit, Act}
+use Rattle.mdb_follow.proofs.Words.{Beginning, PowerOn, Joined, IsBreak, own_acts, profile_of}
+use Rattle.mdb_follow.proofs.Words.{IsNotKnown, decimals_of}
 use Rattle.mdb_msgs.specs.declared.command.Device.TheVariants as devices
-use Rattle.mdb_msgs.specs.declared.command.ReaderUnit.{ReaderUnit}
-use Rattle.mdb_bus.specs.declared.act.Act.{Act}
-use Rattle.mdb_bus.specs.declared.scope.Beginning.{Beginning}
-use Rattle.mdb_bus.specs.declared.scope.Beginning.TheVariants.{PowerOn, Joined}
 use Rattle.mdb_bus.specs.declared.scope.Profile.TheVariants as profiles
 use Rattle.mdb_cash.specs.BillFacts as bill_facts
 use Rattle.mdb_cash.specs.ChangerFacts as changer_facts
-use Rattle.mdb_machine.specs.Pair.{IsBreak, own_acts}
-use Rattle.mdb_bus.specs.Scopes.{profile_of}
 use Rattle.mdb_cashless.specs.ByProfileFacts.{config_of, facts_of, unvalued}
 use Rattle.mdb_cashless.specs.shared.ByProfileWays.{of_each}
-use Rattle.mdb_follow.specs.LeavingOut.{IsNotKnown}
-use Rattle.mdb_follow.specs.Report.{decimals_of}
 
 -- what holds of each device, the readers together, holds of any
 pub any_device : (P : Device → Type 0) → P devices.Changer → P devices.Bill

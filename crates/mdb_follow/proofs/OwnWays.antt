@@ -1,16 +1,9 @@
 -- A way of a device through acts is one through its own acts among them, and the other way round.
-use Rattle.std.proofs.Common.{ap, refl, sym, ◌∙◌, ◌≡◌, inl, inr, List, [], ◌∷◌}
-use Rattle.std.specs.List.{AllByRecursion}
-use Rattle.mdb_msgs.specs.declared.command.Device.{Device}
-use Rattle.mdb_bus.specs.declared.act.Act.{Act}
+use Rattle.mdb_follow.proofs.Words.{ap, refl, sym, ◌∙◌, ◌≡◌, inl, inr, List, [], ◌∷◌}
+use Rattle.mdb_follow.proofs.Words.{AllByRecursion, Device, Act, breaks_among, Plain, no_gains}
+use Rattle.mdb_follow.proofs.Words.{Machine, IsActOf, IsBreak, IsMachineOf, own_acts, Arrives, Sums}
+use Rattle.mdb_follow.proofs.Words.{added, no_sums}
 use Rattle.mdb_bus.specs.declared.act.Act.TheVariants as acts
-use Rattle.mdb_bus.specs.LeavingOut.{breaks_among}
-use Rattle.mdb_machine.specs.declared.choice.Choice.TheVariants.{Plain}
-use Rattle.mdb_machine.specs.Gains.{no_gains}
-use Rattle.mdb_machine.specs.Machine.{Machine}
-use Rattle.mdb_machine.specs.Pair.{IsActOf, IsBreak, IsMachineOf, own_acts}
-use Rattle.mdb_follow.specs.Arrivals.{Arrives}
-use Rattle.mdb_follow.specs.Sums.{Sums, added, no_sums}
 use Rattle.mdb_follow.proofs.Machines.{of_or_not}
 use Rattle.mdb_follow.proofs.Ways.{no-gains}
 

@@ -1,14 +1,10 @@
 -- The places of entries, noted under their codes.
-use Rattle.std.proofs.Common.{◌≡◌, inl, inr, ℕ, zero, suc, ◌<◌, subst}
-use Rattle.std.proofs.Common.{arith, List, [], ◌∷◌, ◌++◌, length, get_or, take}
-use Rattle.std.specs.Prelude.{slice_set}
-use Rattle.std.proofs.lemmas.Bool.{cases_eq, cases_lt}
+use Rattle.mdb_follow.proofs.Words.{◌≡◌, inl, inr, ℕ, zero, suc, ◌<◌, subst, arith, List, [], ◌∷◌}
+use Rattle.mdb_follow.proofs.Words.{◌++◌, length, get_or, take, slice_set, cases_eq, cases_lt}
+use Rattle.mdb_follow.proofs.Words.{take_all, Contains-get_or, Cell, HasAt, IsPlaced, Lacks}
 use Rattle.std.proofs.lemmas.List.{get_or_append_left, get_or-set_other, get_or-set_same}
-use Rattle.std.proofs.lemmas.List.{length-append, length-set, take_all}
-use Rattle.std.proofs.lemmas.List.Elements.{Contains-get_or}
+use Rattle.std.proofs.lemmas.List.{length-append, length-set}
 use Rattle.std.proofs.Math.Seq.{get_or-append_seam}
-use Rattle.mdb_follow.specs.declared.cell.Cell.{Cell}
-use Rattle.mdb_follow.specs.inner.Entries.{HasAt, IsPlaced, Lacks}
 use Rattle.mdb_follow.proofs.Listed.{lacks-none}
 
 -- an entry that no place has

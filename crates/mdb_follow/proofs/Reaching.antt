@@ -1,20 +1,9 @@
 -- Reached rows.
-use Rattle.std.proofs.Common.{List, [], ◌∷◌, ◌++◌, Option, Some, None}
-use Rattle.mdb_words.specs.declared.event.Event.{Event}
-use Rattle.mdb_msgs.specs.declared.command.Device.{Device}
-use Rattle.mdb_bus.specs.declared.act.Act.{Act}
-use Rattle.mdb_bus.specs.ActLists.{ArePieces, IsActList, Piece, acts_of}
-use Rattle.mdb_bus.specs.Pieces.{GoesOnFrom, with_act}
-use Rattle.mdb_bus.specs.Loss.{Loss, LossFits}
-use Rattle.mdb_bus.specs.declared.scope.Beginning.{Beginning}
-use Rattle.mdb_machine.specs.Machine.{Machine}
-use Rattle.mdb_follow.specs.Arrivals.{Arrives}
-use Rattle.mdb_follow.specs.Tables.{EachArrives}
-use Rattle.mdb_follow.specs.Machines.{machine_of}
-use Rattle.mdb_follow.specs.Runs.{AllSums, IsReached, IsWay, Run, States}
-use Rattle.mdb_follow.specs.Sums.{Sums}
+use Rattle.mdb_follow.proofs.Words.{List, [], ◌∷◌, ◌++◌, Option, Some, None, Event, Device, Act}
+use Rattle.mdb_follow.proofs.Words.{ArePieces, IsActList, Piece, acts_of, GoesOnFrom, with_act}
+use Rattle.mdb_follow.proofs.Words.{Loss, LossFits, Beginning, Machine, Arrives, EachArrives}
+use Rattle.mdb_follow.proofs.Words.{machine_of, AllSums, IsReached, IsWay, Run, States, Sums, Scope}
 use Rattle.mdb_follow.proofs.Joining.{split}
-use Rattle.mdb_bus.specs.declared.scope.Scope.{Scope}
 
 -- ways of each device are together a way of all
 abbrev pub Joins : (scope : Scope) → Type 0

@@ -1,53 +1,28 @@
 -- Reports, reached rows and offences where further devices are left out.
-use Rattle.std.proofs.Common.{ap, refl, sym, ◌∙◌, ◌≡◌, inl, inr}
-use Rattle.std.proofs.Common.{Bool, true, false, ◌&&◌, if◌then◌else◌, length}
-use Rattle.std.proofs.Common.{List, [], ◌∷◌, ◌++◌, Option, Some, None, All}
+use Rattle.mdb_follow.proofs.Words
+use Words.{ap, refl, sym, ◌∙◌, ◌≡◌, inl, inr, Bool, true, false, ◌&&◌, if◌then◌else◌, length, List}
+use Words.{[], ◌∷◌, ◌++◌, Option, Some, None, All, Event, device_of, has, Device, First, Second}
+use Words.{Act, Blame, LinkFault, Rule, Beginning, Scope, ArePieces, IsActList, Piece, Whole}
+use Words.{acts_of, LeavesOutMore, acts_with, breaks_among, device_in, leave_out, IsLinkFault}
+use Words.{blame_on, IsFollowed, IsLeftOut, IsBreak, own_acts, Account, AccountName, Offence}
+use Words.{Report, reported_of, AreSumsWithout, IsNotKnown, IsOffence, no_account, IsAccount}
+use Words.{IsReport, decimals_of, device_report_of, report_of, device_facts_of, unvalued_of}
+use Words.{AllSums, IsReached, Run, no_sums, device_facts_of}
 use Rattle.std.proofs.lemmas.List.Elements.{All-from_recursion}
-use Rattle.mdb_words.specs.declared.event.Event.{Event}
-use Rattle.mdb_msgs.specs.Commands.{device_of}
-use Rattle.mdb_msgs.specs.DeviceSets.{has}
-use Rattle.mdb_msgs.specs.declared.command.Device.{Device}
 use Rattle.mdb_msgs.specs.declared.command.Device.TheVariants as devices
-use Rattle.mdb_msgs.specs.declared.command.ReaderUnit.TheVariants.{First, Second}
-use Rattle.mdb_bus.specs.declared.act.Act.{Act}
 use Rattle.mdb_bus.specs.declared.act.Act.TheVariants as acts
-use Rattle.mdb_bus.specs.declared.fault.Blame.{Blame}
 use Rattle.mdb_bus.specs.declared.fault.Blame.TheVariants as blame
-use Rattle.mdb_bus.specs.declared.fault.LinkFault.{LinkFault}
-use Rattle.mdb_bus.specs.declared.fault.Rule.{Rule}
 use Rattle.mdb_bus.specs.declared.fault.Rule.TheVariants as rules
-use Rattle.mdb_bus.specs.declared.scope.Beginning.{Beginning}
-use Rattle.mdb_bus.specs.declared.scope.Scope.{Scope}
-use Rattle.mdb_bus.specs.ActLists.{ArePieces, IsActList, Piece, Whole, acts_of}
-use Rattle.mdb_bus.specs.LeavingOut.{LeavesOutMore, acts_with, breaks_among, device_in, leave_out}
 use Rattle.mdb_bus.specs.ExtendedHaste.{haste_of, is_excused}
-use Rattle.mdb_bus.specs.LinkFaults.{IsLinkFault, blame_on}
-use Rattle.mdb_bus.specs.Scopes.{IsFollowed}
-use Rattle.mdb_bus.specs.LeavingOut.{IsLeftOut}
-use Rattle.mdb_machine.specs.Pair.{IsBreak, own_acts}
-use Rattle.mdb_follow.specs.declared.account.Account.{Account}
-use Rattle.mdb_follow.specs.declared.account_name.AccountName.{AccountName}
-use Rattle.mdb_follow.specs.declared.offence.Offence.{Offence}
-use Rattle.mdb_follow.specs.declared.report.Report.{Report}
 use Rattle.mdb_follow.specs.AccountNames.{account_device, account_of, account_slot, sums_of}
-use Rattle.mdb_follow.specs.ReportedDevices.{reported_of}
-use Rattle.mdb_follow.specs.LeavingOut.{AreSumsWithout, HasNothingLeftOut, HaveSameFollowed}
-use Rattle.mdb_follow.specs.LeavingOut.{IsNotKnown}
-use Rattle.mdb_follow.specs.Offences.{IsOffence}
-use Rattle.mdb_follow.specs.Ranges.{no_account}
-use Rattle.mdb_follow.specs.AccountRanges.{IsAccount}
-use Rattle.mdb_follow.specs.Report.{IsReport, decimals_of, device_report_of}
-use Rattle.mdb_follow.specs.Report.{report_of, device_facts_of, unvalued_of}
-use Rattle.mdb_follow.specs.Runs.{AllSums, IsReached, Run}
+use Rattle.mdb_follow.specs.LeavingOut.{HasNothingLeftOut, HaveSameFollowed}
 use Rattle.mdb_follow.specs.Senders.{sender_of}
-use Rattle.mdb_follow.specs.Sums.{no_sums}
 use Rattle.mdb_follow.proofs.Following.{OneActList}
 use Rattle.mdb_follow.proofs.OneAnswer.{named-account, one-account}
 use Rattle.mdb_follow.proofs.OwnWays.{are_breaks}
 use Rattle.mdb_follow.proofs.SilencesWithout.{NamesFollowed, counts_stay, nothing_counted}
 use Rattle.mdb_follow.proofs.Told.{device-told}
 use Rattle.mdb_follow.proofs.Ends.{account-moves, account-none}
-use Rattle.mdb_follow.specs.Report.{device_facts_of}
 
 -- breaks tell nothing of devices
 pub record BreaksTellNothing : Type 0 where

@@ -1,22 +1,17 @@
 -- That each sale in a run follows its approval.
-use Rattle.std.proofs.Common.{ap, ◌≡◌, ◌⊎◌, inl, inr, ℕ, List, [], ◌∷◌, ◌++◌}
-use Rattle.std.proofs.lemmas.List.Elements.{All-cons, All-nil}
-use Rattle.mdb_words.specs.declared.event.Event.{Event}
+use Rattle.mdb_follow.proofs.Words.{ap, ◌≡◌, ◌⊎◌, inl, inr, ℕ, List, [], ◌∷◌, ◌++◌, All-cons}
+use Rattle.mdb_follow.proofs.Words.{All-nil, Event, ReaderUnit, Act, ArePieces, Piece, Position}
+use Rattle.mdb_follow.proofs.Words.{Whole, acts_of, Gains, Choice, StateByProfile, Arrives, Sums}
+use Rattle.mdb_follow.proofs.Words.{Beginning, PowerOn, Joined, Profile, Scope, profile_of}
 use Rattle.mdb_msgs.specs.declared.command.Command.{Command}
 use Rattle.mdb_msgs.specs.declared.command.Command.TheVariants as commands
 use Rattle.mdb_msgs.specs.declared.command.Device.TheVariants as devices
 use Rattle.mdb_msgs.specs.declared.command.ReaderCommand.TheVariants as readers
-use Rattle.mdb_msgs.specs.declared.command.ReaderUnit.{ReaderUnit}
 use Rattle.mdb_msgs.specs.declared.reply.Reply.{Reply}
-use Rattle.mdb_bus.specs.declared.act.Act.{Act}
 use Rattle.mdb_bus.specs.declared.act.Act.TheVariants as acts
-use Rattle.mdb_bus.specs.ActLists.{ArePieces, Piece, Position, Whole}
-use Rattle.mdb_bus.specs.ActLists.{Replied, Returned, acts_of, first_position, position_of}
-use Rattle.mdb_machine.specs.declared.gains.Gains.{Gains}
-use Rattle.mdb_machine.specs.declared.choice.Choice.{Choice}
+use Rattle.mdb_bus.specs.ActLists.{Replied, Returned, first_position, position_of}
 use Rattle.mdb_cashless.specs.declared.reader.state.ReaderState.{ReaderState}
 use Rattle.mdb_cashless.specs.declared.approvals.state.ApprovalState.{ApprovalState}
-use Rattle.mdb_cashless.specs.declared.by_profile.state.StateByProfile.{StateByProfile}
 use Rattle.mdb_cashless.specs.declared.by_profile.state.StateByProfile.TheVariants.{Base, Extended}
 use Rattle.mdb_cashless.specs.ByProfile.{base_state, by_profile, extended_state, machine_in}
 use Rattle.mdb_cashless.specs.ExtendedReader as extended
@@ -26,18 +21,11 @@ use Rattle.mdb_cashless.specs.Reader as reader
 use Rattle.mdb_cashless.specs.shared.SaleViews.{AcksLastReply, MayTellOfSale}
 use Rattle.mdb_cashless.specs.Sales.{EndsInReply, IsApproved, MayBeRequestedBefore}
 use Rattle.mdb_cashless.specs.Sales.{SalesAreApproved}
-use Rattle.mdb_follow.specs.Arrivals.{Arrives}
 use Rattle.mdb_follow.specs.Sales.{SalesFollowApprovals}
-use Rattle.mdb_follow.specs.Sums.{Sums}
 use Rattle.mdb_follow.proofs.ByProfile.{own_way}
 use Rattle.mdb_follow.proofs.Choosing.{arrives, chosen}
 use Rattle.mdb_follow.proofs.Joining.{split}
-use Rattle.mdb_bus.specs.declared.scope.Beginning.{Beginning}
-use Rattle.mdb_bus.specs.declared.scope.Beginning.TheVariants.{PowerOn, Joined}
-use Rattle.mdb_bus.specs.declared.scope.Profile.{Profile}
 use Rattle.mdb_bus.specs.declared.scope.Profile.TheVariants as profiles
-use Rattle.mdb_bus.specs.declared.scope.Scope.{Scope}
-use Rattle.mdb_bus.specs.Scopes.{profile_of}
 
 -- a reply, RET for it, or its repeat
 abbrev pub IsOfReply : Command → Reply → Act → Type 0

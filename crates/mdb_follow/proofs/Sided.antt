@@ -1,34 +1,19 @@
 -- Sides go on by an act: the side of one device, those of all, and those that have no part in it.
-use Rattle.std.proofs.Common.{◌≡◌, inl, inr, ◌+◌, ◌^◌, ◌<◌, ◌∙◌, ℕ, List, Option, ap, arith}
-use Rattle.std.proofs.Common.{get_or, refl, sym, Ok, Err, Result, ◌∷◌}
-use Rattle.std.proofs.Math.Logic.{∥∥₁_elim}
-use Rattle.std.specs.Prelude.{IfErr, IfOk, OnErr}
-use Rattle.mdb_msgs.specs.declared.command.Device.{Device}
+use Rattle.mdb_follow.proofs.Words
+use Words.{◌≡◌, inl, inr, ◌+◌, ◌^◌, ◌<◌, ◌∙◌, ℕ, List, Option, ap, arith, get_or, refl, sym, Ok}
+use Words.{Err, Result, ◌∷◌, ∥∥₁_elim, IfErr, IfOk, OnErr, Device, First, Second, Act, Rule}
+use Words.{Beginning, Plain, IsActOf, IsBreak, DEVICES, Sides, reported_of, machine_of, HasNoStep}
+use Words.{rule_of, decimals_of, unvalued_of, SideOf, side_in, stands_for, AreStanding, AreWithin}
+use Words.{FollowsOf, IsWithin, OneFollows, SidesFollow, SidesStay, SidesStop, Stops}
 use Rattle.mdb_msgs.specs.declared.command.Device.TheVariants as devices
-use Rattle.mdb_msgs.specs.declared.command.ReaderUnit.TheVariants.{First, Second}
-use Rattle.mdb_bus.specs.declared.act.Act.{Act}
 use Rattle.mdb_bus.specs.declared.act.Act.TheVariants as told
-use Rattle.mdb_bus.specs.declared.fault.Rule.{Rule}
-use Rattle.mdb_bus.specs.declared.scope.Beginning.{Beginning}
 use Rattle.mdb_cash.specs.BillValues as bill_values
 use Rattle.mdb_cash.specs.ChangerValues as changer_values
-use Rattle.mdb_machine.specs.declared.choice.Choice.TheVariants.{Plain}
-use Rattle.mdb_machine.specs.Pair.{IsActOf, IsBreak}
 use Rattle.mdb_cash.specs.shared.BillWays as bill_ways
 use Rattle.mdb_cash.specs.shared.ChangerWays as changer_ways
 use Rattle.mdb_cashless.specs.ByProfileValues as reader_values
 use Rattle.mdb_cashless.specs.shared.ByProfileWays as reader_ways
-use Rattle.mdb_follow.specs.declared.report.TheConstants.Report.{DEVICES}
-use Rattle.mdb_follow.specs.declared.sides.Sides.{Sides}
-use Rattle.mdb_follow.specs.ReportedDevices.{reported_of}
-use Rattle.mdb_follow.specs.Machines.{machine_of}
-use Rattle.mdb_follow.specs.Offences.{HasNoStep, rule_of}
-use Rattle.mdb_follow.specs.Report.{decimals_of, unvalued_of}
-use Rattle.mdb_follow.specs.Sides.{FactsOf, IsSideOf, SideOf, code_of, side_spec_of}
-use Rattle.mdb_follow.specs.Sides.{side_in, stands_for}
-use Rattle.mdb_follow.specs.inner.SideSteps.{AreStanding, AreWithin, FollowsOf}
-use Rattle.mdb_follow.specs.inner.SideSteps.{IsWithin, OneFollows, SidesFollow, SidesStay}
-use Rattle.mdb_follow.specs.inner.SideSteps.{SidesStop, Stops}
+use Rattle.mdb_follow.specs.Sides.{FactsOf, IsSideOf, code_of, side_spec_of}
 use Rattle.mdb_follow.proofs.ByDevice.{Front, front-next, same_or_not}
 use Rattle.mdb_follow.proofs.Machines.{is_machine_of}
 use Rattle.mdb_follow.proofs.Ways.{table-same}

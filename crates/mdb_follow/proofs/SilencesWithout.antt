@@ -1,25 +1,11 @@
 -- The lists of asks to a device, and its silences, where further devices are left out.
-use Rattle.std.proofs.Common.{ap, cond, refl, sym, ◌∙◌, ◌≡◌, Bool, true, false, not}
-use Rattle.std.proofs.Common.{List, [], ◌∷◌, Some}
-use Rattle.std.proofs.lemmas.List.Sums.{sum_by-cons}
-use Rattle.std.specs.List.{AllByRecursion, count_by}
-use Rattle.mdb_words.specs.declared.event.Event.{Event}
-use Rattle.mdb_msgs.specs.Commands.{device_of}
-use Rattle.mdb_msgs.specs.DeviceSets.{has}
-use Rattle.mdb_msgs.specs.Devices.{same_device}
-use Rattle.mdb_msgs.specs.declared.command.Device.{Device}
-use Rattle.mdb_msgs.specs.shared.SameDevices.{is_one}
-use Rattle.mdb_bus.specs.declared.act.Act.{Act}
+use Rattle.mdb_follow.proofs.Words
+use Words.{ap, cond, refl, sym, ◌∙◌, ◌≡◌, Bool, true, false, not, List, [], ◌∷◌, Some, sum_by-cons}
+use Words.{AllByRecursion, count_by, Event, device_of, has, same_device, Device, is_one, Act}
+use Words.{Beginning, Scope, ArePieces, Piece, Whole, acts_of, piece_events, device_in, is_left_out}
+use Words.{leave_out, with_foreign, IsLeftOut, IsFollowed, TimedAsk, asks_of, counts_of, is_silence}
+use Words.{limit_of, no_counts, false≢true, false_from_ne_true}
 use Rattle.mdb_bus.specs.declared.act.Act.TheVariants as acts
-use Rattle.mdb_bus.specs.declared.scope.Beginning.{Beginning}
-use Rattle.mdb_bus.specs.declared.scope.Scope.{Scope}
-use Rattle.mdb_bus.specs.ActLists.{ArePieces, Piece, Whole, acts_of}
-use Rattle.mdb_bus.specs.ActLists.{piece_events}
-use Rattle.mdb_bus.specs.LeavingOut.{device_in, is_left_out, leave_out, with_foreign, IsLeftOut}
-use Rattle.mdb_bus.specs.Scopes.{IsFollowed}
-use Rattle.mdb_follow.specs.Silences.{TimedAsk, asks_of, counts_of, is_silence}
-use Rattle.mdb_follow.specs.Silences.{limit_of, no_counts}
-use Rattle.std.proofs.lemmas.Bool.{false≢true, false_from_ne_true}
 
 differs : (b : Bool) → b ≡ not b → ⊥
 differs true is = cc

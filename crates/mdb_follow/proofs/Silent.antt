@@ -1,12 +1,9 @@
 -- What is kept of silences goes on with an ask that finds one unanswered.
-use Rattle.std.proofs.Common.{refl, ap, sym, ◌∙◌, ◌≡◌, ◌≢◌, ◌<◌, ◌≤◌, ◌+◌, ℕ, Bool, true}
-use Rattle.std.proofs.Common.{false, nat_lt, ◌||◌, cond, List, [], ◌∷◌, Some, arith}
+use Rattle.mdb_follow.proofs.Words.{refl, ap, sym, ◌∙◌, ◌≡◌, ◌≢◌, ◌<◌, ◌≤◌, ◌+◌, ℕ, Bool, true}
+use Rattle.mdb_follow.proofs.Words.{false, nat_lt, ◌||◌, cond, List, [], ◌∷◌, Some, arith}
+use Rattle.mdb_follow.proofs.Words.{sum_by-cons, count_by, Silence, Until, Counted, TimedAsk}
+use Rattle.mdb_follow.proofs.Words.{counts_of, first_ask, is_silence, with_ask}
 use Rattle.std.proofs.lemmas.Bool.{lt-ltb, le-ltb}
-use Rattle.std.proofs.lemmas.List.Sums.{sum_by-cons}
-use Rattle.std.specs.List.{count_by}
-use Rattle.mdb_follow.specs.declared.silence.Silence.{Silence}
-use Rattle.mdb_follow.specs.declared.silence.Unanswered.TheVariants.{Until, Counted}
-use Rattle.mdb_follow.specs.Silences.{TimedAsk, counts_of, first_ask, is_silence, with_ask}
 use Rattle.mdb_follow.specs.SilencesKept.{StandsForAsks, deadline_of}
 
 -- a list with an ask has a first one

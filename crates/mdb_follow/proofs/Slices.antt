@@ -1,12 +1,7 @@
 -- A list of rows has one offence: no two places in it end at one.
-use Rattle.std.proofs.Common.{sym, ap, refl, ◌∙◌, ◌≡◌, ◌⊎◌, inl, inr}
-use Rattle.std.proofs.Common.{List, [], ◌∷◌, ◌++◌, append_assoc}
-use Rattle.mdb_words.specs.declared.event.Event.{Event}
-use Rattle.mdb_follow.specs.declared.offence.Offence.{Offence}
-use Rattle.mdb_follow.specs.Offences.{IsOffence}
-use Rattle.mdb_follow.specs.FirstOffences.{HasOffence}
-use Rattle.mdb_follow.specs.Runs.{IsReached}
-use Rattle.mdb_bus.specs.declared.scope.Scope.{Scope}
+use Rattle.mdb_follow.proofs.Words.{sym, ap, refl, ◌∙◌, ◌≡◌, ◌⊎◌, inl, inr, List, [], ◌∷◌, ◌++◌}
+use Rattle.mdb_follow.proofs.Words.{append_assoc, Event, Offence, IsOffence, HasOffence, IsReached}
+use Rattle.mdb_follow.proofs.Words.{Scope}
 
 -- a list that goes on after a front and a row of another
 pub record Longer (front : List Event) (row : Event) (other : List Event) : Type 0 where

@@ -1,26 +1,12 @@
 -- The entries after no act: one for each state in which a machine may start.
-use Rattle.std.proofs.Common.{◌≡◌, inl, inr, ℕ, ◌+◌, ◌<◌, ◌≤◌, ◌++◌, ◌∙◌, ap, arith, length}
-use Rattle.std.proofs.Common.{get_or, length-append, refl, sym, subst, List, [], ◌∷◌}
-use Rattle.std.specs.Prelude.{Contains}
-use Rattle.std.proofs.lemmas.Int.{ints}
-use Rattle.std.proofs.lemmas.List.Elements.{All-push, Contains-append_left, Contains-push}
-use Rattle.std.proofs.lemmas.List.Elements.{Contains-push_cases}
-use Rattle.mdb_machine.specs.declared.gains.TheConstants.{SLOTS}
-use Rattle.mdb_machine.specs.Gains.{by_slot}
-use Rattle.mdb_machine.specs.Machine.{Machine}
-use Rattle.mdb_machine.proofs.Slots.{at_slot}
-use Rattle.mdb_follow.specs.declared.cell.Cell.{Cell}
-use Rattle.mdb_follow.specs.Arrivals.{Arrives}
-use Rattle.mdb_follow.specs.Ranges.{no_account}
-use Rattle.mdb_follow.specs.Cells.{IsCell, slot_account}
-use Rattle.mdb_follow.specs.Sums.{Sums, no_sums}
-use Rattle.mdb_follow.specs.Tables.{ArrivesAt, IsTable}
-use Rattle.mdb_follow.specs.inner.Entries.{AreBelow}
-use Rattle.mdb_follow.specs.Limits.{IsCellWithin, IsRangeWithin}
-use Rattle.mdb_follow.specs.Limits.{IsTableWithin}
-use Rattle.std.proofs.lemmas.Bool.{cases_lt}
+use Rattle.mdb_follow.proofs.Words
+use Words.{◌≡◌, inl, inr, ℕ, ◌+◌, ◌<◌, ◌≤◌, ◌++◌, ◌∙◌, ap, arith, length, get_or, refl, sym, subst}
+use Words.{List, [], ◌∷◌, Contains, ints, All-push, Contains-append_left, Contains-push}
+use Words.{Contains-push_cases, SLOTS, by_slot, Machine, at_slot, Cell, Arrives, no_account, IsCell}
+use Words.{slot_account, Sums, no_sums, ArrivesAt, IsTable, AreBelow, IsCellWithin, IsRangeWithin}
+use Words.{IsTableWithin, cases_lt, no_range}
+use Rattle.std.proofs.Common.{length-append}
 use Rattle.mdb_follow.proofs.Ends.{account-none}
-use Rattle.mdb_follow.specs.Ranges.{no_range}
 
 -- a cell is of no sums
 abbrev pub IsNothing : Cell → Type 0

@@ -1,21 +1,10 @@
 -- What a report tells of a device is what the act list of its rows has of it.
-use Rattle.std.proofs.Common.{ap, refl, ◌∙◌, ◌≡◌, List, get_or}
-use Rattle.std.specs.Prelude.{map}
-use Rattle.mdb_words.specs.declared.event.Event.{Event}
-use Rattle.mdb_msgs.specs.declared.command.Device.{Device}
+use Rattle.mdb_follow.proofs.Words
+use Words.{ap, refl, ◌∙◌, ◌≡◌, List, get_or, map, Event, Device, First, IsActList, Piece, acts_of}
+use Words.{Beginning, Scope, Report, DEVICES, Silences, device_place, IsReport, device_report}
+use Words.{device_report_of, device_facts_in, device_facts_of, asks_of, AllStandForAsks, silence_in}
 use Rattle.mdb_msgs.specs.declared.command.Device.TheVariants.{Reader}
-use Rattle.mdb_msgs.specs.declared.command.ReaderUnit.TheVariants.{First}
-use Rattle.mdb_bus.specs.ActLists.{IsActList, Piece, acts_of}
-use Rattle.mdb_bus.specs.declared.scope.Beginning.{Beginning}
-use Rattle.mdb_bus.specs.declared.scope.Scope.{Scope}
-use Rattle.mdb_follow.specs.declared.report.Report.{Report}
-use Rattle.mdb_follow.specs.declared.report.TheConstants.Report.{DEVICES}
 use Rattle.mdb_follow.specs.declared.report.DeviceFacts.{DeviceFacts}
-use Rattle.mdb_follow.specs.declared.silence.Silences.{Silences}
-use Rattle.mdb_follow.specs.ReportedDevices.{device_place}
-use Rattle.mdb_follow.specs.Report.{IsReport, device_report, device_report_of, device_facts_in, device_facts_of}
-use Rattle.mdb_follow.specs.Silences.{asks_of}
-use Rattle.mdb_follow.specs.SilencesKept.{AllStandForAsks, silence_in}
 use Rattle.mdb_follow.proofs.Following.{OneActList}
 use Rattle.mdb_follow.proofs.OneAnswer.{map-alike}
 

@@ -1,20 +1,9 @@
 -- The moves that two steps are.
-use Rattle.std.proofs.Common.{◌≡◌, ◌≢◌, ◌⊎◌, inl, inr, ℕ, ◌∙◌, sym, ap, subst, List, [], ◌∷◌, ◌++◌}
-use Rattle.std.proofs.Common.{Option, Some, None}
-use Rattle.std.specs.Prelude.{Contains, ◌↔◌}
-use Rattle.std.proofs.lemmas.List.Elements.{Contains-append_cases, Contains-append_left}
-use Rattle.std.proofs.lemmas.List.Elements.{Contains-append_right}
-use Rattle.std.proofs.lemmas.Option.{none-some, same_Some}
-use Rattle.mdb_msgs.specs.declared.command.Device.{Device}
-use Rattle.mdb_bus.specs.declared.act.Act.{Act}
-use Rattle.mdb_machine.specs.declared.choice.Choice.{Choice}
-use Rattle.mdb_machine.specs.declared.choice.Choice.TheVariants.{Plain}
-use Rattle.mdb_machine.specs.declared.gains.Gains.{Gains}
-use Rattle.mdb_machine.specs.Choices.{CanStand}
-use Rattle.mdb_machine.specs.Pair.{IsChosenStep, IsMove, IsOtherMove, IsStep}
-use Rattle.mdb_machine.proofs.Ways.{plain_or_not, step_as}
-use Rattle.mdb_follow.specs.declared.cell.Cell.{Cell}
-use Rattle.mdb_follow.specs.inner.Entries.{AreMoves, LeadTo, moves_of, with_moves}
+use Rattle.mdb_follow.proofs.Words
+use Words.{◌≡◌, ◌≢◌, ◌⊎◌, inl, inr, ℕ, ◌∙◌, sym, ap, subst, List, [], ◌∷◌, ◌++◌, Option, Some, None}
+use Words.{Contains, ◌↔◌, Contains-append_cases, Contains-append_left, Contains-append_right}
+use Words.{none-some, same_Some, Device, Act, Choice, Plain, Gains, CanStand, IsChosenStep, IsMove}
+use Words.{IsOtherMove, IsStep, plain_or_not, step_as, Cell, AreMoves, LeadTo, moves_of, with_moves}
 use Rattle.mdb_follow.proofs.Listed.{contains-cases, contains-here, contains-none}
 
 move-is : (step : Option (ℕ × Gains)) (move : ℕ × Gains)

@@ -1,31 +1,15 @@
 -- Ways through one act more.
-use Rattle.std.proofs.Common.{arith, ◌<◌, ◌+◌, ◌^◌, length, take, ◌≡◌, ◌⊎◌, inl, inr, ℕ}
-use Rattle.std.proofs.Common.{refl, sym, ◌∙◌, ap, subst, add-zero, List, [], ◌∷◌}
-use Rattle.std.specs.Prelude.{Contains, slice_index_or, ◌↔◌}
-use Rattle.mdb_bus.specs.declared.act.Act.{Act}
-use Rattle.mdb_machine.specs.declared.choice.Choice.{Choice}
-use Rattle.mdb_machine.specs.declared.choice.Choice.TheVariants.{Plain}
-use Rattle.mdb_machine.specs.declared.gains.Gains.{Gains}
-use Rattle.mdb_machine.specs.Gains.{no_gains}
-use Rattle.mdb_machine.specs.Pair.{IsMove}
-use Rattle.mdb_machine.specs.Machine.{Machine}
-use Rattle.mdb_machine.proofs.Slots.{none_at}
+use Rattle.mdb_follow.proofs.Words
+use Words.{arith, ◌<◌, ◌+◌, ◌^◌, length, take, ◌≡◌, ◌⊎◌, inl, inr, ℕ, refl, sym, ◌∙◌, ap, subst}
+use Words.{add-zero, List, [], ◌∷◌, Contains, slice_index_or, ◌↔◌, Act, Choice, Plain, Gains}
+use Words.{no_gains, IsMove, Machine, none_at, Cell, Arrives, joined_cell, IsCell, AccountSums}
+use Words.{Sums, added, ArrivesAnywhere, ArrivesAt, Bounds, IsTable, take_more, All-contains}
+use Words.{AllRest, IsKeyed, IsPlaced, RestsAt, joined_cells, IsTableWithin, Beginning, All-push}
 use Rattle.std.proofs.Math.Path.{fun_ext}
-use Rattle.mdb_follow.specs.declared.cell.Cell.{Cell}
-use Rattle.mdb_follow.specs.Arrivals.{Arrives}
-use Rattle.mdb_follow.specs.Cells.{joined_cell, IsCell}
-use Rattle.mdb_follow.specs.Sums.{AccountSums, Sums, added}
-use Rattle.mdb_follow.specs.Tables.{ArrivesAnywhere, ArrivesAt, Bounds, IsTable}
-use Rattle.std.proofs.lemmas.List.{take_more}
-use Rattle.std.proofs.lemmas.List.Elements.{All-contains}
-use Rattle.mdb_follow.specs.inner.Entries.{AllRest, IsKeyed, IsPlaced, RestsAt, joined_cells}
-use Rattle.mdb_follow.specs.Limits.{IsTableWithin}
-use Rattle.mdb_bus.specs.declared.scope.Beginning.{Beginning}
 use Rattle.mdb_follow.proofs.Ends.{cell-joined, cell-same}
 use Rattle.mdb_follow.proofs.Led.{Led}
 use Rattle.mdb_follow.proofs.Listed.{bounds-same, contains-cases, contains-here, contains-none}
 use Rattle.mdb_follow.proofs.Listed.{contains-there}
-use Rattle.std.proofs.lemmas.List.Elements.{All-push}
 use Rattle.mdb_follow.proofs.Led.{from_entry}
 
 -- no gains add nothing

@@ -1,12 +1,8 @@
 -- How far from 0 the ends of the tables of all sides and their counts are, by the rows of a
 -- recording.
-use Rattle.std.proofs.Common.{ℕ, ◌+◌, ◌*◌, ◌≤◌, ◌^◌, ◌∷◌, arith}
-use Rattle.std.proofs.Math.Logic.{∥∥₁_map}
+use Rattle.mdb_follow.proofs.Words.{ℕ, ◌+◌, ◌*◌, ◌≤◌, ◌^◌, ◌∷◌, arith, ∥∥₁_map, Sides, Act, side_in}
+use Rattle.mdb_follow.proofs.Words.{AreStanding, AreWithin, IsSideWithin, SidesFollow}
 use Rattle.mdb_follow.specs.declared.side.Side.{Side}
-use Rattle.mdb_follow.specs.declared.sides.Sides.{Sides}
-use Rattle.mdb_bus.specs.declared.act.Act.{Act}
-use Rattle.mdb_follow.specs.Sides.{side_in}
-use Rattle.mdb_follow.specs.inner.SideSteps.{AreStanding, AreWithin, IsSideWithin, SidesFollow}
 use Rattle.mdb_follow.proofs.Limits.{table-within-weaker}
 
 pub side-within-weaker : {Facts : Type 0} {N : ℕ} (limit more : ℕ) (side : Side Facts N)

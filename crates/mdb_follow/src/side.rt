@@ -44,7 +44,8 @@ pub(crate) fn start<P: Pair, const N: usize>(begins: &Beginning) -> Side<P::Fact
 /// # Errors
 ///
 /// The rule of the device, where no way leads over the act. Then nothing changes.
-#[inline(always)]
+// Not inlined: all four together are too large for that, and then what chooses the side is neither.
+#[inline(never)]
 pub(crate) fn lead<P: Pair, const N: usize>(
     side: &mut Side<P::Facts, N>,
     act: &Act,

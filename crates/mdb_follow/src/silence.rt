@@ -115,6 +115,7 @@ impl Silences {
 
     /// Follows an act whose last word started at a time, with what is known of the two readers
     /// after it.
+    #[inline(always)]
     pub fn follow(&mut self, act: &Act, at: Time, first: &KnownByProfile, second: &KnownByProfile)
         requires { AreFew (2 ^ 62) self.old }
         ensures { SilencesFollow self.old act.now at first.now second.now self.new }

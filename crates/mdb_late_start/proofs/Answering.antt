@@ -1,29 +1,22 @@
 -- That each answer in an act list stands right after what it answers.
-use Rattle.std.proofs.Common.{ap, ◌≡◌, inl, List, [], ◌∷◌}
+use Rattle.std.proofs.Common.{◌≡◌, inl, List, [], ◌∷◌}
 use Rattle.mdb_msgs.specs.declared.command.Command.{Command}
 use Rattle.mdb_bus.specs.declared.act.Act.{Act}
 use Rattle.mdb_bus.specs.declared.act.Act.TheVariants as acts
-use Rattle.mdb_bus.specs.ActLists.{ArePieces, Asked, Piece, Whole, acts_of, first_position, position_of}
-use Rattle.mdb_bus.specs.declared.scope.Beginning.{Beginning}
-use Rattle.mdb_bus.specs.declared.scope.Beginning.TheVariants.{PowerOn, Joined}
+use Rattle.mdb_bus.specs.ActLists.{ArePieces, Asked, Piece, Whole, acts_of, position_of}
+use Rattle.mdb_bus.proofs.Lists.{at_first}
 use Rattle.mdb_bus.specs.declared.scope.Scope.{Scope}
 use Rattle.mdb_late_start.specs.MidSession.{AnswersLast}
 use Rattle.mdb_follow.proofs.Sales.{ends_in}
-
--- and no ask
-first_unasked : (command : Command) (begins : Beginning)
-    → first_position begins ≡ Asked command → ⊥
-first_unasked command (PowerOn profile) e = cc
-first_unasked command (Joined setups profile) e = cc
 
 -- pieces where a command is open end in its ask
 pub ends_in_ask : (scope : Scope) (command : Command) (pieces : List Piece)
     → position_of scope pieces ≡ Asked command
     → (before : List Act) × (acts_of pieces ≡ acts.Ask command ∷ before)
-ends_in_ask scope command [] here = absurd (first_unasked command scope.begins here)
+ends_in_ask scope command [] here =
+    absurd (at_first (λ p. p ≡ Asked command → ⊥) (λ e. cc) (λ e. cc) scope.begins here)
 ends_in_ask scope command (Whole (acts.Ask c) events ∷ pieces) here =
-    let same : acts.Ask c ≡ acts.Ask command = cc in
-    (acts_of pieces, ap (λ (a : Act). a ∷ acts_of pieces) same)
+    (acts_of pieces, cc here)
 ends_in_ask scope command (Whole act events ∷ pieces) here = absurd cc
 ends_in_ask scope command (piece ∷ pieces) here = absurd cc
 

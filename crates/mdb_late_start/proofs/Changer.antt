@@ -101,22 +101,17 @@ may_be_new known facts (deposit ∷ news) enabled fit may =
 ask_holds : (facts : Facts) (command : ChangerCommand) (before after : ChangerState)
     (gains : Gains) → AskStep facts command before after gains → after.holds ≡ true
     → before.holds ≡ true
-ask_holds facts (changer.Dispense coins) before after gains step is =
-    sym (ap (λ (s : ChangerState). s.holds) step.0) ∙ is
-ask_holds facts _ before after gains step is =
-    sym (ap (λ (s : ChangerState). s.holds) step.0) ∙ is
+ask_holds facts (changer.Dispense coins) before after gains step is = rw step.0 at is
+ask_holds facts _ before after gains step is = rw step.0 at is
 
 -- so with what the changer takes: RESET ends it, and nothing else that it takes changes it
 ack_holds : (facts : Facts) (command : ChangerCommand) (choice : Choice)
     (before after : ChangerState) (gains : Gains)
     → TakeStep facts command choice before after gains → after.holds ≡ true
     → before.holds ≡ true
-ack_holds facts (changer.Dispense coins) choice before after gains step is =
-    sym (ap (λ (s : ChangerState). s.holds) step.0) ∙ is
-ack_holds facts changer.Reset choice before after gains step is =
-    let clash : false ≡ true = sym (ap (λ (s : ChangerState). s.holds) step.0) ∙ is in cc clash
-ack_holds facts _ choice before after gains step is =
-    sym (ap (λ (s : ChangerState). s.holds) step.0) ∙ is
+ack_holds facts (changer.Dispense coins) choice before after gains step is = rw step.0 at is
+ack_holds facts changer.Reset choice before after gains step is = cc (step.0, is)
+ack_holds facts _ choice before after gains step is = rw step.0 at is
 
 -- all that is so of its conduct
 steady : IsSteady tables conduct Fits

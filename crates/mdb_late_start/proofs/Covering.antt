@@ -1,7 +1,7 @@
 -- What is known of a device that keeps messages, in the end of a recording by itself and in the
 -- whole of it: what the end knows, the whole knows too, and a type that is enabled in the whole
 -- is enabled in the end. Lists of acts stand newest first.
-use Rattle.std.proofs.Common.{◌≡◌, ℕ, ◌<◌, Bool, true, false, not, ◌&&◌, ◌||◌, List, [], ◌∷◌, ◌++◌, Option, Some, None, refl, ap, sym, subst, ◌∙◌, option_map, if◌then◌else◌}
+use Rattle.std.proofs.Common.{◌≡◌, ℕ, ◌<◌, Bool, true, false, not, ◌&&◌, ◌||◌, List, [], ◌∷◌, ◌++◌, Option, Some, None, refl, ap, sym, ◌∙◌, option_map, if◌then◌else◌}
 use Rattle.std.specs.Prelude.{ltb}
 use Rattle.std.specs.List.{list_any}
 use Rattle.std.proofs.lemmas.Bool.{lt-ltb}
@@ -21,17 +21,12 @@ use Rattle.mdb_machine.specs.Keeper.{KnownFacts, Tables, asked_by, effect_of, kn
 use Rattle.mdb_machine.specs.Known.{Known, Unknown, Is, known_before, known_by}
 use Rattle.mdb_machine.specs.Past.{acts_from, effect_by, known_past, last_list, last_told, or_else, powers_on, runs_on, unless_empty}
 use Rattle.mdb_late_start.specs.MidSession.{IsNothingOr}
+use Rattle.mdb_cashless.specs.shared.ReaderWays.{first_of_three}
 
 -- what one knows, the other knows too
 abbrev pub Covers : {X : Type 0} → Known X → Known X → Type 0
 Covers (Is x) whole = whole ≡ Is x
 Covers Unknown whole = Unit {0}
-
--- what the first tells that tells something, however they are taken together
-first_of_three : {X : Type 0} (first second third : Option X)
-    → or_else first (or_else second third) ≡ or_else (or_else first second) third
-first_of_three (Some x) second third = refl
-first_of_three None second third = refl
 
 -- what the last act tells that tells something, in the end or else in front of it
 pub told_over : {X : Type 0} (tells : Act → Option X) (later front : List Act)
@@ -49,19 +44,11 @@ asked_over (Some x) second = refl
 asked_over None second = refl
 
 -- what is told last in the end is told last in the whole
-covers_told : {X : Type 0} (begins : Beginning) (setups : Setups) (none : X)
-    (first second : Option X)
-    → Covers (known_by (Joined setups (profile_of begins)) none first)
-    (known_by begins none (or_else first second))
-covers_told begins setups none (Some x) second = refl
-covers_told begins setups none None second = tt
-
--- so it is for the whole by another name
 pub covers_over : {X : Type 0} (begins : Beginning) (setups : Setups) (none : X)
     (first second whole : Option X) → whole ≡ or_else first second
     → Covers (known_by (Joined setups (profile_of begins)) none first) (known_by begins none whole)
-covers_over begins setups none first second whole is =
-    rw is (covers_told begins setups none first second)
+covers_over begins setups none (Some x) second whole is = rw is
+covers_over begins setups none None second whole is = tt
 
 -- after a boundary in the end, the acts from the last boundary on are those of the end
 from_end : (powers : Act → Bool) (later front : List Act) → list_any powers later ≡ true

@@ -1,11 +1,10 @@
 -- The words of pieces where a transcript is cut: all but the first of a piece are foreign words,
 -- and the first is one, or begins a block or a break.
-use Rattle.std.proofs.Common.{ap, arith, sym, subst, ◌∙◌, ◌≡◌, ◌++◌, ◌⊎◌, inl, inr, ℕ, List, [], ◌∷◌, ◌+◌, Option, Some, refl}
+use Rattle.std.proofs.Common.{arith, sym, ◌∙◌, ◌≡◌, ◌++◌, ◌⊎◌, inl, inr, ℕ, List, [], ◌∷◌, ◌+◌, Option}
 use Rattle.std.specs.List.{AllByRecursion}
 use Rattle.mdb_words.specs.declared.limits.TheConstants.{WORD_GAP_MIN}
 use Rattle.mdb_words.specs.declared.event.Event.{Event}
-use Rattle.mdb_words.specs.declared.event.Event.TheVariants.{Word, Break}
-use Rattle.mdb_words.specs.declared.word.Line.{Line}
+use Rattle.mdb_words.specs.declared.event.Event.TheVariants.{Break}
 use Rattle.mdb_words.specs.declared.word.Line.TheVariants.{Controller, Peripheral}
 use Rattle.mdb_blocks.specs.Answer.{answer_word}
 use Rattle.mdb_blocks.specs.Block.{block_of, controller_words}
@@ -13,12 +12,13 @@ use Rattle.mdb_blocks.specs.declared.answer.Answer.TheVariants as answers
 use Rattle.mdb_msgs.specs.Commands.{IsByte, command_bytes}
 use Rattle.mdb_bus.specs.declared.act.Act.TheVariants as acts
 use Rattle.mdb_bus.specs.declared.scope.Scope.{Scope}
-use Rattle.mdb_bus.specs.Acts.{IsBlockWord, IsForeign, IsForeignWord, Say, reply_words, said_by}
+use Rattle.mdb_bus.specs.Acts.{IsBlockWord, IsForeign, IsForeignWord, Say, reply_words}
 use Rattle.mdb_bus.specs.ActLists.{Piece, Whole, AskTail, ReplyTail, RepeatTail, Position, InForeign, ForeignMayCome, IsSaid, MayCome, NotBefore, piece_events, Quiet}
 use Rattle.mdb_late_start.specs.Cuts.{IsBreakEvent}
 use Rattle.mdb_msgs.proofs.CommandBytes.{begun_low, whole_low}
 use Rattle.mdb_bus.proofs.LeftOutWords.{AreForeignWords, low_words, peripheral_foreign, answer_foreign, word_waits}
 use Rattle.mdb_bus.proofs.LeftOutOrder.{block_waits}
+use Rattle.mdb_bus.proofs.Lists.{heard}
 use Rattle.mdb_bus.specs.declared.scope.Profile.{Profile}
 use Rattle.mdb_bus.specs.Scopes.{profile_of}
 use Rattle.mdb_bus.specs.Times.{rest_after}
@@ -36,19 +36,12 @@ pub foreign_end : (events others : List Event) → AreForeignWords (events ++ ot
 foreign_end [] others words = words
 foreign_end (event ∷ events) others words = foreign_end events others words.1
 
--- an event that says a word is that word
-pub says_word : (line : Line) (word : ℕ) (event : Event) → said_by event ≡ Some (line, word)
-    → (at : ℕ) × (event ≡ Word at line word)
-says_word line word (Word at l w) said =
-    let same : (l, w) ≡ (line, word) = cc in (at, ap (λ (p : Line × ℕ). Word at p.0 p.1) same)
-says_word line word (Break at length) said = cc said
-
 -- the first event of a block is its marked word, and the others are foreign words
 pub block_begins : (bytes : List ℕ) (first : Event) (others : List Event)
     → Say Controller (controller_words bytes) (first ∷ others) → IsBlockWord first
 block_begins [] first others says = cc
 block_begins (byte ∷ bytes) first others says =
-    rw (says_word Controller (256 + byte) first (cc)).1 (omega arith)
+    rw (heard first Controller (256 + byte) (cc)).1 (omega arith)
 
 block_words : (bytes : List ℕ) (first : Event) (others : List Event)
     → AllByRecursion IsByte bytes → Say Controller (controller_words bytes) (first ∷ others)

@@ -7,13 +7,13 @@ use Rattle.std.specs.List.{AllByRecursion}
 use Rattle.std.proofs.lemmas.List.Elements.{All-from_recursion}
 use Rattle.mdb_words.specs.declared.event.Event.{Event}
 use Rattle.mdb_words.specs.declared.event.Event.TheVariants.{Word, Break}
-use Rattle.mdb_words.specs.declared.word.Line.TheVariants.{Controller, Peripheral}
+use Rattle.mdb_words.specs.declared.word.Line.TheVariants.{Controller}
 use Rattle.mdb_msgs.specs.declared.setups.Setups.{Setups}
 use Rattle.mdb_bus.specs.declared.act.Act.TheVariants as acts
 use Rattle.mdb_bus.specs.declared.scope.Beginning.TheVariants.{Joined}
 use Rattle.mdb_bus.specs.declared.scope.Scope.{Scope}
 use Rattle.mdb_bus.specs.Acts.{IsBlockWord, IsForeignWord}
-use Rattle.mdb_bus.specs.ActLists.{Piece, Whole, AskTail, Position, InAsk, InReply, InRepeat, InForeign, ArePieces, AreSpaced, BlockMayCome, ForeignMayCome, IsActList, IsPiece, MayCome, MayStand, NotBefore, PieceFits, events_of, last_of, left_by, levels_of, piece_events, position_of, NotPast}
+use Rattle.mdb_bus.specs.ActLists.{Piece, Whole, AskTail, Position, InAsk, InReply, InRepeat, InForeign, ArePieces, AreSpaced, BlockMayCome, IsActList, MayCome, NotBefore, PieceFits, events_of, last_of, levels_of, piece_events, position_of, NotPast}
 use Rattle.mdb_bus.specs.LeavingOut.{with_foreign}
 use Rattle.mdb_bus.specs.Scopes.{levels_before, no_levels, profile_of}
 use Rattle.mdb_late_start.specs.Cuts.{BeginAnew, IsBreakEvent, SplitsAt, joined_with}
@@ -49,7 +49,7 @@ divide (x ∷ xs) ys (y ∷ front) end is =
     divided_later x y xs ys front end (cc) (divide xs ys front end (cc))
 
 -- what is the same is none or the same
-none_or_same : {X : Type 0} (here : Option X) → IsNothingOr here here
+pub none_or_same : {X : Type 0} (here : Option X) → IsNothingOr here here
 none_or_same None = tt
 none_or_same (Some x) = refl
 
@@ -187,18 +187,17 @@ module _ (scope : Scope) where
       → AreForeignWords events → ArePieces scope (with_foreign events pieces)
   words_stand [] pieces are here late words = are
   words_stand (event ∷ events) pieces are here late words =
-      let next : List Piece = Whole acts.Foreign (event ∷ []) ∷ pieces in
-      let piece : IsPiece scope (Whole acts.Foreign (event ∷ [])) =
-      record { said = inr (event, refl, words.0); spaced = tt } in
-      let stands : MayStand scope pieces (Whole acts.Foreign (event ∷ [])) = record {
-        first = event;
-        others = [];
-        begins = refl;
-        comes = inr (words.0, here, late.0);
-        levels = tt;
-      } in
-      words_stand events next (piece, stands, are) refl
-      (rw (last_push (events_of pieces) event) late.1) words.1
+      words_stand events (Whole acts.Foreign (event ∷ []) ∷ pieces) (
+        record { said = inr (event, refl, words.0); spaced = tt },
+        record {
+          first = event;
+          others = [];
+          begins = refl;
+          comes = inr (words.0, here, late.0);
+          levels = tt;
+        },
+        are,
+      ) refl (rw (last_push (events_of pieces) event) late.1) words.1
 
   -- foreign acts leave foreign traffic
   pub foreign_position : (events : List Event) (pieces : List Piece)
@@ -218,8 +217,7 @@ module _ (scope : Scope) where
     -- inside a piece go on words after its first
     inside_others : (event : Event) (middle end : List Event)
         → piece_events piece ≡ event ∷ middle ++ end → are.1.others ≡ middle ++ end
-    inside_others event middle end is =
-        let both : are.1.first ∷ are.1.others ≡ event ∷ middle ++ end = sym are.1.begins ∙ is in cc
+    inside_others event middle end is = cc (are.1.begins, is)
 
     words_inside : (event : Event) (middle end : List Event)
         → piece_events piece ≡ event ∷ middle ++ end → AreForeignWords (middle ++ end)
@@ -370,20 +368,16 @@ module _ (scope : Scope) (setups : Setups) where
         → (ComesAlone here piece are.1.first → FitsAlone here piece) → (later : List Piece)
         → cut.later ≡ later → With_it
     stands_in_end rows fits (top ∷ later) is =
-        let same : position_of scope pieces ≡ position_of new here =
-        ap (position_of scope) cut.order ∙ ap (λ ps. position_of scope (ps ++ cut.before)) is
-        ∙ sym (ap (λ ps. position_of new (alone ps cut.words)) is) in
-        let comes : ComesAlone here piece are.1.first =
-        comes_after profile piece (position_of new here) (last_of (events_of here))
+        let same : position_of scope pieces ≡ position_of new here = rw (cut.order, is) in
+        let comes = comes_after profile piece (position_of new here) (last_of (events_of here))
         (last_of (events_of pieces)) are.1.first (last_before rows) (rw same at are.1.comes) in
         stands_on comes (fits comes) (anew_still (events_of cut.later) (piece_events piece)
-        (cut.anew (λ none. let clash : top ∷ later ≡ [] = sym is ∙ none in cc clash)))
+        (cut.anew (λ none. cc (is, none))))
     stands_in_end rows fits [] none =
         let its = its_kind scope piece pieces are in
         let less = last_before rows in
         let there : position_of new here ≡ InForeign =
-        ap (λ ps. position_of new (alone ps cut.words)) none
-        ∙ foreign_position new cut.words [] refl in
+        rw none (foreign_position new cut.words [] refl) in
         elim its.way [
           | inl way ↦ stands_as_words none (rw are.1.begins (way.0, its.words))
               (rw are.1.begins (
@@ -404,11 +398,10 @@ module _ (scope : Scope) (setups : Setups) where
       → (event : Event) (middle : List Event) → piece_events piece ≡ event ∷ middle ++ end
       → Cutting front end (piece ∷ pieces)
   cut_inside front end piece pieces are whole event middle is =
-      let words : AreForeignWords end =
-      foreign_end middle end (words_inside scope piece pieces are event middle end is) in
-      let late : AreLate (Some are.1.first) (middle ++ end) =
-      rw (inside_others scope piece pieces are event middle end is) at (late_others profile
-      are.1.first are.1.others (rw are.1.begins at are.0.spaced)) in
+      let words = foreign_end middle end
+      (words_inside scope piece pieces are event middle end is) in
+      let late = rw (inside_others scope piece pieces are event middle end is) at
+      (late_others profile are.1.first are.1.others (rw are.1.begins at are.0.spaced)) in
       record {
         later = [];
         words = end;
@@ -464,8 +457,7 @@ module _ (scope : Scope) (setups : Setups) where
   splits front end pieces fit list =
       let cut = cut_at front end fit pieces end [] (sym (append-nil end)) list.in_order
       list.whole in
-      let rows : end ≡ cut.words ++ events_of cut.later =
-      sym cut.whole ∙ rows_begin cut.later cut.words in
+      let rows = sym cut.whole ∙ rows_begin cut.later cut.words in
       record {
         later = cut.later;
         words = cut.words;

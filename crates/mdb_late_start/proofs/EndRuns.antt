@@ -1,5 +1,5 @@
 -- Runs of ends. Lists of pieces are written newest first, lists of events oldest first.
-use Rattle.std.proofs.Common.{ap, subst, sym, ◌∙◌, ◌≡◌, ◌++◌, List, [], ◌∷◌}
+use Rattle.std.proofs.Common.{ap, sym, ◌∙◌, ◌≡◌, ◌++◌, List, [], ◌∷◌}
 use Rattle.std.proofs.lemmas.List.{append-nil, append_cancel_right}
 use Rattle.mdb_words.specs.declared.event.Event.{Event}
 use Rattle.mdb_msgs.specs.declared.command.Device.{Device}
@@ -15,14 +15,14 @@ use Rattle.mdb_follow.specs.Arrivals.{Arrives}
 use Rattle.mdb_follow.specs.Tables.{EachArrives}
 use Rattle.mdb_follow.specs.Machines.{machine_of}
 use Rattle.mdb_follow.specs.Report.{unvalued_of}
-use Rattle.mdb_follow.specs.Runs.{AllSums, IsReached, IsWay, Run, States}
+use Rattle.mdb_follow.specs.Runs.{AllSums, IsReached, Run, States}
 use Rattle.mdb_follow.specs.Sums.{Sums}
 use Rattle.mdb_late_start.specs.Alone.{MayBeReadAlone}
-use Rattle.mdb_late_start.specs.Cuts.{BeginAnew, joined_with}
+use Rattle.mdb_late_start.specs.Cuts.{BeginAnew}
 use Rattle.mdb_late_start.specs.Ends.{Passes, both_sums}
 use Rattle.mdb_late_start.specs.MidSession.{TellsOnlyWhatIsSo}
 use Rattle.mdb_late_start.specs.Told.{AreToldBy, WereTold, told_later}
-use Rattle.mdb_late_start.proofs.Answering.{AllAnswer, all_answer}
+use Rattle.mdb_late_start.proofs.Answering.{all_answer}
 use Rattle.mdb_late_start.proofs.Foreign.{after_foreign, words_are}
 use Rattle.mdb_late_start.proofs.Cutting.{pass_at}
 use Rattle.mdb_late_start.proofs.InEnds.{AllName, InEnd, holds_there, in_end, name_later}
@@ -116,15 +116,13 @@ module _ (laws : EndLaws) where
         let new = told_later setups levels scope in
         let cut = told.cut in
         let pieces : List Piece = cut.later ++ with_foreign cut.words [] in
-        let order : run.pieces ≡ cut.later ++ cut.before =
-        laws.one scope (front ++ end) run.pieces told.pieces run.act_list told.act_list
+        let order = laws.one scope (front ++ end) run.pieces told.pieces run.act_list told.act_list
         ∙ cut.order in
-        let ways : EachArrives scope.begins (acts_of (cut.later ++ cut.before)) run.states sums =
-        rw order at (laws.splits scope.begins run.loss run.pieces run.states sums run.way) in
+        let ways = rw order at (laws.splits scope.begins run.loss run.pieces run.states sums
+        run.way) in
         let list = laws.told scope setups levels front end told.pieces told.act_list cut
         told.in_front in
-        let name : AllName (acts_of cut.later) =
-        name_later (acts_of cut.later) (acts_of (with_foreign cut.words []))
+        let name = name_later (acts_of cut.later) (acts_of (with_foreign cut.words []))
         (rw (acts_in_two cut.later (with_foreign cut.words [])) at (all_name new pieces
         list.in_order)) in
         let each = λ (device : Device). its_way scope.begins setups device cut.later cut.before
@@ -156,12 +154,11 @@ module _ (laws : EndLaws) where
             in_order = cut.in_front;
             whole = cut.rows ∙ ap (λ ws. front ++ ws) none ∙ append-nil front;
           }) in
-          let later : cut.later ≡ passes.later =
-          append_cancel_right cut.later passes.later cut.before
+          let later = append_cancel_right cut.later passes.later cut.before
           (sym cut.order ∙ passes.order ∙ ap (λ ps. passes.later ++ ps) before) in
           let there = laws.told scope setups levels front end run.pieces run.act_list cut
           (rw before at told) in
-          let clean : IsActList new (cut.later ++ []) end = rw none at there in
+          let clean = rw none at there in
           rw (append-nil cut.later ∙ later) at clean
 
       -- one run of the end gains what the whole run gains there

@@ -1,6 +1,6 @@
 -- The sale under way in the end of a recording by itself, and in the whole recording, by the
 -- extended profile.
-use Rattle.std.proofs.Common.{◌≡◌, ℕ, Bool, true, false, not, ◌&&◌, List, [], ◌∷◌, Option, Some, refl, inl, inr, ap, sym, subst}
+use Rattle.std.proofs.Common.{◌≡◌, ℕ, Bool, true, false, not, ◌&&◌, List, [], ◌∷◌, Option, Some, refl, inl, inr, ap}
 use Rattle.mdb_msgs.specs.declared.command.ReaderCommand.{ReaderCommand}
 use Rattle.mdb_msgs.specs.declared.command.ReaderCommand.TheVariants as reader
 use Rattle.mdb_msgs.specs.declared.reply.reader.ReaderMsg.{ReaderMsg}
@@ -8,7 +8,7 @@ use Rattle.mdb_msgs.specs.declared.reply.reader.ReaderMsg.TheVariants as message
 use Rattle.mdb_msgs.specs.declared.setups.ReaderConfig.{ReaderConfig}
 use Rattle.mdb_cashless.specs.declared.approvals.sale.Sale.{Sale}
 use Rattle.mdb_cashless.specs.declared.approvals.sale.Sale.TheVariants.{Unknown, Unawaited, Nothing, Awaited, Asked, Approved, Sold}
-use Rattle.mdb_cashless.specs.ExtendedFacts.{cancelled, sale_all_heard, sale_asked, sale_heard, unawaited}
+use Rattle.mdb_cashless.specs.ExtendedFacts.{sale_all_heard, sale_asked, sale_heard, unawaited}
 use Rattle.mdb_cashless.specs.ExtendedReader.{IsSale, approved_to}
 use Rattle.mdb_cashless.specs.ReaderFacts.{own_transaction}
 use Rattle.mdb_cashless.specs.Transactions.{is_request}
@@ -40,7 +40,7 @@ pub there_asked : (command : Option ReaderCommand) (earlier : Bool) (here there 
 there_asked (Some (reader.VendRequest price item)) earlier here there is = refl
 there_asked command false here there is = ap (sale_asked command) is
 there_asked (Some reader.VendCancel) true (Sold item) there is =
-    subst (λ sale. IsEarlierSale Nothing (cancelled sale)) (sym is) tt
+    rw is tt
 there_asked (Some reader.VendCancel) true here Unknown is = search
 there_asked (Some reader.VendCancel) true here there is = search
 there_asked command true here there is = search
@@ -88,8 +88,7 @@ there_nothing false = refl
 awaits_here : (here there : Sale) → IsEarlierSale here there → IsSale there Awaited
     → IsSale here Awaited
 awaits_here Unknown there is may = inr refl
-awaits_here (Sold item) there is may =
-    subst (λ sale. IsSale sale Awaited) is may
+awaits_here (Sold item) there is may = rw is at may
 awaits_here here Unknown is may = absurd is
 awaits_here here Awaited is may = absurd is
 awaits_here here there is may = absurd cc
@@ -104,7 +103,7 @@ HearsSame one other =
 pub hears_here : (earlier : Bool) (here there sale : Sale) → IsSaleThere earlier here there
     → IsSale there sale → (other : Sale) × IsSale here other × HearsSame other sale
 hears_here false here there sale is may =
-    (sale, subst (λ s. IsSale s sale) (sym is) may, λ config said. refl)
+    (sale, rw is may, λ config said. refl)
 hears_here true here there Awaited is may =
     (Awaited, awaits_here here there is may, λ config said. refl)
 hears_here true Unknown there sale is may = (Nothing, inl refl, λ config said. refl)

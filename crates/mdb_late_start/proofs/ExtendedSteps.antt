@@ -1,6 +1,6 @@
 -- What a reader does in the course of a recording, it may do in the end of that by itself, by the
 -- extended profile. Lists of acts stand newest first.
-use Rattle.std.proofs.Common.{◌≡◌, ◌⊎◌, ℕ, ◌+◌, Bool, true, false, not, ◌&&◌, ◌||◌, List, [], ◌∷◌, ◌++◌, Option, Some, None, drop, length, if◌then◌else◌, unwrap_or, refl, inl, inr, arith, ap, sum_by, sym, subst, ◌∙◌}
+use Rattle.std.proofs.Common.{◌≡◌, ◌⊎◌, ℕ, Bool, true, false, not, ◌&&◌, ◌||◌, List, [], ◌∷◌, ◌++◌, Option, Some, None, drop, length, if◌then◌else◌, unwrap_or, refl, inl, inr, arith, ap, sym, subst, ◌∙◌}
 use Rattle.std.specs.Option.{is_none}
 use Rattle.std.proofs.Math.Seq.{drop-nil}
 use Rattle.mdb_msgs.specs.declared.command.Command.{Command}
@@ -25,7 +25,6 @@ use Rattle.mdb_machine.specs.Gains.{controller_gains, device_gains, in_slots}
 use Rattle.mdb_machine.specs.Known.{Known, known_before}
 use Rattle.mdb_machine.specs.Past.{last_told, or_else, tells_out_of_sequence}
 use Rattle.mdb_machine.specs.KnownMore.{known_more}
-use Rattle.mdb_machine.specs.Unvalued as amounts
 use Rattle.mdb_machine.specs.Unvalued.{one_if}
 use Rattle.mdb_cashless.specs.declared.approvals.sale.Sale.{Sale}
 use Rattle.mdb_cashless.specs.declared.approvals.sale.Sale.TheVariants.{Unknown, Unawaited, Nothing, Awaited, Asked, Approved, Sold}
@@ -33,16 +32,13 @@ use Rattle.mdb_cashless.specs.declared.approvals.state.ApprovalState.{ApprovalSt
 use Rattle.mdb_cashless.specs.ExtendedFacts.{Facts, approvals_in, facts_after, facts_of}
 use Rattle.mdb_cashless.specs.ExtendedReader.{AckStep, AskStep, IsEarlier, MayAsk, MaySell, ReaderStep, ReplyStep, VmcAckStep, approved_to, last_value, may_be_again, may_be_either, news, read, sold, sold_by, worth}
 use Rattle.mdb_cashless.specs.ExtendedAmounts.{unvalued, unvalued_by}
-use Rattle.mdb_cashless.specs.Reader as base
 use Rattle.mdb_cashless.specs.ReaderAmounts as reader_amounts
 use Rattle.mdb_cashless.specs.Reader.{value}
 use Rattle.mdb_cashless.specs.ReaderAmounts.{asks_sale}
-use Rattle.mdb_cashless.specs.ReaderFacts.{amount_by, config_by, known_of, messages_by, own_messages}
+use Rattle.mdb_cashless.specs.ReaderFacts.{amount_by, config_by, known_of, own_messages}
 use Rattle.mdb_cashless.specs.ReaderMessages.{messages_of}
 use Rattle.mdb_cashless.specs.Units.{own}
 use Rattle.mdb_cashless.specs.shared.ReaderWays.{first_of_three}
-use Rattle.mdb_machine.specs.Choices.{is_approval}
-use Rattle.mdb_late_start.specs.MidSession.{IsNothingOr}
 use Rattle.mdb_late_start.proofs.Covering.{Covers as IsKnownToo}
 use Rattle.mdb_late_start.proofs.Keepers.{AlsoSteps, allowed_end, as_it_is, as_same, by_own}
 use Rattle.mdb_late_start.proofs.ExtendedSales.{IsEarlierSale, IsSaleThere, hears_here, there_asked, there_heard, there_nothing}
@@ -380,9 +376,7 @@ valued_ask : (asks one other earlier : Bool) → one_if (asks && (one || other |
     → (one_if (asks && (one || other)) ≡ 0) × (asks ≡ true → earlier ≡ false)
 valued_ask false one other earlier none = (refl, λ asks. absurd cc)
 valued_ask true false false false none = (refl, λ asks. refl)
-valued_ask true true other earlier none = absurd (omega (arith, none))
-valued_ask true false true earlier none = absurd (omega (arith, none))
-valued_ask true false false true none = absurd (omega (arith, none))
+valued_ask asks one other earlier none = absurd (omega (arith, none))
 
 module _ (unit : ReaderUnit) (begins : Beginning) where
   ask_valued : (command : Command) (so_far : List Act)
@@ -458,10 +452,7 @@ module _ (unit : ReaderUnit) (begins : Beginning) (setups : Setups) (later front
         )
         | inr same ↦ inr same
       ]) in
-      subst (λ prices. IsPriced unit prices (prices_of there) act)
-      (sym (prices_are unit joined later))
-      (subst (λ prices. IsPriced unit (prices_known unit joined later) prices act)
-      (sym (prices_are unit begins (later ++ front))) its)
+      rw (prices_are unit joined later, prices_are unit begins (later ++ front)) its
 
   ask_alike : (command : Command) (its : ReaderCommand) → own unit command ≡ Some its
       → unvalued_by unit here (acts.Ask command) ≡ 0

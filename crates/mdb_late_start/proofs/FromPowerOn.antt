@@ -1,5 +1,5 @@
 -- Runs from power-on, as runs in mid-session. Lists of pieces are written newest first.
-use Rattle.std.proofs.Common.{ap, refl, subst, sym, ◌∙◌, ◌≡◌, List, [], ◌∷◌, ◌++◌}
+use Rattle.std.proofs.Common.{ap, refl, sym, ◌∙◌, ◌≡◌, List, [], ◌∷◌}
 use Rattle.std.proofs.lemmas.List.{append-nil}
 use Rattle.mdb_words.specs.declared.event.Event.{Event}
 use Rattle.mdb_msgs.specs.declared.command.Device.{Device}
@@ -41,10 +41,8 @@ module _ (laws : EndLaws) (profile : Profile) (setups : Setups) where
       → (machine_of begins device).Step so_far act choice before after gains
       → GoesOnInEnd begins setups device so_far [] act choice before after gains
   step_there device so_far act choice before after gains name holds step =
-      let whole : so_far ≡ so_far ++ [] = sym (append-nil so_far) in
       (laws.stays begins setups device).step so_far [] act choice before after gains name
-      (subst (λ l. HasToldWhatItHolds begins device l before) whole holds)
-      (subst (λ l. (machine_of begins device).Step l act choice before after gains) whole step)
+      (rw append-nil holds) (rw append-nil step)
 
   -- the same way in mid-session
   abbrev SameWay : (loss : Loss) (pieces : List Piece) (states : States) (sums : AllSums)

@@ -1,6 +1,6 @@
 -- What a device does in the course of a recording is a way of its end by itself, and gains the same
 -- there where its amounts have a value. Lists of acts and of pieces stand newest first.
-use Rattle.std.proofs.Common.{ap, refl, subst, sym, ◌∙◌, ◌≡◌, List, [], ◌∷◌, ◌++◌, ℕ, ◌+◌, arith, slice_index}
+use Rattle.std.proofs.Common.{ap, refl, sym, ◌∙◌, ◌≡◌, List, [], ◌∷◌, ◌++◌, ℕ, arith, slice_index}
 use Rattle.mdb_msgs.specs.declared.command.Device.{Device}
 use Rattle.mdb_msgs.specs.declared.command.Device.TheVariants as devices
 use Rattle.mdb_msgs.specs.declared.setups.Setups.{Setups}
@@ -17,7 +17,7 @@ use Rattle.mdb_follow.specs.Machines.{StateOf, machine_of}
 use Rattle.mdb_follow.specs.Report.{unvalued_of}
 use Rattle.mdb_follow.specs.Sums.{Sums, added, no_sums, AccountSums}
 use Rattle.mdb_late_start.specs.Ends.{both_sums, both_accounts}
-use Rattle.mdb_late_start.specs.MidSession.{GoesOnInEnd, HasToldWhatItHolds, MayJoinLate, TellsOnlyWhatIsSo}
+use Rattle.mdb_late_start.specs.MidSession.{HasToldWhatItHolds, MayJoinLate, TellsOnlyWhatIsSo}
 use Rattle.mdb_late_start.proofs.Answering.{AllAnswer}
 use Rattle.mdb_late_start.proofs.Onward.{GoesOnTo}
 use Rattle.mdb_machine.specs.Machine.{Machine}
@@ -44,10 +44,6 @@ and_gains one other gains = fun_ext (λ slot. together (one slot) (other slot)
         (record { device = device; controller = controller }))
     together one other device controller = simp add_assoc
 
--- where two numbers are nothing together, each is
-second_none : (one other : ℕ) → one + other ≡ 0 → other ≡ 0
-second_none one other none = omega (arith, none)
-
 -- each act that names a reply names one of its command
 abbrev pub AllName : List Act → Type 0
 AllName [] = Unit {0}
@@ -62,9 +58,9 @@ name_later (act ∷ later) others name = (name.0, name_later later others name.1
 valued_before : (setups : Setups) (profile : Profile) (device : Device) (act : Act)
     (so_far : List Act) → unvalued_of (Joined setups profile) device (act ∷ so_far) ≡ 0
     → unvalued_of (Joined setups profile) device so_far ≡ 0
-valued_before setups Base (devices.Reader unit) act so_far none = second_none _ _ none
-valued_before setups Extended (devices.Reader unit) act so_far none = second_none _ _ none
-valued_before setups profile device act so_far none = second_none _ _ none
+valued_before setups Base (devices.Reader unit) act so_far none = omega (arith, none)
+valued_before setups Extended (devices.Reader unit) act so_far none = omega (arith, none)
+valued_before setups profile device act so_far none = omega (arith, none)
 
 -- one act more gains the same
 gains_more : (sums sums_before sums_from gained : Sums) (gains other : Gains)

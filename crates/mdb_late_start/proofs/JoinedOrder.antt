@@ -1,23 +1,17 @@
 -- The act list of a transcript from power-on is one of the same rows as a recording that begins in
 -- mid-session: from power-on rows begin anew, so that all pieces begin in the end that they are.
-use Rattle.std.proofs.Common.{ap, refl, sym, subst, ◌∙◌, ◌≡◌, ◌++◌, ◌⊎◌, inl, inr, List, [], ◌∷◌, None}
+use Rattle.std.proofs.Common.{ap, refl, sym, ◌∙◌, ◌≡◌, ◌++◌, inl, inr, List, [], ◌∷◌, None}
 use Rattle.mdb_words.specs.declared.event.Event.{Event}
-use Rattle.mdb_words.specs.declared.event.Event.TheVariants.{Break}
-use Rattle.mdb_words.specs.declared.word.Line.TheVariants.{Controller}
-use Rattle.mdb_blocks.specs.Block.{block_of, controller_words}
-use Rattle.mdb_msgs.specs.Commands.{command_bytes}
 use Rattle.mdb_msgs.specs.declared.device_set.DeviceSet.{DeviceSet}
 use Rattle.mdb_msgs.specs.declared.setups.Setups.{Setups}
-use Rattle.mdb_bus.specs.declared.act.Act.TheVariants as acts
 use Rattle.mdb_bus.specs.declared.scope.Profile.{Profile}
 use Rattle.mdb_bus.specs.declared.scope.Scope.{Scope}
-use Rattle.mdb_bus.specs.Acts.{IsBlockWord, Say}
-use Rattle.mdb_bus.specs.ActLists.{Piece, Whole, AskTail, Position, Quiet, InForeign, ArePieces, IsActList, IsSaid, MayCome, events_of, first_position, piece_events}
+use Rattle.mdb_bus.specs.ActLists.{Piece, Quiet, ArePieces, IsActList, events_of, first_position, piece_events}
 use Rattle.mdb_bus.specs.LeavingOut.{with_foreign}
-use Rattle.mdb_bus.specs.Scopes.{from_power_on, profile_of}
+use Rattle.mdb_bus.specs.Scopes.{from_power_on}
 use Rattle.mdb_bus.specs.JoinedScopes.{joined_by}
 use Rattle.mdb_late_start.specs.Alone.{MayBeReadAlone}
-use Rattle.mdb_late_start.specs.Cuts.{BeginAnew, IsBreakEvent, SplitsAt}
+use Rattle.mdb_late_start.specs.Cuts.{BeginAnew, SplitsAt}
 use Rattle.mdb_late_start.proofs.Cutting.{anew_still}
 use Rattle.mdb_late_start.proofs.CutWords.{first_anew}
 
@@ -34,7 +28,7 @@ module _ (scope : Scope) (quiet : first_position scope.begins ≡ Quiet) where
   begin_anew piece [] are = rw are.1.begins (elim (first_anew scope Quiet None are.1.first
       are.1.others piece are.0.said are.1.begins (rw quiet at are.1.comes) tt) [
         | inl anew ↦ anew
-        | inr further ↦ let clash : Quiet ≡ InForeign = further.1 in cc clash
+        | inr further ↦ absurd (cc further.1)
       ])
   begin_anew piece (earlier ∷ pieces) are =
       anew_still (events_of (earlier ∷ pieces)) (piece_events piece)
@@ -58,10 +52,8 @@ joined_too cuts profile setups without [] rows may list =
 joined_too cuts profile setups without (piece ∷ pieces) rows may list =
     let scope = from_power_on profile without in
     let cut = cuts scope setups [] rows (piece ∷ pieces) may list in
-    let words : cut.words ≡ [] =
-    cut.clean (rw list.whole at (begin_anew scope refl piece pieces list.in_order)) in
-    let none : cut.before ≡ [] = none_there scope refl cut.before cut.in_front (cut.rows ∙ words) in
-    let later : cut.later ++ with_foreign cut.words [] ≡ piece ∷ pieces =
-    ap (λ ws. cut.later ++ with_foreign ws []) words
+    let words = cut.clean (rw list.whole at (begin_anew scope refl piece pieces list.in_order)) in
+    let none = none_there scope refl cut.before cut.in_front (cut.rows ∙ words) in
+    let later = ap (λ ws. cut.later ++ with_foreign ws []) words
     ∙ sym (cut.order ∙ ap (λ ps. cut.later ++ ps) none) in
     rw later at cut.act_list

@@ -1,10 +1,9 @@
 -- What a device that keeps messages does, it may do in mid-session: its steps in a recording are
 -- steps of the end of that by itself. This is shown once for changer and validator, from what is
 -- so of their conduct. Lists of acts stand newest first.
-use Rattle.std.proofs.Common.{◌≡◌, ◌⊎◌, inl, inr, ℕ, ◌+◌, ◌<◌, Bool, true, false, ◌&&◌, List, [], ◌∷◌, ◌++◌, Option, Some, None, refl, ap, sym, subst, ◌∙◌, arith, if◌then◌else◌, sum_by, option_map}
+use Rattle.std.proofs.Common.{◌≡◌, ◌⊎◌, inl, inr, ℕ, ◌<◌, Bool, true, false, ◌&&◌, List, [], ◌∷◌, ◌++◌, Option, Some, None, refl, ap, sym, subst, ◌∙◌, arith, if◌then◌else◌, sum_by}
 use Rattle.std.specs.List.{AllByRecursion}
 use Rattle.std.proofs.lemmas.List.Sums.{sum_by-cons}
-use Rattle.std.specs.Option.{option_map_or}
 use Rattle.mdb_msgs.specs.declared.command.Command.{Command}
 use Rattle.mdb_msgs.specs.declared.reply.Reply.{Reply}
 use Rattle.mdb_msgs.specs.declared.setups.Setups.{Setups}
@@ -28,7 +27,7 @@ use Rattle.mdb_machine.specs.Known.{Allows, AllowsKept, Known, Unknown, Is, know
 use Rattle.mdb_machine.specs.Machine.{StartsIn}
 use Rattle.mdb_machine.specs.Past.{last_list, last_told, or_else, unless_empty}
 use Rattle.mdb_machine.specs.Steps.{ForOwn}
-use Rattle.mdb_machine.specs.Unvalued.{amounts_in, one_if, unvalued, unvalued_by}
+use Rattle.mdb_machine.specs.Unvalued.{amounts_in, one_if, unvalued}
 use Rattle.mdb_late_start.specs.MidSession.{AnswersLast, HasTold, IsNothingOr, GoesOnInEnd, TellsOnlyWhatIsSo}
 use Rattle.mdb_late_start.proofs.Covering.{Covers, known_in_end, known_over, same_over}
 use Rattle.mdb_msgs.specs.declared.command.Device.{Device}
@@ -371,9 +370,7 @@ module _ {Own Setup Asked M State : Type 0} (tables : Tables Own Setup Asked M)
     no_amount : (act : Act) (so_far : List Act) → NoSetup so_far → IsValued (act ∷ so_far)
         → (amounts_in tables conduct act ≡ 0) × IsValued so_far
     no_amount act so_far none zero =
-        let sum : amounts_in tables conduct act + unvalued tables conduct begins so_far ≡ 0 =
-        rw none at zero in
-        (omega (arith, sum), omega (arith, sum))
+        let sum = rw none at zero in (omega (arith, sum), omega (arith, sum))
 
     -- and so it was in front of acts
     none_in_front : (again so_far : List Act) → NoSetup (again ++ so_far)
@@ -468,8 +465,7 @@ module _ {Own Setup Asked M State : Type 0} (tables : Tables Own Setup Asked M)
     none_held : {X : Type 0} (state : State) → state ≡ conduct.power_on
         → conduct.holds state ≡ true → X
     none_held state is holding =
-        let clash : false ≡ true = sym steady.power_on_free ∙ sym (ap conduct.holds is) ∙ holding in
-        absurd (cc clash)
+        absurd (cc (steady.power_on_free, ap conduct.holds is, holding))
 
     -- A device that holds messages has told some as the recording begins: from power-on it holds
     -- none, and in mid-session it isn't known what it told.

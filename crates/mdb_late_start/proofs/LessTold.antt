@@ -1,6 +1,6 @@
 -- Levels of which less is known, or less was told: so it stays with each act. By the base profile a
 -- reply fits as it did, where less was told.
-use Rattle.std.proofs.Common.{refl, sym, subst, ◌≡◌, ◌++◌, ◌⊎◌, inl, inr, ℕ, List, [], ◌∷◌, Option, Some, None}
+use Rattle.std.proofs.Common.{refl, ◌≡◌, ◌++◌, ◌⊎◌, inl, inr, ℕ, List, [], ◌∷◌, Option, Some, None}
 use Rattle.std.specs.Option.{option_or}
 use Rattle.mdb_words.specs.declared.event.Event.{Event}
 use Rattle.mdb_msgs.specs.declared.command.Command.{Command}
@@ -8,17 +8,16 @@ use Rattle.mdb_msgs.specs.declared.command.Command.TheVariants as commands
 use Rattle.mdb_msgs.specs.declared.command.ReaderCommand.TheVariants as readers
 use Rattle.mdb_msgs.specs.declared.command.ReaderUnit.TheVariants.{First, Second}
 use Rattle.mdb_msgs.specs.declared.setups.Setups.{Setups}
-use Rattle.mdb_msgs.specs.declared.reply.Reply.{Reply}
 use Rattle.mdb_msgs.specs.declared.reply.Reply.TheVariants as replies
 use Rattle.mdb_msgs.specs.ExtendedLevels.{last_level}
 use Rattle.mdb_bus.specs.declared.act.Act.{Act}
 use Rattle.mdb_bus.specs.declared.act.Act.TheVariants as acts
 use Rattle.mdb_bus.specs.declared.levels.Levels.{Levels}
 use Rattle.mdb_bus.specs.declared.scope.Beginning.{Beginning}
-use Rattle.mdb_bus.specs.declared.scope.Beginning.TheVariants.{PowerOn, Joined}
+use Rattle.mdb_bus.specs.declared.scope.Beginning.TheVariants.{Joined}
 use Rattle.mdb_bus.specs.declared.scope.Profile.{Profile}
 use Rattle.mdb_bus.specs.declared.scope.Profile.TheVariants.{Base, Extended}
-use Rattle.mdb_bus.specs.ActLists.{Piece, Whole, IsLow, PieceFits, ReplyFits, levels_after, levels_by, levels_of, levels_told}
+use Rattle.mdb_bus.specs.ActLists.{Piece, Whole, IsLow, PieceFits, levels_by, levels_of}
 use Rattle.mdb_bus.specs.Formats.{levels_for}
 use Rattle.mdb_bus.specs.LeavingOut.{with_foreign}
 use Rattle.mdb_bus.specs.Scopes.{first_levels, profile_of}
@@ -113,32 +112,25 @@ or_less : (now one other : Option ℕ) → IsNothingOr one other
 or_less None one other less = less
 or_less (Some level) one other less = refl
 
--- less known of the readers' own levels
-abbrev IsLessSaid : Levels → Levels → Type 0
-IsLessSaid one other = IsNothingOr one.first.told other.first.told
-    × IsNothingOr one.second.told other.second.told
-
--- stays so with an act
-said_by : (profile : Profile) → StaysBy profile IsLessSaid
-said_by profile (acts.Ask (commands.Reader First (readers.SetupConfig level columns rows display)))
-    one other less = less
-said_by profile (acts.Ask (commands.Reader Second (readers.SetupConfig level columns rows display)))
-    one other less = less
-said_by Extended (acts.Reply (commands.Reader First command) (replies.Reader list)) one other less =
-    (or_less (last_level list.messages) one.first.told other.first.told less.0, less.1)
-said_by Extended (acts.Reply (commands.Reader Second command) (replies.Reader list)) one other
-    less = (less.0, or_less (last_level list.messages) one.second.told other.second.told less.1)
-said_by profile act one other less = less
-
--- and so does less known of both
+-- so less known of both stays so with an act
 known_by : (profile : Profile) → StaysBy profile IsLessKnown
-known_by profile act one other less =
-    let asked = told_by profile act one other (less.first.asked, less.second.asked) in
-    let said = said_by profile act one other (less.first.told, less.second.told) in
-    record {
-      first = record { asked = asked.0; told = said.0 };
-      second = record { asked = asked.1; told = said.1 };
-    }
+known_by profile (acts.Ask (commands.Reader First (readers.SetupConfig level _ _ _))) one other
+    less =
+    record { first = record { asked = refl; told = less.first.told }; second = less.second }
+known_by profile (acts.Ask (commands.Reader Second (readers.SetupConfig level _ _ _))) one other
+    less =
+    record { first = less.first; second = record { asked = refl; told = less.second.told } }
+known_by Extended (acts.Reply (commands.Reader First command) (replies.Reader list)) one other
+    less =
+    let now = last_level list.messages in
+    let told = or_less now one.first.told other.first.told less.first.told in
+    record { first = record { asked = less.first.asked; told = told }; second = less.second }
+known_by Extended (acts.Reply (commands.Reader Second command) (replies.Reader list)) one other
+    less =
+    let now = last_level list.messages in
+    let told = or_less now one.second.told other.second.told less.second.told in
+    record { first = less.first; second = record { asked = less.second.asked; told = told } }
+known_by profile act one other less = less
 
 pub less_known : (profile : Profile) (less more : Levels) (later : List Piece) (words : List Event)
     (before : List Piece) → IsLessKnown less (levels_of profile more before)

@@ -1,14 +1,10 @@
 -- Rows that have foreign words in front of a middle, and tails after it: a run of the middle is one
 -- of the rows. Lists of acts and of pieces stand newest first, lists of events oldest first.
-use Rattle.std.proofs.Common.{ap, refl, subst, sym, ◌∙◌, ◌≡◌, ◌+◌, inl, inr, ℕ, List, [], ◌∷◌, ◌++◌, All, Option, Some, None}
+use Rattle.std.proofs.Common.{ap, refl, ◌∙◌, ◌≡◌, inl, inr, List, [], ◌∷◌, ◌++◌, All}
 use Rattle.std.specs.List.{AllByRecursion}
 use Rattle.std.proofs.lemmas.List.{append-nil}
 use Rattle.std.proofs.lemmas.List.Elements.{recursion_from_All}
 use Rattle.mdb_words.specs.declared.event.Event.{Event}
-use Rattle.mdb_words.specs.declared.event.Event.TheVariants.{Break}
-use Rattle.mdb_words.specs.declared.word.Line.TheVariants.{Controller}
-use Rattle.mdb_blocks.specs.Block.{block_of, controller_words}
-use Rattle.mdb_msgs.specs.Commands.{command_bytes}
 use Rattle.mdb_msgs.specs.declared.command.Device.{Device}
 use Rattle.mdb_msgs.specs.declared.setups.Setups.{Setups}
 use Rattle.mdb_bus.specs.declared.act.Act.TheVariants as acts
@@ -17,25 +13,16 @@ use Rattle.mdb_bus.specs.declared.scope.Beginning.TheVariants.{Joined}
 use Rattle.mdb_bus.specs.declared.scope.Scope.{Scope}
 use Rattle.mdb_bus.specs.declared.scope.Profile.{Profile}
 use Rattle.mdb_bus.specs.declared.scope.Profile.TheVariants.{Base, Extended}
-use Rattle.mdb_bus.specs.Acts.{IsForeignWord, Say, said_by}
-use Rattle.mdb_bus.specs.ActLists.{Piece, Whole, AskTail, Position, InForeign, ArePieces, IsActList, IsSaid, MayCome, acts_of, events_of, first_position, last_of, levels_of, piece_events, position_of}
+use Rattle.mdb_bus.specs.Acts.{IsForeignWord}
+use Rattle.mdb_bus.specs.ActLists.{Piece, Whole, InForeign, ArePieces, IsActList, acts_of, events_of, first_position, last_of, levels_of, piece_events, position_of}
 use Rattle.mdb_bus.specs.Pieces.{IsTail}
 use Rattle.mdb_bus.specs.LeavingOut.{with_foreign}
-use Rattle.mdb_machine.specs.declared.choice.Choice.TheVariants.{Plain}
-use Rattle.mdb_machine.specs.Gains.{no_gains}
 use Rattle.mdb_machine.specs.Pair.{own_acts}
-use Rattle.mdb_follow.specs.Arrivals.{Arrives}
-use Rattle.mdb_follow.specs.Tables.{EachArrives}
-use Rattle.mdb_follow.specs.Machines.{StateOf, machine_of}
 use Rattle.mdb_follow.specs.Runs.{AllSums, Run}
-use Rattle.mdb_follow.specs.Sums.{no_sums}
 use Rattle.mdb_late_start.specs.Middle.{HasMiddle}
-use Rattle.mdb_late_start.specs.MidSession.{IsNothingOr}
-use Rattle.mdb_late_start.specs.Cuts.{SplitsAt}
-use Rattle.mdb_late_start.specs.Told.{IsLessTold, told_later}
+use Rattle.mdb_late_start.specs.Told.{told_later}
 use Rattle.mdb_late_start.specs.inner.EndLaws.{EndLaws}
 use Rattle.mdb_late_start.specs.Alone.{IsLessKnown, MayBeReadAlone}
-use Rattle.mdb_follow.proofs.Ways.{no-gains}
 use Rattle.mdb_late_start.proofs.CutWords.{foreign_both, foreign_end, first_anew}
 use Rattle.mdb_late_start.proofs.LessTold.{as_told, by_profile}
 use Rattle.mdb_late_start.proofs.ToldCuts.{other_levels}
@@ -44,7 +31,7 @@ use Rattle.mdb_late_start.proofs.Foreign.{own_later, AreForeign, after_foreign, 
 use Rattle.mdb_late_start.proofs.Onward.{acts_in_two}
 use Rattle.mdb_bus.proofs.LeftOutWords.{AreForeignWords}
 use Rattle.mdb_bus.specs.Scopes.{first_levels, levels_before, no_levels, profile_of}
-use Rattle.mdb_late_start.proofs.Cutting.{begins_nothing}
+use Rattle.mdb_late_start.proofs.Cutting.{none_or_same, begins_nothing}
 use Rattle.mdb_bus.specs.declared.scope.Beginning.{Beginning}
 
 -- foreign words, by recursion
@@ -84,8 +71,7 @@ module _ (scope : Scope) (begins : first_position scope.begins ≡ InForeign) wh
   foreign_only (piece ∷ pieces) are words =
       let earlier = foreign_only pieces are.2
       (foreign_front (events_of pieces) (piece_events piece) words) in
-      let its : AreForeignWords (are.1.first ∷ are.1.others) =
-      rw are.1.begins at (foreign_end (events_of pieces) (piece_events piece) words) in
+      let its = rw are.1.begins at (foreign_end (events_of pieces) (piece_events piece) words) in
       elim (first_anew scope InForeign (last_of (events_of pieces)) are.1.first are.1.others piece
       are.0.said are.1.begins (rw (still_foreign pieces earlier) at are.1.comes) tt) [
         | inl anew ↦ absurd (begins_nothing are.1.first its.0 anew)
@@ -98,11 +84,6 @@ acts_past : (tail pieces : List Piece) → AllByRecursion IsTail tail
 acts_past [] pieces tails = refl
 acts_past (Whole act events ∷ tail) pieces tails = absurd tails.0
 acts_past (piece ∷ tail) pieces tails = acts_past tail pieces tails.1
-
--- what is told is the same
-the_same : (told : Option ℕ) → IsNothingOr told told
-the_same None = tt
-the_same (Some level) = refl
 
 -- The acts of rows are those of the act list of their middle, and foreign ones before them.
 pub record Parts (scope : Scope) (rows middle : List Event) (has : HasMiddle scope rows middle)
@@ -123,12 +104,12 @@ first_less setups Base levels = record {
 }
 first_less setups Extended levels = record {
   first = record {
-    asked = the_same setups.first_reader.asked;
-    told = the_same setups.first_reader.told;
+    asked = none_or_same setups.first_reader.asked;
+    told = none_or_same setups.first_reader.told;
   };
   second = record {
-    asked = the_same setups.second_reader.asked;
-    told = the_same setups.second_reader.told;
+    asked = none_or_same setups.second_reader.asked;
+    told = none_or_same setups.second_reader.told;
   };
 }
 
@@ -170,21 +151,19 @@ module _ (setups : Setups) (levels : Levels) (scope : Scope) where
         } in
         let cut = laws.splits_rows mine setups has.words middle has.whole linked list in
         let none = cut.clean has.anew in
-        let before_rows : events_of cut.before ≡ has.words =
-        cut.rows ∙ ap (λ ws. has.words ++ ws) none ∙ append-nil has.words in
+        let before_rows = cut.rows ∙ ap (λ ws. has.words ++ ws) none ∙ append-nil has.words in
         let words = are_words has.words has.foreign in
         let before = none_told_in cut.before has.words
         (record { in_order = cut.in_front; whole = before_rows }) words in
         let there : IsActList mine (cut.later ++ with_foreign cut.words []) middle =
         elim (by_profile profile) [
           | inl base ↦ laws.told mine setups levels has.words middle has.whole list cut
-              (subst (λ ls. IsLessTold levels ls)
-              (sym (before ∙ as_told setups profile base levels))
-              (the_same levels.first.asked, the_same levels.second.asked))
+              (rw (before, as_told setups profile base levels)
+              (none_or_same levels.first.asked, none_or_same levels.second.asked))
           | inr extended ↦ other_levels setups no_levels levels scope
               (cut.later ++ with_foreign cut.words []) middle extended cut.act_list
         ] in
-        let clean : IsActList mine (cut.later ++ []) middle = rw none at there in
+        let clean = rw none at there in
         record {
           later = cut.later;
           before = cut.before;
@@ -206,13 +185,9 @@ module _ (setups : Setups) (levels : Levels) (scope : Scope) where
     pub run_of_rows : (sums : AllSums) → Run mine middle sums → Run mine rows sums
     run_of_rows sums run =
         let begins : Beginning = Joined setups profile in
-        let same : run.pieces ≡ parts.later =
-        laws.one mine middle run.pieces parts.later run.act_list parts.list in
-        let ways : EachArrives begins (acts_of parts.later) run.states sums =
-        rw same at (laws.splits begins run.loss run.pieces run.states sums run.way) in
+        let same = laws.one mine middle run.pieces parts.later run.act_list parts.list in
+        let ways = rw same at (laws.splits begins run.loss run.pieces run.states sums run.way) in
         run_by laws mine rows (has.tail ++ has.whole) run.states sums has.act_list
-        (λ device. subst
-        (λ l. Arrives (machine_of begins device) l (run.states device) (sums device))
-        (sym parts.acts)
+        (λ device. rw parts.acts
         (after_foreign device setups profile parts.before parts.foreign (acts_of parts.later)
         (run.states device) (sums device) (ways device)))

@@ -1,6 +1,6 @@
 -- Ways that go on from a state after some acts: of all devices, and of each. Lists of acts and of
 -- pieces stand newest first.
-use Rattle.std.proofs.Common.{ap, refl, subst, ◌≡◌, List, [], ◌∷◌, ◌++◌}
+use Rattle.std.proofs.Common.{ap, refl, ◌≡◌, List, [], ◌∷◌, ◌++◌}
 use Rattle.mdb_msgs.specs.declared.command.Device.{Device}
 use Rattle.mdb_bus.specs.declared.act.Act.{Act}
 use Rattle.mdb_bus.specs.declared.scope.Beginning.{Beginning}

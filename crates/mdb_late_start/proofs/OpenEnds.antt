@@ -1,12 +1,10 @@
 -- Where the end of a transcript has an act list by itself, by the extended profile, its replies are
 -- those of the whole: what is read there with less known of levels is what is read with more.
-use Rattle.std.proofs.Common.{arith, ap, refl, sym, subst, ◌∙◌, ◌≡◌, ◌≢◌, ◌++◌, ◌⊎◌, ◌+◌, ◌%◌, inl, inr, ℕ, Bool, true, false, nat_lt, ◌||◌, sum, List, [], ◌∷◌, length, Option, Some, None, IsSome, if◌then◌else◌, append_assoc}
+use Rattle.std.proofs.Common.{arith, ap, refl, sym, subst, ◌∙◌, ◌≡◌, ◌≢◌, ◌++◌, ◌⊎◌, ◌+◌, ◌%◌, inl, inr, ℕ, Bool, true, false, nat_lt, ◌||◌, sum, List, [], ◌∷◌, length, Option, Some, None, if◌then◌else◌, append_assoc}
 use Rattle.std.proofs.lemmas.List.{same_from_push}
 use Rattle.mdb_words.specs.declared.event.Event.{Event}
-use Rattle.mdb_words.specs.declared.event.Event.TheVariants.{Word, Break}
-use Rattle.mdb_words.specs.declared.word.Line.{Line}
-use Rattle.mdb_words.specs.declared.word.Line.TheVariants.{Controller, Peripheral}
-use Rattle.mdb_msgs.specs.declared.answer.DataForm.{DataForm}
+use Rattle.mdb_words.specs.declared.event.Event.TheVariants.{Word}
+use Rattle.mdb_words.specs.declared.word.Line.TheVariants.{Peripheral}
 use Rattle.mdb_msgs.specs.declared.command.Command.{Command}
 use Rattle.mdb_msgs.specs.declared.command.Command.TheVariants.{Reader}
 use Rattle.mdb_msgs.specs.declared.command.ReaderUnit.TheVariants.{First, Second}
@@ -24,7 +22,7 @@ use Rattle.mdb_bus.specs.declared.scope.Beginning.TheVariants.{PowerOn, Joined}
 use Rattle.mdb_bus.specs.declared.scope.Profile.TheVariants.{Base, Extended}
 use Rattle.mdb_bus.specs.declared.scope.Scope.{Scope}
 use Rattle.mdb_bus.specs.Acts.{IsReply, Say, reply_words, said_by}
-use Rattle.mdb_bus.specs.ActLists.{AnswerMayCome, ArePieces, AreSpaced, Asked, InForeign, IsActList, IsPiece, IsReplyFront, MayStand, Piece, ReplyFits, ReplyTail, Whole, events_of, last_of, levels_of, position_of, Position}
+use Rattle.mdb_bus.specs.ActLists.{AnswerMayCome, ArePieces, AreSpaced, Asked, IsActList, IsReplyFront, Piece, ReplyFits, ReplyTail, Whole, events_of, last_of, levels_of, position_of, Position}
 use Rattle.mdb_bus.specs.Pieces.{HasActList}
 use Rattle.mdb_bus.specs.Formats.{IsReadAs, format_by, format_for}
 use Rattle.mdb_bus.specs.ExtendedFormats.{by_asked, by_told, format_at, long, long_format, short, IsFirst, untold_format}
@@ -35,16 +33,15 @@ use Rattle.mdb_bus.specs.shared.Grammar.{OpenIsAFront}
 use Rattle.mdb_bus.specs.shared.Step.{Step}
 use Rattle.mdb_bus.specs.shared.Step as step
 use Rattle.mdb_bus.specs.shared.Steps.{Leads}
-use Rattle.mdb_late_start.specs.Cuts.{BeginAnew, joined_with}
+use Rattle.mdb_late_start.specs.Cuts.{joined_with}
 use Rattle.mdb_late_start.specs.MidSession.{IsNothingOr}
 use Rattle.mdb_late_start.specs.Told.{IsLessTold}
 use Rattle.mdb_late_start.specs.Alone.{IsLessKnown, IsReadAlone, MayBeReadAlone, TellsLevelsOfFront}
 use Rattle.mdb_late_start.proofs.Cutting.{AllFitAlone, ComesAlone, Cutting, FitsAlone, all_foreign, alone, anew_still, foreign_position, rows_begin}
 use Rattle.mdb_late_start.proofs.LessTold.{by_profile, less_before, less_known, less_told, levels_fit}
 use Rattle.mdb_bus.proofs.Backward.{backward}
-use Rattle.mdb_bus.proofs.Lists.{first_stays, front_and_last, inside, peripheral_push, say_last, say_length}
+use Rattle.mdb_bus.proofs.Lists.{first_stays, front_and_last, heard, inside, peripheral_push, say_last, say_length}
 use Rattle.mdb_bus.specs.declared.scope.Profile.{Profile}
-use Rattle.mdb_late_start.proofs.CutWords.{says_word}
 
 -- what mdb_bus says of act lists
 pub record LinkLaws : Type 0 where
@@ -218,7 +215,7 @@ may_reply scope pieces command reply events are position from comes = record {
 pub some_events : {profile : Profile} {position : Position} {from : Option Event}
     {command : Command} {reply : Reply} {events : List Event}
     → MayReply profile position from command reply events → events ≢ []
-some_events may none = let clash : may.first ∷ may.others ≡ [] = sym may.begins ∙ none in cc clash
+some_events may none = cc (may.begins, none)
 
 -- Rows go on with the words of a reply, up to its last one.
 pub record Tail (scope : Scope) (pieces : List Piece) (command : Command) (reply : Reply)
@@ -238,9 +235,7 @@ module _ (scope : Scope) (pieces : List Piece) (are : ArePieces scope pieces) (c
       → Tail scope pieces command reply front row
   reply_tail front row may =
       let bytes = reply_bytes reply in
-      let ended : Say Peripheral (bytes ++ (256 + sum bytes % 256) ∷ []) (front ++ row ∷ []) =
-      subst (λ words. Say Peripheral words (front ++ row ∷ []))
-      (peripheral_push bytes (sum bytes % 256)) may.says in
+      let ended = rw (peripheral_push bytes (sum bytes % 256)) at may.says in
       let last = say_last Peripheral (bytes ++ (256 + sum bytes % 256) ∷ []) front row ended in
       let same = same_from_push bytes last.0 (256 + sum bytes % 256) last.1 last.2 in
       let some : front ≢ [] = λ none. omega (
@@ -258,16 +253,21 @@ module _ (scope : Scope) (pieces : List Piece) (are : ArePieces scope pieces) (c
         few = may.said.content.at_most;
         in_range = may.said.content.in_range;
       } in
-      let tail : IsPiece scope (ReplyTail command bytes front) =
-      record { said = (begun, rw same.0 last.3); spaced = gaps.0 } in
-      let stands : MayStand scope pieces (ReplyTail command bytes front) = record {
-        first = may.first;
-        others = kept.0;
-        begins = kept.1;
-        comes = may.comes;
-        levels = tt;
-      } in
-      record { are = (tail, stands, are); some = some; said = rw same.1 last.4 }
+      record {
+        are = (
+          record { said = (begun, rw same.0 last.3); spaced = gaps.0 },
+          record {
+            first = may.first;
+            others = kept.0;
+            begins = kept.1;
+            comes = may.comes;
+            levels = tt;
+          },
+          are,
+        );
+        some = some;
+        said = rw same.1 last.4;
+      }
 
   -- the marked word of a peripheral ends a reply
   found : (front : List Event) (row : Event) (next : Step)
@@ -275,7 +275,7 @@ module _ (scope : Scope) (pieces : List Piece) (are : ArePieces scope pieces) (c
       → Leads (situation_of scope (ReplyTail command (reply_bytes reply) front ∷ pieces)) row next
       → Found scope pieces command reply
   found front row next said leads =
-      let is = says_word Peripheral (256 + sum (reply_bytes reply) % 256) row said in
+      let is = heard row Peripheral (256 + sum (reply_bytes reply) % 256) said in
       ended is.0 next (rw is.1 at leads)
     where
       ended : (at : ℕ) (next : Step)
@@ -342,14 +342,13 @@ module _ (scope : Scope) (setups : Setups) where
         → IsLessKnown (levels_here here) (levels_there pieces)
     known_in_reply others all at =
         let Known : List Piece → Type 0 = λ ps. IsLessKnown (levels_here here) (levels_there ps) in
-        let parts : end ≡ cut.words ++ (events_of cut.later ++ others) =
-        all ∙ ap (λ es. es ++ others) (sym cut.whole ∙ rows_begin cut.later cut.words)
+        let parts = all ∙ ap (λ es. es ++ others) (sym cut.whole ∙ rows_begin cut.later cut.words)
         ∙ append_assoc cut.words (events_of cut.later) others in
-        let some : cut.later ≢ [] = λ none.
-        let clash : InForeign ≡ Asked command =
-        sym (ap (λ ps. position_of new (alone ps cut.words)) none
-        ∙ foreign_position new cut.words [] refl) ∙ at in
-        cc clash in
+        let some : cut.later ≢ [] = λ none. cc (
+          ap (λ ps. position_of new (alone ps cut.words)) none,
+          foreign_position new cut.words [] refl,
+          at,
+        ) in
         subst Known (sym cut.order)
         (less_known profile (levels_before new) (levels_before scope) cut.later cut.words cut.before
         (tells cut.words (events_of cut.later ++ others) cut.before parts

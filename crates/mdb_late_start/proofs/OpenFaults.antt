@@ -8,7 +8,6 @@ use Rattle.mdb_words.specs.declared.word.Line.TheVariants.{Peripheral}
 use Rattle.mdb_msgs.specs.declared.command.Command.{Command}
 use Rattle.mdb_msgs.specs.declared.fault.MsgFault.{MsgFault}
 use Rattle.mdb_msgs.specs.declared.fault.MsgFault.TheVariants.{Message, Profile as Left, Answer}
-use Rattle.mdb_msgs.specs.declared.reading.Ids.TheVariants.{Full}
 use Rattle.mdb_msgs.specs.declared.reply.Reply.{Reply}
 use Rattle.mdb_msgs.specs.declared.setups.Setups.{Setups}
 use Rattle.mdb_msgs.specs.Replies.{IsReplyTo, reply_bytes}
@@ -17,24 +16,21 @@ use Rattle.mdb_bus.specs.declared.fault.Blame.{Blame}
 use Rattle.mdb_bus.specs.declared.fault.Rule.{Rule}
 use Rattle.mdb_bus.specs.declared.fault.Rule.TheVariants as rule
 use Rattle.mdb_bus.specs.declared.format.Format.{Format}
-use Rattle.mdb_bus.specs.declared.format.Format.TheVariants.{Or, Open}
+use Rattle.mdb_bus.specs.declared.format.Format.TheVariants.{Or}
 use Rattle.mdb_bus.specs.declared.levels.Levels.{Levels}
-use Rattle.mdb_bus.specs.declared.scope.Beginning.{Beginning}
-use Rattle.mdb_bus.specs.declared.scope.Beginning.TheVariants.{PowerOn, Joined}
-use Rattle.mdb_bus.specs.declared.scope.Profile.TheVariants.{Base, Extended}
+use Rattle.mdb_bus.specs.declared.scope.Profile.TheVariants.{Extended}
 use Rattle.mdb_bus.specs.declared.scope.Scope.{Scope}
-use Rattle.mdb_bus.specs.ActLists.{ArePieces, InReply, IsActList, Piece, ReplyFits, ReplyTail, Whole, events_of, last_of, levels_of, position_of}
+use Rattle.mdb_bus.specs.ActLists.{ArePieces, IsActList, Piece, ReplyFits, ReplyTail, Whole, events_of, last_of, levels_of, position_of}
 use Rattle.mdb_bus.specs.Pieces.{HasActList}
-use Rattle.mdb_bus.specs.Formats.{HasFault, IsReadAs, format_by, format_for}
-use Rattle.mdb_bus.specs.ExtendedFormats.{long, short}
-use Rattle.mdb_bus.specs.LinkFaults.{HasBadMessage, IsLinkFault, OutOfOrder, RowBreaks, TooEarly, TooFarApart, TooLate, WrongAnswer, WrongSpeaker, WrongSum, situation_of, asked_device, blame_of, fault_of}
-use Rattle.mdb_bus.specs.OpenReplies.{IsExtended, OpenLeavesOut}
+use Rattle.mdb_bus.specs.Formats.{HasFault, IsReadAs, format_for}
+use Rattle.mdb_bus.specs.LinkFaults.{IsLinkFault, RowBreaks, situation_of, asked_device, blame_of, fault_of}
+use Rattle.mdb_bus.specs.OpenReplies.{OpenLeavesOut}
 use Rattle.mdb_bus.specs.Scopes.{levels_before, profile_of}
 use Rattle.mdb_late_start.specs.Alone.{IsLessKnown, TellsLevelsOfFront}
 use Rattle.mdb_late_start.specs.Cuts.{SplitsAt, joined_with}
 use Rattle.mdb_late_start.proofs.Cutting.{AllFitAlone, ComesAlone, Cutting, alone, anew_still, splits}
 use Rattle.mdb_late_start.proofs.LessTold.{by_profile}
-use Rattle.mdb_late_start.proofs.OpenEnds.{LinkLaws, Tail, fit_by_base, format_alone, known_in_reply, reply_fits_there, reply_tail, IsLess, may_reply, some_events}
+use Rattle.mdb_late_start.proofs.OpenEnds.{LinkLaws, fit_by_base, format_alone, known_in_reply, reply_fits_there, reply_tail, IsLess, may_reply, some_events}
 use Rattle.mdb_bus.proofs.Lists.{front_and_last, last_push}
 use Rattle.mdb_bus.specs.ExtendedHaste.{counted_in, haste_of}
 use Rattle.mdb_bus.specs.declared.scope.Profile.{Profile}
@@ -76,8 +72,8 @@ ends_so : (rows all more : List Event) (row : Event) → more ≢ []
     → rows ++ row ∷ [] ≡ all ++ more → (rest : List Event) × (rows ≡ all ++ rest)
 ends_so rows all more row some is =
     let split = front_and_last more some in
-    let joined : rows ++ row ∷ [] ≡ (all ++ split.0) ++ split.1 ∷ [] =
-    is ∙ ap (λ es. all ++ es) split.2 ∙ sym (append_assoc all split.0 (split.1 ∷ [])) in
+    let joined = is ∙ ap (λ es. all ++ es) split.2
+    ∙ sym (append_assoc all split.0 (split.1 ∷ [])) in
     (split.0, (same_from_push rows (all ++ split.0) row split.1 joined).0)
 
 -- a rule is Profile, or another
@@ -194,7 +190,7 @@ module _ (scope : Scope) (setups : Setups) where
           let breaks_it = breaks_there extended mine pieces command reply split.0 row here_tail.some
           are.0.said.0.answers (known_in_reply scope setups front (rows ++ row ∷ []) tells
           middle command pieces cut events all comes.0) are.1.levels broken other
-          (subst (λ ps. RowBreaks (situation_of new ps) row broken) is breaks) in
+          (rw is at breaks) in
           let has : HasActList scope (events_of there ++ split.1 ∷ []) = (
             Whole (acts.Reply command reply) events ∷ pieces,
             record {

@@ -1,6 +1,6 @@
 -- Where the end of a recording leaves no amount of a reader without a value, each of its acts has
 -- the same price there as in the whole recording.
-use Rattle.std.proofs.Common.{◌≡◌, ◌⊎◌, ℕ, ◌+◌, Bool, true, false, ◌&&◌, ◌||◌, List, [], ◌∷◌, ◌++◌, Option, Some, None, refl, inl, inr, unwrap_or, arith, ap, sym, subst, ◌∙◌, sum_by}
+use Rattle.std.proofs.Common.{◌≡◌, ◌⊎◌, ℕ, Bool, true, false, ◌&&◌, ◌||◌, List, [], ◌∷◌, ◌++◌, Option, Some, None, refl, inl, inr, unwrap_or, arith, ap, sym, ◌∙◌, sum_by}
 use Rattle.std.specs.Option.{is_none}
 use Rattle.mdb_msgs.specs.declared.command.Command.{Command}
 use Rattle.mdb_msgs.specs.declared.command.ReaderCommand.{ReaderCommand}
@@ -17,8 +17,8 @@ use Rattle.mdb_machine.specs.Known.{known_before}
 use Rattle.mdb_machine.specs.Past.{last_told, or_else}
 use Rattle.mdb_machine.specs.Unvalued as amounts
 use Rattle.mdb_machine.specs.Unvalued.{one_if}
-use Rattle.mdb_cashless.specs.ReaderAmounts.{asks_sale, is_unpriced, unvalued, unvalued_by}
-use Rattle.mdb_cashless.specs.ReaderFacts.{amount_by, config_by, known_of, messages_by}
+use Rattle.mdb_cashless.specs.ReaderAmounts.{asks_sale, unvalued, unvalued_by}
+use Rattle.mdb_cashless.specs.ReaderFacts.{amount_by, config_by, known_of, messages_by, own_messages}
 use Rattle.mdb_cashless.specs.ReaderMessages.{config_in, last_said, messages_of}
 use Rattle.mdb_cashless.specs.Units.{own}
 use Rattle.mdb_cashless.specs.shared.ReaderWays.{first_of_three}
@@ -115,10 +115,7 @@ amounts_known (Some setup) count none = inr (setup, refl)
 -- what a reply to this reader tells
 pub said : (unit : ReaderUnit) (command : Command) (reply : Reply) (its : ReaderCommand)
     → own unit command ≡ Some its → messages_by unit (acts.Reply command reply) ≡ messages_of reply
-said unit command reply its is =
-    ap (λ (o : Option ReaderCommand).
-    let messages : List ReaderMsg = elim o [ Some c ↦ messages_of reply | None ↦ [] ] in messages)
-    is
+said unit command reply its is = rw (is, own_messages) refl
 
 module _ (unit : ReaderUnit) (begins : Beginning) where
   -- the config message that is known, and the amount
@@ -145,57 +142,45 @@ module _ (unit : ReaderUnit) (begins : Beginning) where
   rest_valued [] before none = none
   rest_valued (act ∷ again) before none = rest_valued again before (omega (arith, none))
 
-  -- a command that is asked
-  asked_known : (command : Command) (before : List Act) (its : ReaderCommand)
-      → own unit command ≡ Some its → IsValued (acts.Ask command ∷ before)
-      → IsSaleKnown its before
-  asked_known command before its is none =
-      sale_known (asks_sale (Some its)) (known_config before) (amount_of before)
-      (rw is at (first_valued (acts.Ask command) before none))
+  module _ (command : Command) (its : ReaderCommand) (is : own unit command ≡ Some its) where
+    -- a command that is asked
+    asked_known : (before : List Act) → IsValued (acts.Ask command ∷ before)
+        → IsSaleKnown its before
+    asked_known before none =
+        sale_known (asks_sale (Some its)) (known_config before) (amount_of before)
+        (rw is at (first_valued (acts.Ask command) before none))
 
-  -- one that is answered
-  answered_known : (command : Command) (later before : List Act) (its : ReaderCommand)
-      → later ≡ acts.Ask command ∷ before → own unit command ≡ Some its → IsValued later
-      → IsSaleKnown its later
-  answered_known command later before its order is =
-      subst (λ l. IsValued l → IsSaleKnown its l) (sym order) (asked_known command before its is)
+    -- one that is answered
+    answered_known : (later before : List Act) → later ≡ acts.Ask command ∷ before
+        → IsValued later → IsSaleKnown its later
+    answered_known later before order = rw order (asked_known before)
 
-  -- a reply has no message 05, or a config message is known that they are valued by
-  reply_known : (command : Command) (reply : Reply) (before : List Act) (its : ReaderCommand)
-      → own unit command ≡ Some its → IsValued (acts.Reply command reply ∷ before)
-      → (approvals (messages_of reply) ≡ 0) ⊎ IsSome (config_with reply (known_config before))
-  reply_known command reply before its is none =
-      amounts_known (config_with reply (known_config before)) (approvals (messages_of reply))
-      (rw (said unit command reply its is) at (first_valued (acts.Reply command reply) before none))
+    module _ (reply : Reply) (before : List Act) where
+      abbrev Replied : List Act
+      Replied = acts.Reply command reply ∷ before
 
-  -- which is known after it
-  known_after : (command : Command) (reply : Reply) (again before : List Act)
-      (its : ReaderCommand) → own unit command ≡ Some its
-      → IsSome (config_with reply (known_config before))
-      → IsSome (known_config (again ++ (acts.Reply command reply ∷ before)))
-  known_after command reply (act ∷ again) before its is some =
-      stays (config_by unit act)
-      (last_told (config_by unit) (again ++ (acts.Reply command reply ∷ before)))
-      (known_before (λ setups. config_known setups unit) begins)
-      (known_after command reply again before its is some)
-  known_after command reply [] before its is some =
-      let last : Option ReaderConfig = last_told (config_by unit) before in
-      let elsewhere : Option ReaderConfig =
-      known_before (λ setups. config_known setups unit) begins in
-      rw (said unit command reply its is)
-      (subst IsSome (first_of_three (last_said config_in (messages_of reply)) last elsewhere) some)
+      -- a reply has no message 05, or a config message is known that they are valued by
+      reply_known : IsValued Replied
+          → (approvals (messages_of reply) ≡ 0) ⊎ IsSome (config_with reply (known_config before))
+      reply_known none =
+          amounts_known (config_with reply (known_config before)) (approvals (messages_of reply))
+          (rw (said unit command reply its is) at
+          (first_valued (acts.Reply command reply) before none))
 
-  -- so it is where the controller acknowledges the reply
-  acked_known : (command : Command) (reply : Reply) (again before : List Act)
-      (its : ReaderCommand) → own unit command ≡ Some its
-      → IsValued (again ++ (acts.Reply command reply ∷ before))
-      → (approvals (messages_of reply) ≡ 0)
-      ⊎ IsSome (known_config (again ++ (acts.Reply command reply ∷ before)))
-  acked_known command reply again before its is none =
-      elim (reply_known command reply before its is
-      (rest_valued again (acts.Reply command reply ∷ before) none)) [
+      -- which is known after it
+      known_after : (again : List Act) → IsSome (config_with reply (known_config before))
+          → IsSome (known_config (again ++ Replied))
+      known_after [] some = rw (said unit command reply its is) (rw first_of_three at some)
+      known_after (act ∷ again) some = stays (config_by unit act)
+          (last_told (config_by unit) (again ++ Replied))
+          (known_before (λ setups. config_known setups unit) begins) (known_after again some)
+
+      -- so it is where the controller acknowledges the reply
+      acked_known : (again : List Act) → IsValued (again ++ Replied)
+          → (approvals (messages_of reply) ≡ 0) ⊎ IsSome (known_config (again ++ Replied))
+      acked_known again none = elim (reply_known (rest_valued again Replied none)) [
         | inl nothing ↦ inl nothing
-        | inr some ↦ inr (known_after command reply again before its is some)
+        | inr some ↦ inr (known_after again some)
       ]
 
   -- ---- the same prices
@@ -221,25 +206,25 @@ module _ (unit : ReaderUnit) (begins : Beginning) where
       → AnswersLast act later → IsValued (act ∷ later)
       → IsPriced unit (prices_known later) whole act
   priced later whole (acts.Ask c) count answers none =
-      λ its is. sale_priced later whole its count (asked_known c later its is none)
+      λ its is. sale_priced later whole its count (asked_known c its is later none)
   priced later whole (acts.Ack c) count answers none =
-      λ its is. sale_priced later whole its count (answered_known c later answers.0 its answers.1 is
+      λ its is. sale_priced later whole its count (answered_known c its is later answers.0 answers.1
       (rest_valued (acts.Ack c ∷ []) later none))
   priced later whole (acts.Reply c r) count answers none =
       λ its is. (
-        sale_priced later whole its count (answered_known c later answers.0 its answers.1 is
+        sale_priced later whole its count (answered_known c its is later answers.0 answers.1
             (rest_valued (acts.Reply c r ∷ []) later none)),
-        elim (reply_known c r later its is none) [
+        elim (reply_known c its is r later none) [
           | inl nothing ↦ inl nothing
           | inr some ↦ inr (same_after (last_said config_in (messages_of r)) (known_config later)
               whole.config count.config some)
         ],
       )
   priced later whole (acts.VmcAck c r) count answers none =
-      λ its is. elim (acked_known c r answers.again answers.before its is
-      (subst IsValued answers.order (rest_valued (acts.VmcAck c r ∷ []) later none))) [
+      λ its is. elim (acked_known c its is r answers.before answers.again
+      (rw answers.order at (rest_valued (acts.VmcAck c r ∷ []) later none))) [
         | inl nothing ↦ inl nothing
         | inr some ↦ inr (same_after None (known_config later) whole.config count.config
-            (subst (λ l. IsSome (known_config l)) (sym answers.order) some))
+            (rw answers.order some))
       ]
   priced later whole act count answers none = tt

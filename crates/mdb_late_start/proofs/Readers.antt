@@ -1,12 +1,11 @@
 -- What a reader does in the course of a recording, it may do in the end of that by itself.
-use Rattle.std.proofs.Common.{◌≡◌, ◌⊎◌, List, [], ◌∷◌, ◌++◌, None, refl, sym, subst, ◌∙◌, inl, inr}
+use Rattle.std.proofs.Common.{List, [], ◌∷◌, ◌++◌, refl, ◌∙◌}
 use Rattle.mdb_msgs.specs.declared.command.Device.TheVariants as devices
 use Rattle.mdb_msgs.specs.declared.command.ReaderUnit.{ReaderUnit}
 use Rattle.mdb_msgs.specs.declared.setups.Setups.{Setups}
-use Rattle.mdb_msgs.specs.Setups.{config_known}
 use Rattle.mdb_bus.specs.declared.act.Act.{Act}
 use Rattle.mdb_bus.specs.declared.scope.Beginning.{Beginning}
-use Rattle.mdb_bus.specs.declared.scope.Beginning.TheVariants.{PowerOn, Joined}
+use Rattle.mdb_bus.specs.declared.scope.Beginning.TheVariants.{Joined}
 use Rattle.mdb_bus.specs.declared.scope.Profile.TheVariants as profiles
 use Rattle.mdb_bus.specs.Scopes.{profile_of}
 use Rattle.mdb_machine.specs.declared.choice.Choice.{Choice}
@@ -16,15 +15,13 @@ use Rattle.mdb_cashless.specs.declared.by_profile.state.StateByProfile.TheVarian
 use Rattle.mdb_cashless.specs.declared.reader.state.ReaderState.{ReaderState}
 use Rattle.mdb_cashless.specs.ReaderAmounts.{unvalued}
 use Rattle.mdb_cashless.specs.ReaderFacts.{KnownFacts, known_of}
-use Rattle.mdb_follow.specs.Machines.{machine_of}
-use Rattle.mdb_follow.specs.Report.{unvalued_of}
-use Rattle.mdb_late_start.specs.MidSession.{AnswersLast, GoesOnInEnd, HasTold, HasToldWhatItHolds, MayJoinLate, TellsOnlyWhatIsSo, HasToldByProfile}
+use Rattle.mdb_late_start.specs.MidSession.{HasTold, MayJoinLate, HasToldByProfile}
 use Rattle.mdb_late_start.proofs.ExtendedSteps.{extended_in_end}
 use Rattle.mdb_late_start.proofs.Keepers.{AlsoSteps, allowed_end, kept_end, recorded}
 use Rattle.mdb_late_start.proofs.ReaderCovers.{IsCounted, counted, known_in_end}
 use Rattle.mdb_late_start.proofs.ReaderHolds.{goes_on_told, starts_told}
 use Rattle.mdb_late_start.proofs.ReaderOtherwise.{goes_otherwise, otherwise}
-use Rattle.mdb_late_start.proofs.ReaderPrices.{IsPriced, known_config, prices_known, same_prices}
+use Rattle.mdb_late_start.proofs.ReaderPrices.{known_config, same_prices}
 use Rattle.mdb_bus.specs.declared.scope.Profile.{Profile}
 use Rattle.mdb_machine.specs.Machine.{Machine}
 use Rattle.mdb_cashless.specs.ByProfile.{base_state, by_profile, extended_state, machine_in}
@@ -108,7 +105,7 @@ module _ (unit : ReaderUnit) (begins : Beginning) where
       → (MachineBy unit begins profile).Step so_far act choice before after gains
       → HasToldByProfile (FactsBy profile (act ∷ so_far)) after
   goes_on_by profiles.Base so_far act choice (Base before) (Base after) gains told step =
-      goes_on_told begins unit so_far step.facts act choice before after gains told step.step
+      goes_on_told unit step.facts choice before after gains begins so_far act told step.step
   goes_on_by profiles.Extended so_far act choice (Extended before) (Extended after) gains told
       step =
       tt

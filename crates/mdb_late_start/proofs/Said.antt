@@ -1,7 +1,6 @@
 -- What is said in a recording is said where that begins otherwise, and where other levels were told
 -- before it: only the profile and the devices that are left out count.
-use Rattle.std.proofs.Common.{ap, subst, sym, ◌∙◌, ◌≡◌, ◌≤◌, inl, inr, ℕ, List, [], ◌∷◌, slice_index, if◌then◌else◌, ◌++◌}
-use Rattle.mdb_words.specs.declared.event.Event.{Event}
+use Rattle.std.proofs.Common.{ap, ◌∙◌, ◌≡◌, inl, inr, ℕ, List, [], ◌∷◌, slice_index, if◌then◌else◌, ◌++◌}
 use Rattle.mdb_msgs.specs.declared.need.Need.{Need}
 use Rattle.mdb_msgs.specs.declared.need.Need.TheVariants.{Foreign}
 use Rattle.mdb_msgs.specs.Needs.{is_to_one_of}
@@ -10,10 +9,9 @@ use Rattle.mdb_bus.specs.declared.levels.Levels.{Levels}
 use Rattle.mdb_bus.specs.declared.scope.Beginning.{Beginning}
 use Rattle.mdb_bus.specs.declared.scope.Profile.{Profile}
 use Rattle.mdb_bus.specs.declared.scope.Scope.{Scope}
-use Rattle.mdb_bus.specs.Acts.{IsForeign, IsForeignOpening}
+use Rattle.mdb_bus.specs.Acts.{IsForeignOpening}
 use Rattle.mdb_bus.specs.ActLists.{Piece, Whole, AskTail, IsSaid}
-use Rattle.mdb_bus.specs.Scopes.{HasCommand, needed_by, profile_of, Asks}
-use Rattle.mdb_bus.specs.Times.{break_least}
+use Rattle.mdb_bus.specs.Scopes.{needed_by, profile_of, Asks}
 use Rattle.mdb_msgs.specs.declared.command.Command.{Command}
 
 -- a recording that begins so, with these levels told before, and with the same devices left out

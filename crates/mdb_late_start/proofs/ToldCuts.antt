@@ -1,6 +1,6 @@
 -- An end has its act list as well where levels are told that were told in front of it: what its
 -- replies say of levels fits those as it fitted in the whole.
-use Rattle.std.proofs.Common.{ap, inl, inr, refl, subst, ◌∙◌, ◌≡◌, ◌++◌, List, [], ◌∷◌}
+use Rattle.std.proofs.Common.{ap, inl, inr, refl, ◌∙◌, ◌≡◌, ◌++◌, List, [], ◌∷◌}
 use Rattle.std.proofs.lemmas.List.{append-nil}
 use Rattle.mdb_words.specs.declared.event.Event.{Event}
 use Rattle.mdb_msgs.specs.declared.setups.Setups.{Setups}
@@ -11,7 +11,7 @@ use Rattle.mdb_bus.specs.declared.scope.Beginning.TheVariants.{Joined}
 use Rattle.mdb_bus.specs.declared.scope.Profile.{Profile}
 use Rattle.mdb_bus.specs.declared.scope.Profile.TheVariants.{Base, Extended}
 use Rattle.mdb_bus.specs.declared.scope.Scope.{Scope}
-use Rattle.mdb_bus.specs.ActLists.{ArePieces, IsActList, MayCome, Piece, PieceFits, Position, Whole, events_of, last_of, levels_of, position_of}
+use Rattle.mdb_bus.specs.ActLists.{ArePieces, IsActList, Piece, PieceFits, Whole, levels_of, position_of}
 use Rattle.mdb_bus.specs.Pieces.{HasActList}
 use Rattle.mdb_bus.specs.LeavingOut.{with_foreign}
 use Rattle.mdb_bus.specs.Scopes.{first_levels, levels_before, no_levels, profile_of, told}

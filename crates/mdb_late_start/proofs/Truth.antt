@@ -1,5 +1,5 @@
 -- What came to the accounts in the end of a recording lies within the bounds of the end's report.
-use Rattle.std.proofs.Common.{ap, refl, subst, sym, ◌∙◌, ◌≡◌, ℤ, pos, ◌-ℤ◌, List, ◌++◌}
+use Rattle.std.proofs.Common.{ap, refl, subst, sym, ◌∙◌, ◌≡◌, ℤ, List, ◌++◌}
 use Rattle.mdb_words.specs.declared.event.Event.{Event}
 use Rattle.mdb_msgs.specs.declared.command.Device.{Device}
 use Rattle.mdb_msgs.specs.declared.setups.Setups.{Setups}
@@ -25,7 +25,7 @@ use Rattle.mdb_follow.specs.Report.{IsReport, device_unvalued, unvalued_of}
 use Rattle.mdb_follow.specs.Runs.{AllSums, Run}
 use Rattle.mdb_late_start.specs.Alone.{MayBeReadAlone}
 use Rattle.mdb_late_start.specs.Cuts.{BeginAnew}
-use Rattle.mdb_late_start.specs.Ends.{CameToWithin, IsInside, Passes, both_accounts, both_sums}
+use Rattle.mdb_late_start.specs.Ends.{CameToWithin, IsInside, Passes, both_sums}
 use Rattle.mdb_late_start.specs.Middle.{HasMiddle}
 use Rattle.mdb_late_start.specs.MidSession.{TellsOnlyWhatIsSo}
 use Rattle.mdb_late_start.specs.Told.{AreToldBy, told_later}
@@ -150,8 +150,7 @@ module _ (laws : EndLaws) (reports : ReportLaws) (scope : Scope) (setups : Setup
         let parted = parts setups levels more laws rows end has linked in
         let same : left ≡ parted.later = laws.one its end left parted.later left_list parted.list in
         let all = acts_of (has.tail ++ has.whole) in
-        let valued : unvalued_of its.begins device (acts_of passes.later) ≡ 0 =
-        alike its.begins device (acts_of passes.later) all
+        let valued = alike its.begins device (acts_of passes.later) all
         (sym own ∙ ap (λ ps. own_acts device (acts_of ps)) same
         ∙ sym (own_in_middle setups levels more laws rows end has linked device))
         ∙ sym (reports.unvalued its rows report (has.tail ++ has.whole) is has.act_list device)

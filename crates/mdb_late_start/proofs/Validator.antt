@@ -1,5 +1,5 @@
 -- What the validator does, it may do in mid-session: what is so of its conduct.
-use Rattle.std.proofs.Common.{◌≡◌, inl, inr, ℕ, zero, suc, ◌<◌, true, false, List, [], ◌∷◌, refl, ap, sym, subst, ◌∙◌}
+use Rattle.std.proofs.Common.{◌≡◌, ℕ, zero, suc, true, false, List, [], ◌∷◌, refl, ap}
 use Rattle.std.specs.List.{AllByRecursion}
 use Rattle.mdb_msgs.specs.declared.command.Device.TheVariants as devices
 use Rattle.mdb_msgs.specs.declared.setups.Setups.{Setups}
@@ -73,12 +73,9 @@ no_bill facts (suc slot) message none = refl
 ack_holds : (facts : Facts) (command : BillCommand) (choice : Choice)
     (before after : BillState) (gains : Gains) → TakeStep command before after gains
     → after.holds ≡ true → before.holds ≡ true
-ack_holds facts bill.Reset choice before after gains step is =
-    let clash : false ≡ true = sym (ap (λ (s : BillState). s.holds) step.0) ∙ is in cc clash
-ack_holds facts (bill.Escrow order) choice before after gains step is =
-    sym (ap (λ (s : BillState). s.holds) step.0) ∙ is
-ack_holds facts _ choice before after gains step is =
-    sym (ap (λ (s : BillState). s.holds) step.0) ∙ is
+ack_holds facts bill.Reset choice before after gains step is = cc (step.0, is)
+ack_holds facts (bill.Escrow order) choice before after gains step is = rw step.0 at is
+ack_holds facts _ choice before after gains step is = rw step.0 at is
 
 -- all that is so of its conduct
 steady : IsSteady tables conduct Fits
@@ -93,8 +90,7 @@ steady = record {
   no_gain = no_bill;
   power_on_free = refl;
   heard = λ state. refl;
-  ask_holds = λ facts command before after gains step is.
-      sym (ap (λ (s : BillState). s.holds) step.0) ∙ is;
+  ask_holds = λ facts command before after gains step is. rw step.0 at is;
   ack_holds = ack_holds;
   news_hold = λ facts choice news before after step. step.1;
 }

@@ -48,7 +48,6 @@ ghost use Rattle.mdb_late_start.specs.inner.EndLaws.{EndLaws};
 use mdb_bus::laws as links;
 use mdb_follow::laws as follow;
 use mdb_msgs::laws as messages;
-use mdb_words::laws as rows;
 
 /// The end of a recording that may be read by itself has the acts of the whole, wherever the
 /// recording is cut. Checked as a recording that begins while the machine was running, it has the
@@ -289,8 +288,6 @@ pub fn ends_of_yeses_are_yeses()
 {
     ends_of_reached_rows_are_reached();
     follow::fronts_of_reached_rows_are_reached();
-    rows::fields_are_of_one_event();
-    rows::rows_are_never_refused();
 }
 
 /// So it is where feature levels are told that the controller had told the readers in front of the
@@ -308,8 +305,6 @@ pub fn ends_of_yeses_are_yeses_with_the_levels_told_in_front()
 {
     ends_are_reached_with_the_levels_told_in_front();
     follow::fronts_of_reached_rows_are_reached();
-    rows::fields_are_of_one_event();
-    rows::rows_are_never_refused();
 }
 
 /// By the extended profile, too, nobody is blamed because a recording begins late. An end of
@@ -346,6 +341,4 @@ pub fn ends_of_yeses_are_yeses_or_end_at_profile()
     ends_of_reached_rows_are_reached();
     ends_break_no_rule_of_the_link_but_profile();
     follow::fronts_of_reached_rows_are_reached();
-    rows::fields_are_of_one_event();
-    rows::rows_are_never_refused();
 }

@@ -1,16 +1,13 @@
 -- The first byte of a command's block is to its device.
-use Rattle.std.proofs.Common.{ap, refl, ◌∙◌, ◌≡◌, ℕ, List, slice_index}
-use Rattle.mdb_blocks.specs.Block.{block_of}
-use Rattle.mdb_msgs.specs.declared.command.Command.{Command}
+use Rattle.mdb_msgs.proofs.Words.{◌≡◌, block_of, Command, First, Second, Spells, command_bytes}
+use Rattle.mdb_msgs.proofs.Words.{device_of, is_to_one_of}
+use Rattle.std.proofs.Common.{ap, refl, ◌∙◌, ℕ, List, slice_index}
 use Rattle.mdb_msgs.specs.declared.command.Command.TheVariants.{Changer, Bill, Reader}
 use Rattle.mdb_msgs.specs.declared.command.BillCommand.TheVariants as bill
 use Rattle.mdb_msgs.specs.declared.command.ChangerCommand.TheVariants as changer
 use Rattle.mdb_msgs.specs.declared.command.ReaderCommand.TheVariants as reader
-use Rattle.mdb_msgs.specs.declared.command.ReaderUnit.TheVariants.{First, Second}
 use Rattle.mdb_msgs.specs.declared.device_set.DeviceSet.{DeviceSet}
-use Rattle.mdb_msgs.specs.Commands.{Spells, command_bytes, device_of}
 use Rattle.mdb_msgs.specs.DeviceSets.{has}
-use Rattle.mdb_msgs.specs.Needs.{is_to_one_of}
 
 its_own : (set : DeviceSet) (command : Command)
     → is_to_one_of set (slice_index (block_of (command_bytes command)) 0)

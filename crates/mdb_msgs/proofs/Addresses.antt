@@ -1,15 +1,9 @@
 -- Which device a block is for, told from its first byte.
-use Rattle.std.proofs.Common.{◌≡◌, ℕ, ◌+◌, ◌-◌, ◌/◌, ◌%◌, ◌<◌, ◌≤◌, List, [], ◌∷◌, length, slice_get, slice_index, sum, Option, Some, arith, ap, sym, ◌∙◌, length-append}
-use Rattle.std.proofs.lemmas.Bool.Decides.{nat_tests}
-use Rattle.mdb_blocks.specs.Block.{block_of}
-use Rattle.mdb_msgs.specs.declared.command.Device.{Device}
+use Rattle.mdb_msgs.proofs.Words.{◌≡◌, ◌≤◌, length, nat_tests, block_of, Device, ReaderUnit, First}
+use Rattle.mdb_msgs.proofs.Words.{Second, MsgFault, IsCommandFault, IsRefused, reader_address}
+use Rattle.mdb_msgs.proofs.Words.{device_at, need, need_for, reader_need}
+use Rattle.std.proofs.Common.{ℕ, ◌+◌, ◌-◌, ◌/◌, ◌%◌, ◌<◌, List, [], ◌∷◌, slice_get, slice_index, sum, Option, Some, arith, ap, sym, ◌∙◌, length-append}
 use Rattle.mdb_msgs.specs.declared.command.Device.TheVariants.{Changer, Bill, Reader}
-use Rattle.mdb_msgs.specs.declared.command.ReaderUnit.{ReaderUnit}
-use Rattle.mdb_msgs.specs.declared.command.ReaderUnit.TheVariants.{First, Second}
-use Rattle.mdb_msgs.specs.declared.fault.MsgFault.{MsgFault}
-use Rattle.mdb_msgs.specs.CommandFaults.{IsCommandFault, IsRefused}
-use Rattle.mdb_msgs.specs.Commands.{reader_address}
-use Rattle.mdb_msgs.specs.Needs.{device_at, need, need_for, reader_need}
 
 pub at_first : (first : ℕ) → 0x10 ≤ first → first ≤ 0x17 → device_at first ≡ Some (Reader First)
 at_first first least most = let address : first / 8 ≡ 2 = omega arith in rw address

@@ -1,14 +1,9 @@
 -- The table of what first bytes tell: each entry is what the first byte alone tells.
-use Rattle.std.proofs.Common.{◌≡◌, ◌≢◌, ℕ, zero, suc, ◌+◌, ◌<◌, Bool, true, ◌&&◌, nat_eq, get_or, refl, ap, Option, Some, None, inl, inr, arith}
-use Rattle.std.proofs.lemmas.Bool.{cases_eq}
-use Rattle.std.proofs.lemmas.Bool.Decides.{nat_tests}
-use Rattle.std.proofs.lemmas.Grind.{common_steps}
-use Rattle.mdb_msgs.specs.declared.command.Device.{Device}
+use Rattle.mdb_msgs.proofs.Words.{◌≡◌, cases_eq, nat_tests, common_steps, Device, Need, More}
+use Rattle.mdb_msgs.proofs.Words.{Exactly, Foreign, Outside, device_at, need, need_for}
+use Rattle.std.proofs.Common.{◌≢◌, ℕ, zero, suc, ◌+◌, ◌<◌, Bool, true, ◌&&◌, nat_eq, get_or, refl, ap, Option, Some, None, inl, inr, arith}
 use Rattle.mdb_msgs.specs.declared.command.Device.TheVariants.{Changer}
-use Rattle.mdb_msgs.specs.declared.need.Need.{Need}
-use Rattle.mdb_msgs.specs.declared.need.Need.TheVariants.{More, Exactly, Foreign, Outside}
 use Rattle.mdb_msgs.specs.declared.first_needs.TheConstants.{FIRST}
-use Rattle.mdb_msgs.specs.Needs.{device_at, need, need_for}
 
 -- a number for each need, by which needs are compared
 code : Need → ℕ

@@ -1,16 +1,10 @@
 -- Which bytes are fronts of commands.
-use Rattle.std.proofs.Common.{◌≡◌, ◌≢◌, ◌<◌, ◌+◌, ◌-◌, ℕ, List, [], ◌∷◌, ◌++◌, length, sum, ◌%◌, replicate, Option, Some, None, All, arith, refl, ap, subst, ◌∙◌, append_assoc, length-append}
-use Rattle.std.proofs.lemmas.Grind.{common_steps}
+use Rattle.mdb_msgs.proofs.Words.{◌≡◌, length, replicate, common_steps, All-append, All-replicate}
+use Rattle.mdb_msgs.proofs.Words.{Command, Device, Need, More, Exactly, IsByte, Spells, device_at}
+use Rattle.mdb_msgs.proofs.Words.{need, need_for, needed, IsOpen, IsShort, IsTold}
+use Rattle.std.proofs.Common.{◌≢◌, ◌<◌, ◌+◌, ◌-◌, ℕ, List, [], ◌∷◌, ◌++◌, sum, ◌%◌, Option, Some, None, All, arith, refl, ap, subst, ◌∙◌, append_assoc, length-append}
 use Rattle.std.proofs.lemmas.List.{length-replicate}
-use Rattle.std.proofs.lemmas.List.Elements.{All-append, All-replicate}
-use Rattle.mdb_msgs.specs.declared.command.Command.{Command}
-use Rattle.mdb_msgs.specs.declared.command.Device.{Device}
 use Rattle.mdb_msgs.specs.declared.command.Device.TheVariants.{Changer}
-use Rattle.mdb_msgs.specs.declared.need.Need.{Need}
-use Rattle.mdb_msgs.specs.declared.need.Need.TheVariants.{More, Exactly}
-use Rattle.mdb_msgs.specs.Commands.{IsByte, Spells}
-use Rattle.mdb_msgs.specs.Needs.{device_at, need, need_for, needed}
-use Rattle.mdb_msgs.specs.OpenBlocks.{IsOpen, IsShort, IsTold}
 use Rattle.mdb_msgs.proofs.Contents.{spelled}
 use Rattle.mdb_msgs.proofs.Prefixes.{first_bytes}
 

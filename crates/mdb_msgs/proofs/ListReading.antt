@@ -1,8 +1,6 @@
 -- Reading a list of messages, one after the other.
-use Rattle.std.proofs.Common.{◌≡◌, ℕ, ◌+◌, ◌<◌, ◌≤◌, List, ◌∷◌, ◌++◌, length, suc, drop, get_or, drop-cons}
-use Rattle.std.specs.List.{flat_map, AllByRecursion}
-use Rattle.mdb_msgs.specs.declared.fault.MsgFault.{MsgFault}
-use Rattle.mdb_msgs.specs.Lists.{StopsAt}
+use Rattle.mdb_msgs.proofs.Words.{◌≡◌, ◌≤◌, length, flat_map, AllByRecursion, MsgFault, StopsAt}
+use Rattle.std.proofs.Common.{ℕ, ◌+◌, ◌<◌, List, ◌∷◌, ◌++◌, suc, drop, get_or, drop-cons}
 
 -- these messages were taken off the front, and this is the rest
 pub record Going {M : Type 0} (bytes_of : M → List ℕ) (IsMsg : M → Type 0) (whole : List ℕ)

@@ -1,19 +1,12 @@
 -- A block has one command or one fault.
-use Rattle.std.proofs.Common.{◌≡◌, ℕ, ◌%◌, List, length, slice_index, drop, if◌then◌else◌, Result, Ok, Err, IfOk, IfErr, arith, refl, ap, sym, subst, ◌∙◌}
-use Rattle.mdb_blocks.specs.Block.{block_of}
-use Rattle.mdb_msgs.specs.declared.command.Command.{Command}
+use Rattle.mdb_msgs.proofs.Words.{◌≡◌, length, block_of, Command, First, Second, MsgFault, Length}
+use Rattle.mdb_msgs.proofs.Words.{Profile, Need, Exactly, Foreign, Outside, IsCommandFault}
+use Rattle.mdb_msgs.proofs.Words.{IsRefused, Spells, command_bytes, is_for, needed}
+use Rattle.std.proofs.Common.{ℕ, ◌%◌, List, slice_index, drop, if◌then◌else◌, Result, Ok, Err, IfOk, IfErr, arith, refl, ap, sym, subst, ◌∙◌}
 use Rattle.mdb_msgs.specs.declared.command.Command.TheVariants.{Changer, Bill, Reader}
 use Rattle.mdb_msgs.specs.declared.command.ChangerCommand.TheVariants as changer
 use Rattle.mdb_msgs.specs.declared.command.BillCommand.TheVariants as bill
 use Rattle.mdb_msgs.specs.declared.command.ReaderCommand.TheVariants as reader
-use Rattle.mdb_msgs.specs.declared.command.ReaderUnit.TheVariants.{First, Second}
-use Rattle.mdb_msgs.specs.declared.fault.MsgFault.{MsgFault}
-use Rattle.mdb_msgs.specs.declared.fault.MsgFault.TheVariants.{Length, Profile}
-use Rattle.mdb_msgs.specs.declared.need.Need.{Need}
-use Rattle.mdb_msgs.specs.declared.need.Need.TheVariants.{Exactly, Foreign, Outside}
-use Rattle.mdb_msgs.specs.CommandFaults.{IsCommandFault, IsRefused}
-use Rattle.mdb_msgs.specs.Commands.{Spells, command_bytes}
-use Rattle.mdb_msgs.specs.Needs.{is_for, needed}
 use Rattle.mdb_msgs.proofs.Contents.{changer_at, bill_at, reader_at}
 use Rattle.mdb_msgs.proofs.OneReply.{one_content}
 use Rattle.mdb_msgs.proofs.Prefixes.{whole}

@@ -1,17 +1,12 @@
 -- Bytes have one reading as a list of messages.
-use Rattle.std.proofs.Common.{◌≡◌, ℕ, ◌-◌, ◌/◌, ◌%◌, ◌⊎◌, inl, inr, nat_lt, nat_eq, if◌then◌else◌, Bool, List, [], ◌∷◌, ◌++◌, refl, sym, ap, ◌∙◌, arith, append-nil, subst}
-use Rattle.std.specs.List.{flat_map, AllByRecursion}
+use Rattle.mdb_msgs.proofs.Words.{◌≡◌, flat_map, AllByRecursion, nat_tests, MsgFault, BillMsg}
+use Rattle.mdb_msgs.proofs.Words.{ChangerMsg, bill_msg_bytes, IsBillMsg, NoBillMsg}
+use Rattle.mdb_msgs.proofs.Words.{changer_msg_bytes, IsChangerMsg, NoChangerMsg, StopsAt}
+use Rattle.std.proofs.Common.{ℕ, ◌-◌, ◌/◌, ◌%◌, ◌⊎◌, inl, inr, nat_lt, nat_eq, if◌then◌else◌, Bool, List, [], ◌∷◌, ◌++◌, refl, sym, ap, ◌∙◌, arith, append-nil, subst}
 use Rattle.std.proofs.lemmas.List.{append_cancel_left}
-use Rattle.std.proofs.lemmas.Bool.Decides.{nat_tests}
-use Rattle.mdb_msgs.specs.declared.fault.MsgFault.{MsgFault}
 use Rattle.mdb_msgs.specs.declared.fault.MsgFault.TheVariants as faults
-use Rattle.mdb_msgs.specs.declared.reply.bill.BillMsg.{BillMsg}
 use Rattle.mdb_msgs.specs.declared.reply.bill.BillMsg.TheVariants as bill
-use Rattle.mdb_msgs.specs.declared.reply.changer.ChangerMsg.{ChangerMsg}
 use Rattle.mdb_msgs.specs.declared.reply.changer.ChangerMsg.TheVariants as changer
-use Rattle.mdb_msgs.specs.Bill.{bill_msg_bytes, IsBillMsg, NoBillMsg}
-use Rattle.mdb_msgs.specs.Changer.{changer_msg_bytes, IsChangerMsg, NoChangerMsg}
-use Rattle.mdb_msgs.specs.Lists.{StopsAt}
 use Rattle.mdb_msgs.proofs.Standing.{NoEndBefore, OneBefore, one_standing, stand_all}
 
 -- where messages end: nothing is left, or no message stands there

@@ -1,21 +1,12 @@
 -- For a command, bytes have one reply or one fault.
-use Rattle.std.proofs.Common.{◌≡◌, ◌≢◌, ℕ, ◌+◌, ◌/◌, ◌%◌, ◌<◌, inl, inr, if◌then◌else◌, Bool, true, false, Some, Result, Ok, Err, IfOk, IfErr, List, [], ◌∷◌, ◌++◌, length, refl, sym, ap, ◌∙◌, arith, length-append, subst, sum}
-use Rattle.mdb_blocks.specs.Block.{block_of}
-use Rattle.mdb_msgs.specs.declared.answer.DataForm.{DataForm}
+use Rattle.mdb_msgs.proofs.Words.{◌≡◌, length, block_of, DataForm, Command, MsgFault, Reading}
+use Rattle.mdb_msgs.proofs.Words.{Reply, BillSetup, ChangerSetup, Stacker, TubeStatus, is_extended}
+use Rattle.mdb_msgs.proofs.Words.{SpellsReply}
+use Rattle.std.proofs.Common.{◌≢◌, ℕ, ◌+◌, ◌/◌, ◌%◌, ◌<◌, inl, inr, if◌then◌else◌, Bool, true, false, Some, Result, Ok, Err, IfOk, IfErr, List, [], ◌∷◌, ◌++◌, refl, sym, ap, ◌∙◌, arith, length-append, subst, sum}
 use Rattle.mdb_msgs.specs.declared.answer.DataForm.TheVariants as form
-use Rattle.mdb_msgs.specs.declared.command.Command.{Command}
-use Rattle.mdb_msgs.specs.declared.fault.MsgFault.{MsgFault}
 use Rattle.mdb_msgs.specs.declared.fault.MsgFault.TheVariants as faults
-use Rattle.mdb_msgs.specs.declared.reading.Reading.{Reading}
-use Rattle.mdb_msgs.specs.declared.reply.Reply.{Reply}
 use Rattle.mdb_msgs.specs.declared.reply.Reply.TheVariants as reply
-use Rattle.mdb_msgs.specs.declared.reply.setup.BillSetup.{BillSetup}
-use Rattle.mdb_msgs.specs.declared.reply.setup.ChangerSetup.{ChangerSetup}
-use Rattle.mdb_msgs.specs.declared.reply.setup.Stacker.{Stacker}
-use Rattle.mdb_msgs.specs.declared.reply.setup.TubeStatus.{TubeStatus}
-use Rattle.mdb_msgs.specs.Readings.{is_extended}
 use Rattle.mdb_msgs.specs.Replies.{form_of_reply, reply_bytes, HasFields, HasMessages, IsIn, tells_of_sales, IsReplyTo, NoReply, IsNoReplyTo, IsReadFault}
-use Rattle.mdb_msgs.specs.ReplyFaults.{SpellsReply}
 use Rattle.mdb_msgs.specs.Setup.{changer_setup_bytes, tube_status_bytes, bill_setup_bytes, stacker_bytes, IsStacker}
 use Rattle.mdb_msgs.proofs.OneReader.{one_reader_list, reader_no_stop, one_reader_stop}
 use Rattle.mdb_msgs.proofs.ReaderBytes.{same_fronts}

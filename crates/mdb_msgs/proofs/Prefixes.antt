@@ -1,17 +1,11 @@
 -- What the first bytes of a block tell of its length.
-use Rattle.std.proofs.Common.{◌≡◌, ◌<◌, ℕ, List, [], ◌∷◌, ◌++◌, length, Option, Some, None, arith, refl}
-use Rattle.std.proofs.lemmas.Grind.{common_steps}
-use Rattle.mdb_msgs.specs.declared.command.Command.{Command}
+use Rattle.mdb_msgs.proofs.Words.{◌≡◌, length, common_steps, Command, Device, First, Second}
+use Rattle.mdb_msgs.proofs.Words.{Exactly, Spells, device_at, need_for, needed, IsTold, TellsLength}
+use Rattle.std.proofs.Common.{◌<◌, ℕ, List, [], ◌∷◌, ◌++◌, Option, Some, None, arith, refl}
 use Rattle.mdb_msgs.specs.declared.command.Command.TheVariants.{Changer, Bill, Reader}
 use Rattle.mdb_msgs.specs.declared.command.BillCommand.TheVariants as bill
-use Rattle.mdb_msgs.specs.declared.command.Device.{Device}
 use Rattle.mdb_msgs.specs.declared.command.Device.TheVariants as device
 use Rattle.mdb_msgs.specs.declared.command.ReaderCommand.TheVariants as reader
-use Rattle.mdb_msgs.specs.declared.command.ReaderUnit.TheVariants.{First, Second}
-use Rattle.mdb_msgs.specs.declared.need.Need.TheVariants.{Exactly}
-use Rattle.mdb_msgs.specs.Commands.{Spells}
-use Rattle.mdb_msgs.specs.Needs.{device_at, need_for, needed}
-use Rattle.mdb_msgs.specs.OpenBlocks.{IsTold, TellsLength}
 
 -- the first two bytes of a command's block tell its length
 pub whole : (block : List ℕ) (command : Command) → Spells command block

@@ -1,18 +1,14 @@
 -- The bytes of a reader's answer are read as the answer.
-use Rattle.std.proofs.Common.{◌≡◌, ℕ, zero, suc, ◌+◌, ◌*◌, ◌/◌, ◌%◌, ◌<◌, ◌≤◌, ◌⊎◌, inl, inr, if◌then◌else◌, Bool, true, false, List, get_or, [], ◌∷◌, ◌++◌, length, take, drop, replicate, slice_index_or, Fits, w8, refl, sym, ap, ◌∙◌, arith, ap₂, append_assoc, append-nil, length-append, subst}
-use Rattle.std.specs.List.{flat_map, list_any}
+use Rattle.mdb_msgs.proofs.Words.{◌≡◌, ◌*◌, ◌≤◌, length, take, replicate, flat_map, list_any}
+use Rattle.mdb_msgs.proofs.Words.{two_bytes, four_bytes, Ids, Reading, ReaderMsg, allows}
+use Rattle.mdb_msgs.proofs.Words.{takes_options, Stand, no_messages, messages_of, StandAsMessages}
+use Rattle.mdb_msgs.proofs.Words.{IsNextMessage}
+use Rattle.std.proofs.Common.{ℕ, zero, suc, ◌+◌, ◌/◌, ◌%◌, ◌<◌, ◌⊎◌, inl, inr, if◌then◌else◌, Bool, true, false, List, get_or, [], ◌∷◌, ◌++◌, drop, slice_index_or, Fits, w8, refl, sym, ap, ◌∙◌, arith, ap₂, append_assoc, append-nil, length-append, subst}
 use Rattle.std.proofs.lemmas.List.{append_cancel_left, drop-append-le, drop-take, get_or-drop, length-drop, length-take-le, take_all}
 use Rattle.std.proofs.Math.Seq.{drop-append_seam, take-append_seam}
-use Rattle.mdb_msgs.specs.TwoBytes.{two_bytes, four_bytes}
-use Rattle.mdb_msgs.specs.declared.reading.Ids.{Ids}
-use Rattle.mdb_msgs.specs.declared.reading.Reading.{Reading}
-use Rattle.mdb_msgs.specs.declared.reply.reader.ReaderMsg.{ReaderMsg}
 use Rattle.mdb_msgs.specs.declared.reply.reader.ReaderMsg.TheVariants.{JustReset, Config, Display, BeginSession, BeginSessionLong, VendApproved, PeripheralId, PeripheralIdWithOptions, OutOfSequence, OutOfSequenceIn}
 use Rattle.mdb_msgs.specs.Reader.{ReaderMessages, head_bytes, is_display, is_id, reading_of, text_of, reader_msg_bytes, reader_list_bytes, AreReaderMsgs, IsReaderList, IsReaderMsg, IsTextOf}
-use Rattle.mdb_msgs.specs.Readings.{allows, takes_options}
-use Rattle.mdb_msgs.specs.Lists.{Stand}
-use Rattle.mdb_msgs.specs.ReaderBytes.{number_at, long_number_at, front_id, front_session, out_of, front_message, front_text, no_messages, before_messages, messages_in, messages_of, AreMessages}
-use Rattle.mdb_msgs.specs.inner.ReaderSteps.{StandAsMessages, IsNextMessage}
+use Rattle.mdb_msgs.specs.ReaderBytes.{number_at, long_number_at, front_id, front_session, out_of, front_message, front_text, before_messages, messages_in, AreMessages}
 
 -- numbers are told by their bytes
 whole : (n : ℕ) → 256 * (n / 256) + n % 256 ≡ n

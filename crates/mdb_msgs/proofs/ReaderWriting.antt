@@ -1,14 +1,9 @@
 -- Lists of messages that are given: whether they are another list, and whether they fit a block.
-use Rattle.std.proofs.Common.{◌≡◌, ◌<◌, ◌+◌, false, true, ℕ, List, Some, None, Result, Ok, Err, IfOk, IfErr, [], length, refl, sym, ap, ◌∙◌, arith, subst, take, get_or}
-use Rattle.std.specs.List.{flat_map}
-use Rattle.std.specs.Result.{result_ok}
-use Rattle.std.proofs.lemmas.List.Folds.{length-flat_map-take}
-use Rattle.mdb_msgs.specs.declared.reading.Reading.{Reading}
-use Rattle.mdb_msgs.specs.declared.reply.reader.ReaderMsg.{ReaderMsg}
+use Rattle.mdb_msgs.proofs.Words.{◌≡◌, length, take, flat_map, result_ok, length-flat_map-take}
+use Rattle.mdb_msgs.proofs.Words.{Reading, ReaderMsg, nat_tests, MsgFault}
+use Rattle.std.proofs.Common.{◌<◌, ◌+◌, false, true, ℕ, List, Some, None, Result, Ok, Err, IfOk, IfErr, [], refl, sym, ap, ◌∙◌, arith, subst, get_or}
 use Rattle.mdb_msgs.specs.declared.reply.reader.ReaderMsg.TheVariants.{JustReset, Config, Display, BeginSession, BeginSessionLong, CancelRequest, VendApproved, VendDenied, EndSession, Cancelled, PeripheralId, PeripheralIdWithOptions, Malfunction, OutOfSequence, OutOfSequenceIn, TimeAsked}
-use Rattle.std.proofs.lemmas.Bool.Decides.{nat_tests}
 use Rattle.mdb_msgs.specs.contracts.reply.reader.ReaderMsgPartialEq.TheImpl.{eq-value}
-use Rattle.mdb_msgs.specs.declared.fault.MsgFault.{MsgFault}
 use Rattle.mdb_msgs.specs.Reader.{ReaderMessages, reader_msg_bytes, reader_list_bytes, reading_of, AreReaderMsgs, IsReaderList, ReaderStopsAt}
 use Rattle.mdb_msgs.proofs.OneReader.{one_reader_list, reader_no_stop}
 

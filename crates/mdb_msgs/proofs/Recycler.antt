@@ -1,9 +1,7 @@
 -- The validator's messages of any profile are those of the extended profile.
 use Rattle.std.proofs.Common.{Bool, true, List, [], ◌∷◌, refl}
-use Rattle.std.specs.List.{AllByRecursion}
-use Rattle.mdb_msgs.specs.declared.reply.bill.BillMsg.{BillMsg}
+use Rattle.mdb_msgs.proofs.Words.{AllByRecursion, BillMsg, IsBillMsg}
 use Rattle.mdb_msgs.specs.declared.reply.bill.BillMsg.TheVariants as bill
-use Rattle.mdb_msgs.specs.Bill.{IsBillMsg}
 
 one_extended : (r : Bool) (m : BillMsg) → IsBillMsg r m → IsBillMsg true m
 one_extended r (bill.Recycled b) is = (is.0, refl)

@@ -1,21 +1,14 @@
 -- Setup data, as they are read.
-use Rattle.std.proofs.Common.{ap, refl, subst, sym, true, false, inl, inr, ◌∙◌, ◌≡◌, ℕ, Bool, List, [], ◌∷◌, ◌++◌, Option, Some, None, option_map}
+use Rattle.mdb_msgs.proofs.Words.{◌≡◌, Command, Device, ReaderUnit, MsgFault, Length, Answer, Reply}
+use Rattle.mdb_msgs.proofs.Words.{ReaderMsg, base, early, early_long, SpellsReply}
+use Rattle.std.proofs.Common.{ap, refl, subst, sym, true, false, inl, inr, ◌∙◌, ℕ, Bool, List, [], ◌∷◌, ◌++◌, Option, Some, None, option_map}
 use Rattle.std.specs.Option.{option_or}
 use Rattle.std.proofs.lemmas.Option.{same_Some}
-use Rattle.mdb_msgs.specs.declared.command.Command.{Command}
 use Rattle.mdb_msgs.specs.declared.command.Command.TheVariants as command
-use Rattle.mdb_msgs.specs.declared.command.Device.{Device}
 use Rattle.mdb_msgs.specs.declared.command.Device.TheVariants.{Changer, Bill, Reader}
-use Rattle.mdb_msgs.specs.declared.command.ReaderUnit.{ReaderUnit}
 use Rattle.mdb_msgs.specs.declared.command.ReaderCommand.TheVariants as reader
-use Rattle.mdb_msgs.specs.declared.fault.MsgFault.{MsgFault}
-use Rattle.mdb_msgs.specs.declared.fault.MsgFault.TheVariants.{Length, Answer}
-use Rattle.mdb_msgs.specs.declared.reply.Reply.{Reply}
-use Rattle.mdb_msgs.specs.declared.reply.reader.ReaderMsg.{ReaderMsg}
 use Rattle.mdb_msgs.specs.declared.setups.Setups.{Setups}
-use Rattle.mdb_msgs.specs.Readings.{base, early, early_long}
 use Rattle.mdb_msgs.specs.Replies.{IsIn, IsReadFault, reply_bytes}
-use Rattle.mdb_msgs.specs.ReplyFaults.{SpellsReply}
 use Rattle.mdb_msgs.specs.ExtendedLevels.{last_level, level_in}
 use Rattle.mdb_msgs.specs.SetupData.{IsSetup, IsSetupOf, config_in, known_with, last_config, leveled, or_else, IsToldAs}
 use Rattle.mdb_msgs.specs.inner.SetupAsked.{setup_of}

@@ -1,24 +1,13 @@
 -- Bytes are messages, or there is a leftmost place where no message stands.
-use Rattle.std.proofs.Common.{◌≡◌, ◌≢◌, ℕ, zero, suc, ◌+◌, ◌*◌, ◌<◌, ◌≤◌, ◌⊎◌, inl, inr, Bool, true, false, List, [], ◌∷◌, ◌++◌, length, take, drop, All, refl, sym, ap, ◌∙◌, arith, append_assoc, append-nil, length-append, subst}
-use Rattle.std.specs.List.{flat_map, AllByRecursion}
-use Rattle.std.proofs.lemmas.Bool.{cases_Bool, cases_eq, cases_lt}
-use Rattle.std.proofs.lemmas.Bool.Decides.{nat_tests}
+use Rattle.mdb_msgs.proofs.Words
+use Words.{◌≡◌, ◌*◌, ◌≤◌, length, take, flat_map, AllByRecursion, cases_Bool, cases_eq, cases_lt}
+use Words.{nat_tests, All-drop, MsgFault, Message, Profile, ChangerMsg, Reading, ReaderMsg}
+use Words.{bill_msg_bytes, IsBillMsg, IsOfRecycler, NoBillMsg, changer_msg_bytes, IsChangerMsg}
+use Words.{NoChangerMsg, IsByte, StopsAt, allows, takes_options, no_messages, with_message}
+use Rattle.std.proofs.Common.{◌≢◌, ℕ, zero, suc, ◌+◌, ◌<◌, ◌⊎◌, inl, inr, Bool, true, false, List, [], ◌∷◌, ◌++◌, drop, All, refl, sym, ap, ◌∙◌, arith, append_assoc, append-nil, length-append, subst}
 use Rattle.std.proofs.lemmas.List.{length-take-le, take-append-drop}
-use Rattle.std.proofs.lemmas.List.Elements.{All-drop}
-use Rattle.mdb_msgs.specs.declared.fault.MsgFault.{MsgFault}
-use Rattle.mdb_msgs.specs.declared.fault.MsgFault.TheVariants.{Message, Profile}
-use Rattle.mdb_msgs.specs.declared.reply.changer.ChangerMsg.{ChangerMsg}
-use Rattle.mdb_msgs.specs.declared.reading.Reading.{Reading}
-use Rattle.mdb_msgs.specs.declared.reply.reader.ReaderMsg.{ReaderMsg}
 use Rattle.mdb_msgs.specs.declared.reply.reader.ReaderMsg.TheVariants as reader
-use Rattle.mdb_msgs.specs.Bill.{bill_msg_bytes, IsBillMsg, IsOfRecycler, NoBillMsg}
-use Rattle.mdb_msgs.specs.Changer.{changer_msg_bytes, IsChangerMsg, NoChangerMsg}
-use Rattle.mdb_msgs.specs.Commands.{IsByte}
-use Rattle.mdb_msgs.specs.Lists.{StopsAt}
 use Rattle.mdb_msgs.specs.Reader.{ReaderMessages, head_bytes, reader_list_bytes, session_bytes, AreReaderMsgs, IsReaderList, IsTextOf, NoReaderMsg, ReaderStopsAt}
-use Rattle.mdb_msgs.specs.Readings.{allows, takes_options}
-use Rattle.mdb_msgs.specs.ReaderBytes.{no_messages}
-use Rattle.mdb_msgs.specs.inner.ReaderSteps.{with_message}
 use Rattle.mdb_msgs.proofs.OneReading.{bill_find, changer_front}
 use Rattle.mdb_msgs.proofs.ReaderBytes.{four, head_counts, pair_bytes, text_with_options}
 use Rattle.mdb_msgs.proofs.Readings.{long_bytes, short_bytes}

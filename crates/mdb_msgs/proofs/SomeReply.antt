@@ -1,25 +1,14 @@
 -- Data bytes are a reply to a command, or have a fault.
-use Rattle.std.proofs.Common.{◌≡◌, ◌≢◌, ℕ, ◌+◌, ◌-◌, ◌*◌, ◌<◌, ◌≤◌, ◌⊎◌, inl, inr, Bool, true, false, Option, Some, None, List, [], ◌∷◌, length, slice_index, All, refl, sym, ap, ◌∙◌, arith, if◌then◌else◌}
-use Rattle.std.proofs.lemmas.Bool.{cases_eq, cases_lt}
-use Rattle.mdb_blocks.specs.Block.{IsContent}
-use Rattle.mdb_msgs.specs.declared.answer.DataForm.{DataForm}
+use Rattle.mdb_msgs.proofs.Words.{◌≡◌, ◌*◌, ◌≤◌, length, cases_eq, cases_lt, IsContent, DataForm}
+use Rattle.mdb_msgs.proofs.Words.{Command, MsgFault, Length, Message, Profile, Answer, Reading}
+use Rattle.mdb_msgs.proofs.Words.{Reply, BillSetup, ChangerSetup, Stacker, TubeStatus, IsByte}
+use Rattle.mdb_msgs.proofs.Words.{is_extended, two_bytes}
+use Rattle.std.proofs.Common.{◌≢◌, ℕ, ◌+◌, ◌-◌, ◌<◌, ◌⊎◌, inl, inr, Bool, true, false, Option, Some, None, List, [], ◌∷◌, slice_index, All, refl, sym, ap, ◌∙◌, arith, if◌then◌else◌}
 use Rattle.mdb_msgs.specs.declared.answer.DataForm.TheVariants as form
-use Rattle.mdb_msgs.specs.declared.command.Command.{Command}
-use Rattle.mdb_msgs.specs.declared.fault.MsgFault.{MsgFault}
-use Rattle.mdb_msgs.specs.declared.fault.MsgFault.TheVariants.{Length, Message, Profile, Answer}
-use Rattle.mdb_msgs.specs.declared.reading.Reading.{Reading}
-use Rattle.mdb_msgs.specs.declared.reply.Reply.{Reply}
 use Rattle.mdb_msgs.specs.declared.reply.Reply.TheVariants as reply
-use Rattle.mdb_msgs.specs.declared.reply.setup.BillSetup.{BillSetup}
-use Rattle.mdb_msgs.specs.declared.reply.setup.ChangerSetup.{ChangerSetup}
-use Rattle.mdb_msgs.specs.declared.reply.setup.Stacker.{Stacker}
-use Rattle.mdb_msgs.specs.declared.reply.setup.TubeStatus.{TubeStatus}
 use Rattle.mdb_msgs.specs.Answers.{form_of, lengths_of, may_tell_of_sales, IsDataLength}
-use Rattle.mdb_msgs.specs.Commands.{IsByte}
-use Rattle.mdb_msgs.specs.Readings.{is_extended}
 use Rattle.mdb_msgs.specs.Replies.{form_of_reply, reply_bytes, tells_of_sales, HasFields, HasMessages, IsIn, IsReplyTo, IsReadFault, NoReply}
 use Rattle.mdb_msgs.specs.Setup.{changer_setup_bytes, tube_status_bytes, bill_setup_bytes, stacker_bytes, IsStacker}
-use Rattle.mdb_msgs.specs.TwoBytes.{two_bytes}
 use Rattle.mdb_msgs.proofs.ReaderBytes.{pair_bytes}
 use Rattle.mdb_msgs.proofs.Recycler.{all_extended}
 use Rattle.mdb_msgs.proofs.SomeReading.{changer_reads, bill_reads, reader_reads}

@@ -1,12 +1,12 @@
 -- How one entry more is listed.
-use Rattle.std.proofs.Common.{◌≡◌, ◌≢◌, ◌+◌, ◌<◌, ◌≤◌, ℕ, List, [], ◌∷◌, length, refl, sym, subst, ap, ◌∙◌, arith, inl, inr, get_or, set, get_or-set_same, get_or-set_other, length-set, Option, Some, None}
+use Rattle.std.proofs.Common.{◌≡◌, ◌≢◌, ◌+◌, ◌<◌, ◌≤◌, ℕ, List, [], ◌∷◌, length, refl, ap, ◌∙◌, arith, inl, inr, get_or, set, get_or-set_same, get_or-set_other, length-set, Option, Some, None}
 use Rattle.mdb_bus.specs.declared.act.Act.{Act}
 use Rattle.mdb_bus.specs.declared.act.Act.TheVariants as acts
 use Rattle.mdb_bus.specs.ActLists.{Piece, events_of, piece_events}
 use Rattle.mdb_bus.specs.Pieces.{act_in}
 use Rattle.mdb_follow.specs.declared.follower.TheConstants.{ROWS_MAX}
 use Rattle.mdb_page.specs.Acts.{AreListed, HasRows, IsKept, IsOfPiece, Shows, ShowsAct, place_in}
-use Rattle.mdb_page.specs.inner.Listing.{AreOf, HasListed, IsNextPlace, Moves, with_rows}
+use Rattle.mdb_page.specs.inner.Listing.{AreOf, HasListed, Moves, with_rows}
 use Rattle.mdb_page.specs.declared.acts.ActListing.{ActListing}
 use Rattle.mdb_page.specs.declared.acts.PageAct.{PageAct}
 use Rattle.mdb_page.specs.declared.rows.Rows.{Rows}
@@ -106,14 +106,7 @@ module _ {pieces : List Piece} {stay : ℕ} {before after : List PageAct} (piece
 shows_with : {kind device reading break : ℕ} {block : List ℕ} (entry : PageAct) (rows : Rows)
     → Shows entry kind device block reading break
     → Shows (with_rows entry rows) kind device block reading break
-shows_with entry rows shows = record {
-  same_kind = shows.same_kind;
-  same_device = shows.same_device;
-  count = shows.count;
-  bytes = shows.bytes;
-  read = shows.read;
-  long = shows.long;
-}
+shows_with entry rows shows = search
 
 shows_act_with : (entry : PageAct) (rows : Rows) (act : Option Act) → ShowsAct entry act
     → ShowsAct (with_rows entry rows) act

@@ -1,23 +1,11 @@
 -- The fields of a line.
-use Rattle.std.proofs.Common.{◌≡◌, ◌≢◌, ◌==◌, ◌<◌, ℕ, zero, suc, List, [], ◌∷◌, ◌++◌, All, length, refl, sym, ap, ◌∙◌, arith, inl, inr, true, false, Option, None, Some, IfSome}
+use Rattle.std.proofs.Common.{◌≡◌, ◌≢◌, ◌==◌, ◌<◌, ℕ, List, [], ◌∷◌, ◌++◌, All, length, refl, ap, ◌∙◌, arith, inl, inr, true, Option, None, Some, IfSome}
 use Rattle.std.specs.Option.{is_some}
-use Rattle.std.proofs.lemmas.Bool.{cases_Bool, eqb-true}
+use Rattle.std.proofs.lemmas.Bool.{cases_Bool, eq-eqb, eqb-true}
+use Rattle.std.proofs.lemmas.List.Elements.{All-cons, All-head, All-nil, All-tail}
 use Rattle.mdb_words.specs.declared.row.RowFault.TheVariants.{FieldCount}
 use Rattle.mdb_page.specs.Lines.{AreAllFields, AreNoRow, IsCut}
 use Rattle.mdb_words.specs.RowsWritten.{joined_by_commas}
-
-none_of : {X : Type 0} (P : X → Type 0) → All P []
-none_of P k d low = absurd (omega (arith, low))
-
-all_from : {X : Type 0} (P : X → Type 0) (x : X) (xs : List X) → P x → All P xs → All P (x ∷ xs)
-all_from P x xs here rest zero d low = here
-all_from P x xs here rest (suc k) d low = rest k d (omega (arith, low))
-
-first_of_all : {X : Type 0} (P : X → Type 0) (x : X) (xs : List X) → All P (x ∷ xs) → P x
-first_of_all P x xs all = all 0 x (omega arith)
-
-all_after : {X : Type 0} (P : X → Type 0) (x : X) (xs : List X) → All P (x ∷ xs) → All P xs
-all_after P x xs all k d low = all (suc k) d (omega (arith, low))
 
 -- a byte that is no comma, and a field without one
 abbrev Other : ℕ → Type 0
@@ -28,7 +16,7 @@ Field field = All Other field
 
 -- the fields of a line that has no comma
 pub alone : (line : List ℕ) → All (λ byte. byte ≢ 44) line → AreAllFields line (line ∷ [])
-alone line none = record { whole = refl; parted = all_from Field line [] none (none_of Field) }
+alone line none = record { whole = refl; parted = All-cons Field line [] none (All-nil Field) }
 
 -- the fields of a line, by those behind its first comma
 pub more : (line front rest : List ℕ) (fields : List (List ℕ)) → IsCut 44 line front rest
@@ -37,7 +25,7 @@ pub more : (line front rest : List ℕ) (fields : List (List ℕ)) → IsCut 44 
 more line front rest [] cut some all = absurd (omega (arith, some))
 more line front rest (field ∷ fields) cut some all = record {
   whole = cut.whole ∙ ap (λ l. front ++ 44 ∷ l) all.whole;
-  parted = all_from Field front (field ∷ fields) cut.first all.parted;
+  parted = All-cons Field front (field ∷ fields) cut.first all.parted;
 }
 
 -- a line has fields
@@ -54,10 +42,9 @@ longer byte bytes (field ∷ fields) other some all = record {
   some = omega arith;
   all = record {
     whole = whole fields all.whole;
-    parted =
-        all_from Field (byte ∷ field) fields
-        (all_from Other byte field other (first_of_all Field field fields all.parted))
-        (all_after Field field fields all.parted);
+    parted = All-cons Field (byte ∷ field) fields
+        (All-cons Other byte field other (All-head Field field fields all.parted))
+        (All-tail Field field fields all.parted);
   };
 }
   where
@@ -66,11 +53,8 @@ longer byte bytes (field ∷ fields) other some all = record {
     whole [] is = ap (λ l. byte ∷ l) is
     whole (next ∷ fields) is = ap (λ l. byte ∷ l) is
 
-is_it : (a b : ℕ) → a ≡ b → (a == b) ≡ true
-is_it a b same = grind arith
-
 pub fields_of : (line : List ℕ) → HasFields line
-fields_of [] = record { fields = [] ∷ []; some = omega arith; all = alone [] (none_of Other) }
+fields_of [] = record { fields = [] ∷ []; some = omega arith; all = alone [] (All-nil Other) }
 fields_of (byte ∷ bytes) =
     let rest = fields_of bytes in
     elim (cases_Bool (byte == 44)) [
@@ -80,19 +64,17 @@ fields_of (byte ∷ bytes) =
         all =
             more (byte ∷ bytes) [] bytes rest.fields (record {
               whole = ap (λ b. b ∷ bytes) (eqb-true byte 44 same);
-              first = none_of Other;
+              first = All-nil Other;
             }) rest.some rest.all;
       }
-      | inr other ↦
-          longer byte bytes rest.fields (λ same.
-          let wrong : true ≡ false = sym (is_it byte 44 same) ∙ other in absurd (cc wrong))
+      | inr other ↦ longer byte bytes rest.fields (λ same. cc (eq-eqb byte 44 same, other))
           rest.some rest.all
     ]
 
 -- what is told of a value that is there
 pub some_told : {X : Type 0} {P : X → Type 0} (found : Option X) → IfSome found P
     → is_some found ≡ true → (x : X) × P x
-some_told None told is = let wrong : false ≡ true = is in absurd (cc wrong)
+some_told None told is = absurd cc
 some_told (Some x) told is = (x, told)
 
 -- Three fields aren't all where the last of them has a comma.

@@ -5,118 +5,100 @@ use Rattle.std.proofs.lemmas.List.{length-append, map-append, take_more_set}
 use Rattle.mdb_stretches.specs.declared.stretch.Ended.{Ended}
 use Rattle.mdb_survey_text.specs.Lines.{ended_lines, lines_of}
 use Rattle.mdb_survey_text.specs.SurveyText.{text_lines}
-use Rattle.mdb_page.specs.Surveys.{AreListed, HasNoRoom, IsPlace, rows_of_faults, written_lines}
-use Rattle.mdb_page.specs.inner.Surveying.{AreLater, HasListed}
+use Rattle.mdb_page.specs.Surveys.{HasNoRoom, IsPlace, rows_of_faults, written_lines}
+use Rattle.mdb_page.specs.inner.Surveying.{HasListed}
 use Rattle.mdb_page.specs.declared.faults.FaultListing.{FaultListing}
 use Rattle.mdb_page.specs.declared.faults.PageFault.{PageFault}
 use Rattle.mdb_page.specs.declared.sheet.PageLines.{PageLines}
 use Rattle.mdb_page.specs.declared.sheet.TheConstants.{LINES_ROOM}
 
--- A fault comes after one that had no room.
-pub stays_full : (body : List ℕ) (skip : ℕ) (earlier : List Ended) (it : Ended)
-    (listing : FaultListing) (faults : List PageFault) (lines : PageLines)
-    → HasListed body skip earlier listing faults lines → listing.skip ≡ 0 → listing.is_full ≡ true
-    → HasListed body skip (it ∷ earlier) listing faults lines
-stays_full body skip earlier it listing faults lines has zero full =
-    let rest : HasNoRoom (length faults) has.later has.shown =
-    subst (λ b. AreLater b (length faults) has.later has.shown) full has.rest in
-    record {
-      later = it ∷ has.later;
-      shown = has.shown;
-      passed = has.passed;
-      parts = ap (λ l. it ∷ l) has.parts;
-      left = has.left;
-      none = λ some. absurd (some zero);
-      number = has.number;
-      few = has.few;
-      rest = subst (λ b. AreLater b (length faults) (it ∷ has.later) has.shown) (sym full)
-          (record {
-            newer = it ∷ rest.newer;
-            next = rest.next;
-            are = ap (λ l. it ∷ l) rest.are;
-            full = rest.full;
-          });
-      listed = has.listed;
-    }
+-- The faults of a survey are listed, and one comes more.
+module _ {body : List ℕ} {skip : ℕ} {earlier : List Ended} {listing : FaultListing}
+    {faults : List PageFault} {lines : PageLines} (it : Ended)
+    (has : HasListed body skip earlier listing faults lines) (zero : listing.skip ≡ 0) where
+  -- It comes after one that had no room.
+  pub stays_full : listing.is_full ≡ true → HasListed body skip (it ∷ earlier) listing faults lines
+  stays_full full =
+      let rest : HasNoRoom (length faults) has.later has.shown = rw full at has.rest in
+      record {
+        later = it ∷ has.later;
+        shown = has.shown;
+        passed = has.passed;
+        parts = ap (λ l. it ∷ l) has.parts;
+        left = has.left;
+        none = λ some. absurd (some zero);
+        number = has.number;
+        few = has.few;
+        rest = rw full (record {
+          newer = it ∷ rest.newer;
+          next = rest.next;
+          are = ap (λ l. it ∷ l) rest.are;
+          full = rest.full;
+        });
+        listed = has.listed;
+      }
 
-none_yet : (body : List ℕ) (skip : ℕ) (earlier : List Ended) (listing : FaultListing)
-    (faults : List PageFault) (lines : PageLines)
-    → (has : HasListed body skip earlier listing faults lines) → listing.is_full ≡ false
-    → has.later ≡ []
-none_yet body skip earlier listing faults lines has some_room =
-    subst (λ b. AreLater b (length faults) has.later has.shown) some_room has.rest
+  later_parts : listing.is_full ≡ false → it ∷ earlier ≡ it ∷ (has.shown ++ has.passed)
+  later_parts some_room =
+      let later : has.later ≡ [] = rw some_room at has.rest in
+      ap (λ l. it ∷ l) (has.parts ∙ ap (λ l. l ++ (has.shown ++ has.passed)) later)
 
--- A fault has no room.
-pub fills : (body : List ℕ) (skip : ℕ) (earlier : List Ended) (it : Ended)
-    (listing next : FaultListing) (faults : List PageFault) (lines : PageLines)
-    → (has : HasListed body skip earlier listing faults lines) → listing.skip ≡ 0
-    → listing.is_full ≡ false → next.skip ≡ listing.skip → next.listed ≡ listing.listed
-    → next.bytes ≡ listing.bytes → next.is_full ≡ true
-    → (length has.shown ≡ length faults)
-    ⊎ (LINES_ROOM < length (lines_of text_lines (it ∷ has.shown)))
-    → HasListed body skip (it ∷ earlier) next faults lines
-fills body skip earlier it listing next faults lines has zero some_room same number
-    size full why =
-    let later = none_yet body skip earlier listing faults lines has some_room in
-    record {
+  module _ {next : FaultListing} (some_room : listing.is_full ≡ false)
+      (same : next.skip ≡ listing.skip) (size : next.bytes ≡ listing.bytes) where
+    -- It has no room.
+    pub fills : next.listed ≡ listing.listed → next.is_full ≡ true
+        → (length has.shown ≡ length faults)
+        ⊎ (LINES_ROOM < length (lines_of text_lines (it ∷ has.shown)))
+        → HasListed body skip (it ∷ earlier) next faults lines
+    fills number full why = record {
       later = it ∷ [];
       shown = has.shown;
       passed = has.passed;
-      parts = ap (λ l. it ∷ l)
-          (has.parts ∙ ap (λ l. l ++ (has.shown ++ has.passed)) later);
+      parts = later_parts some_room;
       left = omega (arith, has.left, same);
       none = λ some. absurd (some (same ∙ zero));
       number = number ∙ has.number;
       few = has.few;
-      rest = subst (λ b. AreLater b (length faults) (it ∷ []) has.shown) (sym full)
-          (record { newer = []; next = it; are = refl; full = why });
-      listed = subst (λ n. AreListed n body has.shown faults lines) (sym size) has.listed;
+      rest = rw full (record { newer = []; next = it; are = refl; full = why });
+      listed = rw size has.listed;
     }
 
--- A fault is listed.
-pub lists_one : (body : List ℕ) (skip : ℕ) (earlier : List Ended) (it : Ended)
-    (listing next : FaultListing) (faults : List PageFault) (entry : PageFault)
-    (lines after : PageLines)
-    → HasListed body skip earlier listing faults lines → listing.skip ≡ 0 → listing.is_full ≡ false
-    → next.skip ≡ listing.skip → next.listed ≡ listing.listed + 1 → next.is_full ≡ false
-    → next.bytes ≡ listing.bytes → listing.listed < length faults → entry.row ≡ it.fault.row
-    → IsPlace listing.bytes body entry.row entry.offset
-    → written_lines after ≡ written_lines lines ++ ended_lines text_lines it
-    → HasListed body skip (it ∷ earlier) next (set faults listing.listed entry) after
-lists_one body skip earlier it listing next faults entry lines after has zero some_room same more
-    still size room row is added =
-    let place : ℕ = listing.listed in
-    let now : List PageFault = set faults place entry in
-    let Place : PageFault → Type 0 =
-    λ entry. IsPlace listing.bytes body entry.row entry.offset in
-    let later = none_yet body skip earlier listing faults lines has some_room in
-    let number : length (it ∷ has.shown) ≡ place + 1 = omega (arith, has.number) in
-    record {
-      later = [];
-      shown = it ∷ has.shown;
-      passed = has.passed;
-      parts = ap (λ l. it ∷ l)
-          (has.parts ∙ ap (λ l. l ++ (has.shown ++ has.passed)) later);
-      left = omega (arith, has.left, same);
-      none = λ some. absurd (some (same ∙ zero));
-      number = more ∙ sym number;
-      few = omega (arith, number, room, length-set faults place entry);
-      rest = subst (λ b. AreLater b (length now) [] (it ∷ has.shown)) (sym still) refl;
-      listed = subst (λ n. AreListed n body (it ∷ has.shown) now after) (sym size) (record {
-        rows = ap (λ n. map (λ entry. entry.row) (take n now)) number
-            ∙ ap (map (λ entry. entry.row)) (take_more_set faults place entry room)
-            ∙ map-append (λ entry. entry.row) (take place faults) (entry ∷ [])
-            ∙ ap (λ l. l ++ entry.row ∷ [])
-            (ap (λ n. map (λ entry. entry.row) (take n faults)) has.number ∙ has.listed.rows)
-            ∙ ap (λ n. rows_of_faults has.shown ++ n ∷ []) row;
-        places =
-            subst (All Place)
-            (sym (ap (λ n. take n now) number ∙ take_more_set faults place entry room))
-            (All-push Place (take place faults) entry
-            (subst (λ n. All Place (take n faults)) (sym has.number) has.listed.places) is);
-        text = added ∙ ap (λ l. l ++ ended_lines text_lines it) has.listed.text;
-      });
-    }
+    -- It is listed.
+    pub lists_one : {after : PageLines} (entry : PageFault)
+        → next.listed ≡ listing.listed + 1 → next.is_full ≡ false
+        → listing.listed < length faults → entry.row ≡ it.fault.row
+        → IsPlace listing.bytes body entry.row entry.offset
+        → written_lines after ≡ written_lines lines ++ ended_lines text_lines it
+        → HasListed body skip (it ∷ earlier) next (set faults listing.listed entry) after
+    lists_one entry more still room row is added =
+        let place : ℕ = listing.listed in
+        let now : List PageFault = set faults place entry in
+        let Place : PageFault → Type 0 =
+        λ entry. IsPlace listing.bytes body entry.row entry.offset in
+        let number : length (it ∷ has.shown) ≡ place + 1 = omega (arith, has.number) in
+        let taken : take (length (it ∷ has.shown)) now ≡ take place faults ++ entry ∷ [] =
+        ap (λ n. take n now) number ∙ take_more_set faults place entry room in
+        record {
+          later = [];
+          shown = it ∷ has.shown;
+          passed = has.passed;
+          parts = later_parts some_room;
+          left = omega (arith, has.left, same);
+          none = λ some. absurd (some (same ∙ zero));
+          number = more ∙ sym number;
+          few = omega (arith, number, room, length-set faults place entry);
+          rest = rw still refl;
+          listed = rw size (record {
+            rows = ap (map (λ entry. entry.row)) taken
+                ∙ map-append (λ entry. entry.row) (take place faults) (entry ∷ [])
+                ∙ ap (λ l. l ++ entry.row ∷ [])
+                (ap (λ n. map (λ entry. entry.row) (take n faults)) has.number ∙ has.listed.rows)
+                ∙ ap (λ n. rows_of_faults has.shown ++ n ∷ []) row;
+            places = subst (All Place) (sym taken) (All-push Place (take place faults) entry
+                (subst (λ n. All Place (take n faults)) (sym has.number) has.listed.places) is);
+            text = added ∙ ap (λ l. l ++ ended_lines text_lines it) has.listed.text;
+          });
+        }
 
 -- The lines of a fault, with those that are listed, are too many.
 pub too_long : (it : Ended) (shown : List Ended) (lines : PageLines) (text : List ℕ)
@@ -129,4 +111,4 @@ too_long it shown lines text listed is more =
     sym (length-append (written_lines lines) text)
     ∙ ap (λ l. length (l ++ text)) listed
     ∙ ap (λ l. length (lines_of text_lines shown ++ l)) is in
-    subst (λ n. LINES_ROOM < n) sum more
+    rw sum at more

@@ -1,30 +1,23 @@
 -- What a replay without marks tells.
 use Rattle.std.specs.Prelude.{◌≡◌, List, [], None, ℕ}
-use Rattle.std.proofs.Common.{subst}
 use Rattle.mdb_words.specs.declared.event.Event.{Event}
 use Rattle.mdb_bus.specs.declared.scope.Scope.{Scope}
-use Rattle.mdb_explained_runs.specs.ReplayFaults.{IsMarkFault, IsReplayFault}
+use Rattle.mdb_explained_runs.specs.ReplayFaults.{IsReplayFault}
 use Rattle.mdb_explained_runs.specs.declared.replay.ReplayFault.{ReplayFault}
 use Rattle.mdb_explained_runs.specs.declared.replay.ReplayFault.TheVariants as faults
 use Rattle.mdb_follow.specs.declared.offence.Offence.{Offence}
 use Rattle.mdb_page.specs.Replays.{IsPlainOffence}
 
 -- without a mark there is none that may not stand
-no_standing : (scope : Scope) (rows : List Event) (event : Event) (row : ℕ)
-    → IsMarkFault scope rows [] event None row → ⊥
-no_standing scope rows event row fault =
-    let wrong : None ≡ _ = fault.is in absurd (cc wrong)
-
 pub no_mark_fault : (scope : Scope) (rows : List Event) (event : Event) (fault : ReplayFault)
     (row : ℕ) → fault ≡ faults.Mark row → IsReplayFault scope rows [] event None fault → ⊥
 no_mark_fault scope rows event fault row is told =
-    no_standing scope rows event row
-    (subst (λ (fault : ReplayFault). IsReplayFault scope rows [] event None fault) is told)
+    let its : IsReplayFault scope rows [] event None (faults.Mark row) = rw is at told in
+    let wrong : None ≡ _ = its.is in absurd (cc wrong)
 
 -- what is told of a replay that is taken so is told of a recording that is taken so
 pub plain_offence : (own scope : Scope) (rows : List Event) (event : Event) (fault : ReplayFault)
     (offence : Offence) → own ≡ scope → fault ≡ faults.Offence offence
     → IsReplayFault own rows [] event None fault → IsPlainOffence scope rows event offence
 plain_offence own scope rows event fault offence same is told =
-    subst (λ (scope : Scope). IsPlainOffence scope rows event offence) same
-    (subst (λ (fault : ReplayFault). IsReplayFault own rows [] event None fault) is told)
+    let its : IsPlainOffence own rows event offence = rw is at told in rw same at its

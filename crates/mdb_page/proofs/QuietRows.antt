@@ -1,22 +1,18 @@
 -- A row that ends no act leaves all sums as they are.
-use Rattle.std.proofs.Common.{◌≡◌, List, [], ◌∷◌, ◌++◌, length, refl, sym, subst, ap, ◌∙◌, ℤ, None}
+use Rattle.std.proofs.Common.{◌≡◌, List, [], ◌∷◌, ◌++◌, length, refl, sym, subst, ap, ◌∙◌, None}
 use Rattle.mdb_words.specs.declared.event.Event.{Event}
 use Rattle.mdb_bus.specs.declared.act.Act.{Act}
 use Rattle.mdb_bus.specs.declared.scope.Beginning.{Beginning}
 use Rattle.mdb_bus.specs.declared.scope.Scope.{Scope}
 use Rattle.mdb_bus.specs.ActLists.{ArePieces, IsActList, Piece, acts_of}
 use Rattle.mdb_bus.specs.Loss.{Loss, LossFits}
-use Rattle.mdb_follow.specs.declared.account.Account.{Account}
-use Rattle.mdb_follow.specs.declared.range.Range.{Range}
 use Rattle.mdb_follow.specs.declared.report.Report.{Report}
 use Rattle.mdb_follow.specs.AccountNames.{sums_of}
 use Rattle.mdb_follow.specs.Tables.{EachArrives}
 use Rattle.mdb_follow.specs.EndedActs.{IsEndedAct}
-use Rattle.mdb_follow.specs.Ranges.{IsRange}
-use Rattle.mdb_follow.specs.AccountRanges.{IsAccount}
 use Rattle.mdb_follow.specs.Report.{IsReport, report_of}
 use Rattle.mdb_follow.specs.Runs.{AllSums, IsWay, Run, States}
-use Rattle.mdb_follow.specs.Sums.{AccountSums}
+use Rattle.mdb_follow.proofs.Ends.{account-moves}
 
 -- what laws of the bus and of the follower say
 pub record Laws : Type 0 where
@@ -49,29 +45,6 @@ run_of_same {scope} {rows} {pieces = pieces} {more = more} laws list other same 
       way = way.2;
     }
 
--- kinds of sums that are the same have the same ranges
-abbrev AreSame : (AllSums → Type 0) → (AllSums → Type 0) → Type 0
-AreSame Kind Other =
-    ((sums : AllSums) → Kind sums → Other sums) × ((sums : AllSums) → Other sums → Kind sums)
-
-same_range : {Kind Other : AllSums → Type 0} {value : AllSums → ℤ} {range : Range}
-    → AreSame Kind Other → IsRange Kind value range → IsRange Other value range
-same_range same is = record {
-  least = (is.least.0, same.0 is.least.0 is.least.1, is.least.2);
-  greatest = (is.greatest.0, same.0 is.greatest.0 is.greatest.1, is.greatest.2);
-  low = λ sums other. is.low sums (same.1 sums other);
-  high = λ sums other. is.high sums (same.1 sums other);
-}
-
-same_account : {Kind Other : AllSums → Type 0} {account : AllSums → AccountSums}
-    {ranges : Account} → AreSame Kind Other → IsAccount Kind account ranges
-    → IsAccount Other account ranges
-same_account same is = record {
-  device = same_range same is.device;
-  controller = same_range same is.controller;
-  difference = same_range same is.difference;
-}
-
 -- a row that ends no act: the report of the rows with it has the same accounts
 pub stays : (scope : Scope) → Laws → (rows : List Event) (row : Event) (report : Report)
     → IsReport scope rows report → IsEndedAct scope rows row None
@@ -80,18 +53,19 @@ pub stays : (scope : Scope) → Laws → (rows : List Event) (row : Event) (repo
 stays scope laws rows row report is ended =
     let pieces = ended.newest ∷ ended.earlier in
     let acts : acts_of ended.before ≡ acts_of pieces = sym ended.acts in
-    let same : AreSame (Run scope rows) (Run scope (rows ++ row ∷ [])) = (
-      run_of_same laws ended.shorter ended.act_list acts,
-      run_of_same laws ended.act_list ended.shorter (sym acts),
-    ) in
+    let there = run_of_same laws ended.shorter ended.act_list acts in
+    let back = run_of_same laws ended.act_list ended.shorter (sym acts) in
     let after : Report = report_of scope (length (rows ++ row ∷ [])) pieces is.accounts in (
       after,
       record {
-        reached = (is.reached.0, same.0 is.reached.0 is.reached.1);
+        reached = (is.reached.0, there is.reached.0 is.reached.1);
         pieces = pieces;
         act_list = ended.act_list;
         accounts = is.accounts;
-        of_runs = λ account. same_account same (is.of_runs account);
+        of_runs = λ account. account-moves (Run scope rows) (sums_of account)
+            (Run scope (rows ++ row ∷ [])) (sums_of account)
+            (λ sums run. (sums, there sums run, refl)) (λ sums run. (sums, back sums run, refl)) _
+            (is.of_runs account);
         telling = refl;
       },
       sym (ap (λ it. it.accounts) is.telling),

@@ -1,16 +1,13 @@
 -- Where pieces stand in an array, of which the first stay and the others come round.
-use Rattle.std.proofs.Common.{◌≡◌, ◌≢◌, ◌+◌, ◌-◌, ◌*◌, ◌/◌, ◌%◌, ◌<◌, ◌≤◌, ◌⊎◌, ℕ, suc, sym, ap, ◌∙◌, arith, inl, inr, add-one, nat_lt, if◌then◌else◌}
+use Rattle.std.proofs.Common.{◌≡◌, ◌≢◌, ◌+◌, ◌-◌, ◌*◌, ◌/◌, ◌%◌, ◌<◌, ◌≤◌, ◌⊎◌, ℕ, suc, sym, ap, ◌∙◌, arith, inl, inr, add-one}
 use Rattle.std.proofs.Math.Nat.{mod-eq_of_lt, mod-le, mod-lt, mod_self, mul-le-mul_right, suc-mod, zero-mod}
-use Rattle.std.proofs.lemmas.Bool.{cases_Bool, ltb-true, ltb-false, lt-ltb}
+use Rattle.std.proofs.lemmas.Bool.{le-ltb, lt-ltb}
 use Rattle.std.proofs.lemmas.Nat.{div-add-mod'}
 use Rattle.mdb_page.specs.Acts.{IsKept, place_in}
 use Rattle.mdb_page.specs.inner.Listing.{IsNextPlace}
 
 pub less_or_not : (a b : ℕ) → (a < b) ⊎ (b ≤ a)
-less_or_not a b = elim (cases_Bool (nat_lt a b)) [
-  | inl is ↦ inl (ltb-true a b is)
-  | inr not ↦ inr (ltb-false a b not)
-]
+less_or_not a b = grind arith
 
 -- Numbers apart by less than the ring have different rests.
 rests_apart : (a b ring : ℕ) → a < b → b < a + ring → a % ring ≡ b % ring → ⊥
@@ -51,17 +48,12 @@ module _ (first room : ℕ) where
   -- where the first pieces stand, and the others
   place_first : (number : ℕ) → number < first → place number ≡ number
   unfolding place_in
-  place_first number less =
-      ap (λ b. if b then number else first + (number - first) % (room - first))
-      (lt-ltb number first less)
+  place_first number less = rw (lt-ltb number first less)
 
   place_ring : (number : ℕ) → first ≤ number
       → place number ≡ first + (number - first) % (room - first)
   unfolding place_in
-  place_ring number more = elim (cases_Bool (nat_lt number first)) [
-    | inl is ↦ absurd (omega (arith, ltb-true number first is, more))
-    | inr not ↦ ap (λ b. if b then number else first + (number - first) % (room - first)) not
-  ]
+  place_ring number more = rw (le-ltb number first more)
 
   -- every piece has a place in a ring that has places
   ring_place : (number : ℕ) → first < room → first ≤ number → place number < room

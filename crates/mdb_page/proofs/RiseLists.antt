@@ -1,5 +1,5 @@
 -- How entries of rises are listed.
-use Rattle.std.proofs.Common.{◌≡◌, ◌+◌, ◌<◌, ◌≤◌, ◌⊎◌, ℕ, List, [], ◌∷◌, ◌++◌, length, refl, sym, subst, ap, ◌∙◌, arith, inl, inr, get_or, set, get_or-set_same, get_or-set_other, length-set, length-append, ◌^◌, ◌-ℤ◌, ◌≤ℤ◌, ℤ, pos, negsuc, neg_ℤ, SFits, of_z, to_z, w64, Bool, true, false, cond, append-nil, append_assoc, flat_map, take, Option, Some, None}
+use Rattle.std.proofs.Common.{◌≡◌, ◌+◌, ◌<◌, ◌≤◌, ◌⊎◌, ℕ, List, [], ◌∷◌, ◌++◌, length, refl, sym, subst, ap, ◌∙◌, arith, inl, inr, get_or, set, get_or-set_same, get_or-set_other, length-set, length-append, ◌^◌, ◌-ℤ◌, ◌≤ℤ◌, ℤ, pos, negsuc, neg_ℤ, SFits, of_z, to_z, w64, true, false, cond, append-nil, append_assoc, flat_map, take, Some, None}
 use Rattle.std.proofs.Math.Seq.{get_or-append_seam}
 use Rattle.std.proofs.lemmas.Int.{ints, to_z-of_z}
 use Rattle.std.proofs.lemmas.List.{flat_map_more, get_or_append_left, take_all, take_more}
@@ -135,8 +135,7 @@ pub stays_so : (was is risen : Range) → IsRangeWithin (2 ^ 60) was → IsRange
     → risen ≡ rise was is → (to_z w64 (of_z w64 risen.least) ≡ risen.least)
     × (to_z w64 (of_z w64 risen.greatest) ≡ risen.greatest)
 stays_so was is risen before after so =
-    subst (λ (r : Range). (to_z w64 (of_z w64 r.least) ≡ r.least)
-    × (to_z w64 (of_z w64 r.greatest) ≡ r.greatest)) (sym so) (
+    rw so (
       to_z-of_z w64 (is.least -ℤ was.least) (fits (is.least -ℤ was.least)
           (omega (arith, ints, after.least_low, before.least_high))
           (omega (arith, ints, after.least_high, before.least_low))),
@@ -198,16 +197,9 @@ pub lists_account : {skip : ℕ} (all : List PageRise) {before now : List PageRi
     → HasListed skip (all ++ rises_in last report name) listing before now
 lists_account {skip} all {before} {now} {listing} row place last report name was is was_so is_so
     row_so place_so has =
-    let Made : ℕ → ℕ → Account → Account → List PageRise =
-    λ n p a b. rise_of n p 0 a.device b.device ++ rise_of n p 1 a.controller b.controller in
-    let same : Made row place was is ≡ rises_in last report name =
-    ap (λ n. Made n place was is) row_so
-    ∙ (ap (λ p. Made report.rows p was is) place_so
-    ∙ (ap (λ a. Made report.rows (account_place name) a is) was_so
-    ∙ ap (λ b. Made report.rows (account_place name) (account_of name last) b) is_so)) in
-    subst (λ its. HasListed skip its listing before now)
-    (append_assoc all (rise_of row place 0 was.device is.device)
-    (rise_of row place 1 was.controller is.controller) ∙ ap (λ its. all ++ its) same) has
+    rw (← was_so, ← is_so, ← row_so, ← place_so)
+    (rw (append_assoc all (rise_of row place 0 was.device is.device)
+    (rise_of row place 1 was.controller is.controller)) at has)
 
 -- one account more
 pub one_name_more : {skip : ℕ} (all : List PageRise) {before now : List PageRise}
@@ -217,10 +209,8 @@ pub one_name_more : {skip : ℕ} (all : List PageRise) {before now : List PageRi
     → HasListed skip ((all ++ flat_map made (take i names)) ++ its) listing before now
     → HasListed skip (all ++ flat_map made (take (i + 1) names)) listing before now
 one_name_more {skip} all {before} {now} {listing} made names i d its below same has =
-    subst (λ l. HasListed skip l listing before now)
-    (ap (λ l. (all ++ flat_map made (take i names)) ++ l) same
-    ∙ (flat_map_more made all (take i names) (get_or names i d)
-    ∙ ap (λ l. all ++ flat_map made l) (sym (take_more names i d below)))) has
+    rw (take_more names i d below)
+    (rw (same, flat_map_more made all (take i names) (get_or names i d)) at has)
 
 -- all accounts
 pub all_names : {skip : ℕ} (all : List PageRise) {before now : List PageRise}

@@ -1,5 +1,5 @@
 -- How the rows of a text are followed, and what they do to the ranges is listed.
-use Rattle.std.proofs.Common.{◌≡◌, ◌≢◌, ◌*◌, ◌^◌, ◌≤◌, ◌-ℤ◌, ℕ, ℤ, Bool, true, false, List, [], ◌∷◌, ◌++◌, append-nil, flat_map, refl, sym, subst, ap, ◌∙◌, arith, Option, None, Some, cond}
+use Rattle.std.proofs.Common.{◌≡◌, ◌≢◌, ◌*◌, ◌^◌, ◌≤◌, ◌-ℤ◌, ℕ, Bool, true, false, List, [], ◌∷◌, ◌++◌, append-nil, flat_map, refl, sym, subst, ap, ◌∙◌, arith, Option, None, Some}
 use Rattle.std.proofs.lemmas.Bool.Decides.{Decides-int_eq}
 use Rattle.std.proofs.lemmas.Int.{ints}
 use Rattle.std.specs.Prelude.{IsSomeAnd}
@@ -15,7 +15,7 @@ use Rattle.mdb_follow.specs.declared.follower.TheConstants.{ROWS_MAX}
 use Rattle.mdb_follow.specs.declared.offence.Offence.{Offence}
 use Rattle.mdb_follow.specs.declared.range.Range.{Range}
 use Rattle.mdb_follow.specs.declared.report.Report.{Report}
-use Rattle.mdb_follow.specs.AccountNames.{account_in, account_of, account_place}
+use Rattle.mdb_follow.specs.AccountNames.{account_in, account_place}
 use Rattle.mdb_follow.specs.EndedActs.{IsEndedAct}
 use Rattle.mdb_follow.specs.Follower.{StandsFor, rows_of, scope_of}
 use Rattle.mdb_follow.specs.Limits.{IsRangeWithin}
@@ -39,12 +39,7 @@ use Rattle.mdb_page.proofs.Walks.{IsFaultOf, IsLineAnswer}
 
 range_near : (limit : ℕ) (range : Range) → limit ≤ 2 ^ 60
     → IsRangeWithin limit range → IsRangeWithin (2 ^ 60) range
-range_near limit range le is = record {
-  least_low = omega (arith, ints, le, is.least_low);
-  least_high = omega (arith, ints, le, is.least_high);
-  greatest_low = omega (arith, ints, le, is.greatest_low);
-  greatest_high = omega (arith, ints, le, is.greatest_high);
-}
+range_near limit range le is = search (arith, ints)
 
 pub near : (rows : ℕ) (report : Report) → rows ≤ ROWS_MAX → IsReportWithin (rows * 2 ^ 32) report
     → IsNear report
@@ -77,18 +72,10 @@ between_alike one other after same = ap (λ accounts. between accounts after) sa
 
 none_of : (number account side : ℕ) (range : Range) → rise_of number account side range range ≡ []
 none_of number account side range =
-    let least : ℤ = range.least -ℤ range.least in
-    let greatest : ℤ = range.greatest -ℤ range.greatest in
-    let entry : List PageRise = record {
-      row = number;
-      least = least;
-      greatest = greatest;
-      account = account;
-      side = side;
-    } ∷ [] in
+    let least = range.least -ℤ range.least in
+    let greatest = range.greatest -ℤ range.greatest in
     let same : least ≡ greatest = omega (arith, ints) in
-    let Chosen : Bool → List PageRise = λ is. cond is [] entry in
-    ap Chosen ((Decides-int_eq least greatest).1 same)
+    rw ((Decides-int_eq least greatest).1 same)
 
 none_of_all : (number : ℕ) (accounts : List Account) (names : List AccountName)
     → flat_map (row_of number accounts accounts) names ≡ []

@@ -1,5 +1,5 @@
 -- How a row goes on with pieces.
-use Rattle.std.proofs.Common.{◌≡◌, ◌≢◌, ◌+◌, ◌<◌, ◌≤◌, ◌⊎◌, ℕ, List, [], ◌∷◌, ◌++◌, length, map, refl, sym, subst, ap, ◌∙◌, arith, inl, inr, Option, Some, None, length-append}
+use Rattle.std.proofs.Common.{◌≡◌, ◌≢◌, ◌+◌, ◌<◌, ◌≤◌, ℕ, List, [], ◌∷◌, ◌++◌, length, map, refl, sym, ap, ◌∙◌, arith, inl, inr, Option, Some, None, length-append}
 use Rattle.std.proofs.lemmas.List.{append-nil, map-append, nil_from_length}
 use Rattle.mdb_words.specs.declared.event.Event.{Event}
 use Rattle.mdb_words.specs.Event.{start_of}
@@ -7,9 +7,8 @@ use Rattle.mdb_bus.specs.declared.act.Act.{Act}
 use Rattle.mdb_bus.specs.declared.act.Act.TheVariants as acts
 use Rattle.mdb_bus.specs.declared.scope.Profile.{Profile}
 use Rattle.mdb_bus.specs.declared.scope.Scope.{Scope}
-use Rattle.mdb_bus.specs.ActLists.{Piece, Whole, AskTail, ReplyTail, RepeatTail, Position, InAsk, InReply, InRepeat, ArePieces, BlockMayCome, IsPiece, IsSaid, MayCome, MayStand, events_of, piece_events, left_by}
+use Rattle.mdb_bus.specs.ActLists.{Piece, Whole, AskTail, Position, InAsk, InReply, InRepeat, ArePieces, BlockMayCome, IsSaid, MayCome, MayStand, events_of, piece_events, left_by}
 use Rattle.mdb_bus.specs.Pieces.{IsTail, act_in}
-use Rattle.mdb_bus.specs.Bus.{Grown}
 use Rattle.mdb_page.specs.Acts.{closed_pieces}
 use Rattle.mdb_page.specs.inner.Listing.{AreOf, HasAdded, HasBegun, HasListed, HasTakenPieces, Lengthens, open_events}
 use Rattle.mdb_page.specs.declared.acts.ActListing.{ActListing}
@@ -35,9 +34,7 @@ no_break act not is = is
 no_block : (profile : Profile) (position : Position) (from : Option Event) (to : Event)
     → IsInside position → BlockMayCome profile position from to → ⊥
 no_block profile (InAsk bytes) from to inside comes = comes
-no_block profile (InReply command bytes) from to inside comes = comes
-no_block profile (InRepeat command reply words) from to inside comes = comes
-no_block profile position from to inside comes = absurd inside
+no_block profile position from to inside comes = search
 
 only_a_break : (profile : Profile) (piece : Piece) (position : Position) (from : Option Event)
     (to : Event) → IsInside position → MayCome profile piece position from to
@@ -73,7 +70,7 @@ tail_is_none (Whole act events) is = absurd is
 tail_is_none tail is = refl
 
 none_is_tail : (piece : Piece) → act_in piece ≡ None → IsTail piece
-none_is_tail (Whole act events) none = let wrong : Some act ≡ None = none in absurd (cc wrong)
+none_is_tail (Whole act events) none = absurd cc
 none_is_tail tail none = tt
 
 -- the act of a whole piece
@@ -81,13 +78,12 @@ pub whole_of : (piece : Piece) (act : Act) → act_in piece ≡ Some act
     → piece ≡ Whole act (piece_events piece)
 whole_of (Whole other events) act is =
     let same : other ≡ act = cc is in ap (λ a. Whole a events) same
-whole_of tail act is = let wrong : None ≡ Some act = is in absurd (cc wrong)
+whole_of tail act is = absurd cc
 
 -- a tail has rows
 some_rows : {scope : Scope} {pieces : List Piece} {piece : Piece} → MayStand scope pieces piece
     → piece_events piece ≢ []
-some_rows stands none =
-    let wrong : [] ≡ stands.first ∷ stands.others = sym none ∙ stands.begins in absurd (cc wrong)
+some_rows stands none = cc (none, stands.begins)
 
 -- the words of a break are one row
 one_said : (scope : Scope) (act : Act) (events : List Event) → IsBreak (Some act)
@@ -162,9 +158,7 @@ break_on {act = act} turn is other before =
 -- How a row changes what has been taken.
 
 no_more : (begun : List Event) (row : Event) → begun ++ row ∷ [] ≢ []
-no_more [] row none = absurd (cc none)
-no_more (event ∷ begun) row none =
-    let wrong : event ∷ (begun ++ row ∷ []) ≡ [] = none in absurd (cc wrong)
+no_more begun row none = omega (arith, ap length none, length-append begun (row ∷ []))
 
 -- One row more of an act that has begun.
 module _ {stay : ℕ} {before after : List PageAct} {pieces : List Piece} {begun : List Event}
@@ -233,9 +227,7 @@ module _ {stay : ℕ} {before after : List PageAct} {pieces : List Piece} {listi
       record {
         scope = turn.scope;
         in_order = turn.in_order;
-        begun = subst (λ l. HasBegun stay before (closed_pieces longer) l listing after new)
-            (sym opened) (subst (λ l. HasBegun stay before l
-            (open_events pieces ++ turn.row ∷ []) listing after new) (sym closed) more);
+        begun = rw (closed, opened) more;
       }
 
   -- where the next act is no break, it goes on with the tail
@@ -243,9 +235,7 @@ module _ {stay : ℕ} {before after : List PageAct} {pieces : List Piece} {listi
       (turn : Lengthens pieces at act longer) → (IsBreak act → ⊥)
       → HasBegun stay before turn.grown.earlier turn.grown.begun listing after rows
   begun_by turn not =
-      let on = stands_on turn not in
-      subst (λ l. HasBegun stay before turn.grown.earlier l listing after rows) on.1
-      (subst (λ l. HasBegun stay before l (open_events pieces) listing after rows) on.0 has.begun)
+      let on = stands_on turn not in rw (on.0, on.1) at has.begun
 
   -- the number of the last row
   pub last_row : rows.last ≡ length (events_of pieces)
@@ -260,13 +250,13 @@ module _ {stay : ℕ} {before after : List PageAct} {pieces : List Piece} {listi
       → HasBegun stay before turn.grown.earlier turn.grown.begun next later new
   begun_at_break {later = later} {next = next} {new = new} turn is listed first last =
       let on = break_on turn is has.scope has.in_order in
-      subst (λ l. HasBegun stay before turn.grown.earlier l next later new) (sym on.1)
-      (subst (λ l. HasBegun stay before l [] next later new) on.0 (record {
+      let its : HasBegun stay before pieces [] next later new = record {
         listed = listed;
         from = first ∙ ap (λ n. n + 1) last_row;
         to = omega (arith, last, last_row);
         are = λ some. absurd (some refl);
-      }))
+      } in
+      rw on.1 (rw on.0 at its)
 
 -- an act that has ended is listed
 pub act_taken : {stay : ℕ} {before after : List PageAct} {pieces longer : List Piece}
@@ -285,7 +275,7 @@ act_taken {stay} {before} {after} {longer = longer} {listing = listing} {new = n
     grown.are ∙ ap (λ piece. piece ∷ grown.earlier)
     (whole_of grown.newest act grown.ends ∙ ap (λ l. Whole act l) grown.events) in
     let counted = length-append (events_of grown.earlier) events in
-    subst (λ l. HasTakenPieces stay before l listing after new) (sym is) (record {
+    rw is (record {
       scope = turn.scope;
       in_order = rw is at turn.in_order;
       begun = record {

@@ -1,8 +1,7 @@
 -- Which reader the block in which rows end asks for what isn't followed.
-use Rattle.std.proofs.Common.{ap, ◌∙◌, refl, sym, subst, ◌≡◌, ◌++◌, inl, ℕ, List, [], ◌∷◌, Option, Some, None, Result, Ok, Err}
+use Rattle.std.proofs.Common.{ap, ◌∙◌, refl, sym, ◌≡◌, ℕ, List, [], ◌∷◌, Option, Some, None}
 use Rattle.mdb_words.specs.declared.event.Event.{Event}
-use Rattle.mdb_words.specs.declared.word.Line.TheVariants.{Controller}
-use Rattle.mdb_blocks.specs.Block.{block_of, words_on}
+use Rattle.mdb_blocks.specs.Block.{block_of}
 use Rattle.mdb_msgs.specs.declared.command.Command.TheVariants.{Reader}
 use Rattle.mdb_msgs.specs.declared.command.ReaderCommand.{ReaderCommand}
 use Rattle.mdb_msgs.specs.declared.command.ReaderCommand.TheVariants as readers
@@ -13,12 +12,10 @@ use Rattle.mdb_bus.specs.declared.act.Act.{Act}
 use Rattle.mdb_bus.specs.declared.act.Act.TheVariants as acts
 use Rattle.mdb_bus.specs.declared.fault.Rule.{Rule}
 use Rattle.mdb_bus.specs.declared.fault.Rule.TheVariants as rules
-use Rattle.mdb_bus.specs.declared.scope.Beginning.{Beginning}
-use Rattle.mdb_bus.specs.declared.scope.Beginning.TheVariants.{PowerOn, Joined}
 use Rattle.mdb_bus.specs.declared.scope.Scope.{Scope}
-use Rattle.mdb_bus.specs.Acts.{Say}
 use Rattle.mdb_bus.specs.ActLists.{IsActList, Piece, Whole, AskTail, ReplyTail, RepeatTail, events_of, first_position, left_open, position_of}
 use Rattle.mdb_bus.specs.Bus.{open_block}
+use Rattle.mdb_bus.proofs.Lists.{at_first}
 use Rattle.mdb_stretches.specs.OtherMoney.{OtherMoneyIsAsked, WhoIsAsked, WhoIsAskedBefore}
 use Rattle.mdb_stretches.specs.Parts.{EndInBlock}
 
@@ -66,10 +63,6 @@ no_command unit command spelled more = more
 pub none_asked : (unit : ReaderUnit) → OtherMoneyIsAsked [] unit → ⊥
 none_asked unit asks = no_command unit asks.command asks.spelled asks.more
 
-first_open : (begins : Beginning) → open_block (first_position begins) ≡ []
-first_open (PowerOn profile) = refl
-first_open (Joined setups profile) = refl
-
 act_open : (act : Act) → open_block (left_open act) ≡ []
 act_open (acts.Ask command) = refl
 act_open act = refl
@@ -84,7 +77,8 @@ pub ends_so : (scope : Scope) (pieces : List Piece) (rows : List Event) (unit : 
     → OtherMoneyIsAsked (open_block (position_of scope pieces)) unit
     → EndInBlock (open_block (position_of scope pieces)) rows
 ends_so scope [] rows unit list asks =
-    none_at (open_block (first_position scope.begins)) unit (first_open scope.begins) asks
+    none_at (open_block (first_position scope.begins)) unit
+    (at_first (λ position. open_block position ≡ []) refl refl scope.begins) asks
 ends_so scope (AskTail bytes events ∷ earlier) rows unit list asks = record {
   before = events_of earlier;
   words = events;

@@ -1,6 +1,6 @@
 -- What is told, and what was said last.
 use Rattle.std.proofs.lemmas.Grind.{common_steps}
-use Rattle.std.proofs.Common.{arith, refl, ap, ◌∙◌, ◌≡◌, List, [], ◌∷◌, Option, Some, None, option_map}
+use Rattle.std.proofs.Common.{arith, refl, ap, sym, ◌∙◌, ◌≡◌, List, [], ◌∷◌, Option, Some, None, option_map}
 use Rattle.mdb_msgs.specs.declared.command.Command.{Command}
 use Rattle.mdb_msgs.specs.declared.command.Command.TheVariants as commands
 use Rattle.mdb_msgs.specs.declared.command.Device.{Device}
@@ -35,6 +35,7 @@ use Rattle.mdb_cashless.specs.ByProfileFacts.{config_of, facts_of}
 use Rattle.mdb_cashless.specs.ExtendedFacts as extended
 use Rattle.mdb_cashless.specs.ReaderFacts as reader
 use Rattle.mdb_cashless.specs.ReaderMessages.{config_in, last_said}
+use Rattle.mdb_cashless.specs.shared.ReaderWays.{first_of_three}
 use Rattle.mdb_stretches.specs.declared.told.Told.{Told}
 use Rattle.mdb_stretches.specs.Learning.{AreKnown}
 use Rattle.mdb_stretches.specs.Told.{learnt_by, setups_of, told_after, with_answer}
@@ -62,11 +63,6 @@ levels_later begins told (Whole act events ∷ pieces) =
     ∙ ap (levels_by (profile_of begins) act) (levels_later begins told pieces)
 levels_later begins told (piece ∷ pieces) = levels_later begins told pieces
 
--- what is told last
-or_else_both : {X : Type 0} (one other last : Option X)
-    → or_else one (or_else other last) ≡ or_else (or_else one other) last
-or_else_both one other last = grind (arith, common_steps)
-
 -- what is known of a device, where an act tells it or leaves it
 known_last : {X : Type 0} (of : Setups → Option X) (tells : Act → Option X) (begins : Beginning)
     → ((act : Act) (told : Told) → of (learnt_by (profile_of begins) act told).setups
@@ -78,7 +74,7 @@ known_last of tells begins step told is [] = is
 known_last of tells begins step told is (act ∷ acts) =
     step act (told_after begins told acts)
     ∙ ap (or_else (tells act)) (known_last of tells begins step told is acts)
-    ∙ or_else_both (tells act) (last_told tells acts) (known_before of begins)
+    ∙ first_of_three (tells act) (last_told tells acts) (known_before of begins)
 
 -- what is known before
 known_first : {X : Type 0} (of : Setups → Option X) → of nothing_known ≡ None
@@ -179,10 +175,6 @@ own_step unit profile (acts.Reply (commands.Bill command) (replies.BillSetup tab
 own_step unit profile act told = refl
 
 -- the config that a reader's machine knows, by either profile
-or_else_one : {X : Type 0} (told last : Option X) (before after : Option X)
-    → or_else last before ≡ after → or_else (or_else told last) before ≡ or_else told after
-or_else_one told last before after same = grind (arith, common_steps)
-
 config_told : (begins : Beginning) (unit : ReaderUnit) (acts : List Act)
     → or_else (last_told (reader.config_by unit) acts)
     (known_before (λ setups. config_known setups unit) begins)
@@ -190,8 +182,9 @@ config_told : (begins : Beginning) (unit : ReaderUnit) (acts : List Act)
 config_told (PowerOn profile) unit [] = refl
 config_told (Joined setups profile) unit [] = refl
 config_told begins unit (act ∷ before) =
-    or_else_one (reader.config_by unit act) (last_told (reader.config_by unit) before)
-    (known_before (λ setups. config_known setups unit) begins) _ (config_told begins unit before)
+    sym (first_of_three (reader.config_by unit act) (last_told (reader.config_by unit) before)
+    (known_before (λ setups. config_known setups unit) begins))
+    ∙ ap (or_else (reader.config_by unit act)) (config_told begins unit before)
     ∙ told_by_act unit act (extended.facts_of begins unit before)
   where
     told_by_act : (unit : ReaderUnit) (act : Act) (facts : extended.Facts)

@@ -4,7 +4,7 @@ mod Leading
 mod Learning
 mod OneSurvey
 mod OptionsTold
-mod Parts
+pub mod Parts
 mod Standing
 mod Sums
 mod Unanswered

@@ -17,7 +17,7 @@ use Rattle.mdb_bus.specs.declared.fault.Rule.TheVariants as rules
 use Rattle.mdb_bus.specs.declared.scope.Profile.{Profile}
 use Rattle.mdb_bus.specs.declared.scope.Profile.TheVariants.{Base, Extended}
 use Rattle.mdb_bus.specs.declared.scope.Scope.{Scope}
-use Rattle.mdb_bus.specs.ActLists.{Piece, acts_of, position_of}
+use Rattle.mdb_bus.specs.ActLists.{acts_of, position_of}
 use Rattle.mdb_bus.specs.Bus.{open_block}
 use Rattle.mdb_bus.specs.LinkFaults.{blame_on}
 use Rattle.mdb_bus.specs.Scopes.{IsFollowed, profile_of}
@@ -28,10 +28,9 @@ use Rattle.mdb_follow.specs.Offences.{IsOffence}
 use Rattle.mdb_stretches.specs.declared.stretch.Ended.{Ended}
 use Rattle.mdb_stretches.specs.declared.stretch.Stretch.{Stretch}
 use Rattle.mdb_stretches.specs.declared.told.Told.{Told}
-use Rattle.mdb_stretches.specs.OtherMoney.{OtherMoneyIsAsked}
 use Rattle.mdb_stretches.specs.Parts.{EndBefore, EndInBlock, IsReaderAsked, IsReaderBeyond}
-use Rattle.mdb_stretches.specs.Stretches.{GoesOnAfter, IsCutAt, IsSurvey, LeadFrom, StretchStart, first_place, left_out_asked, left_out_by, left_out_by_profile, left_out_for}
-use Rattle.mdb_stretches.specs.Told.{is_told_below_2, told_after, told_before}
+use Rattle.mdb_stretches.specs.Stretches.{GoesOnAfter, IsCutAt, IsSurvey, LeadFrom, StretchStart, first_place, left_out_asked, left_out_by_profile, left_out_for}
+use Rattle.mdb_stretches.specs.Told.{is_told_below_2, told_after}
 use Rattle.mdb_stretches.proofs.Asked.{asked_beyond, ends_so}
 use Rattle.mdb_stretches.proofs.Leading.{carried, lead_faults, lead_further, lead_rows}
 
@@ -120,68 +119,64 @@ with_came without First (Reader First) out = inr refl
 with_came without Second (Reader Second) out = inr refl
 with_came without unit device out = inl out
 
--- a reader that is blamed so, with this rule, and one that is asked so
-abbrev Blames : Rule → Blame → Device → Type 0
-Blames broken blamed device =
-    (unit : ReaderUnit) × (device ≡ Reader unit) × (broken ≡ rules.Profile)
-    × (blamed ≡ blame_on (Some device))
+-- why a reader comes to be left out: it is blamed for what isn't followed, or asked for it
+abbrev Why : Profile → Rule → Blame → Option ReaderUnit → ReaderUnit → Type 0
+Why Base broken blamed asked unit =
+    (broken ≡ rules.Profile) × (blamed ≡ blame_on (Some (Reader unit)))
+Why Extended broken blamed asked unit = asked ≡ Some unit
 
-abbrev IsAsked : Option ReaderUnit → Device → Type 0
-IsAsked asked device = (unit : ReaderUnit) × (device ≡ Reader unit) × (asked ≡ Some unit)
+-- after a fault the same devices are left out, or one reader more
+module _ (told : Told) (asked : Option ReaderUnit) (without : DeviceSet) where
+  abbrev LeavesOut : Profile → Rule → Blame → DeviceSet → Type 0
+  LeavesOut profile broken blamed after = (after ≡ without)
+      ⊎ ((unit : ReaderUnit) × (after ≡ with_device without (Reader unit))
+      × Why profile broken blamed asked unit)
 
--- who is left out after a fault, and why
-module _ (told : Told) (without : DeviceSet) (device : Device) where
-  module _ (is : has without device ≡ true) where
-    either_stays : (low : Bool) (more : Device)
-        → has (if low then without else with_device without more) device ≡ true
-    either_stays true more = is
-    either_stays false more = with_stays without more device is
+  or_low : (unit : ReaderUnit) (low : Bool)
+      → LeavesOut Base rules.Profile (blame_on (Some (Reader unit)))
+      (if low then without else with_device without (Reader unit))
+  or_low unit true = inl refl
+  or_low unit false = inr (unit, refl, (refl, refl))
 
-    by_stays : (blamed : Blame) → has (left_out_by told blamed without) device ≡ true
-    by_stays blames.Cashless = either_stays (is_told_below_2 told First) (Reader First)
-    by_stays blames.Cashless2 = either_stays (is_told_below_2 told Second) (Reader Second)
-    by_stays blamed = is
+  by_blame : (broken : Rule) (blamed : Blame)
+      → LeavesOut Base broken blamed (left_out_for broken told blamed without)
+  by_blame rules.Profile blames.Cashless = or_low First (is_told_below_2 told First)
+  by_blame rules.Profile blames.Cashless2 = or_low Second (is_told_below_2 told Second)
+  by_blame rules.Profile blamed = inl refl
+  by_blame broken blamed = inl refl
 
-    for_stays : (broken : Rule) (blamed : Blame)
-        → has (left_out_for broken told blamed without) device ≡ true
-    for_stays rules.Profile blamed = by_stays blamed
-    for_stays broken blamed = is
+  leaves_out : (profile : Profile) (offence : Offence)
+      → LeavesOut profile offence.rule offence.blame
+      (left_out_by_profile profile told offence asked without)
+  leaves_out Base offence = by_blame offence.rule offence.blame
+  leaves_out Extended offence = by_asked asked
+    where
+      by_asked : (of : Option ReaderUnit)
+          → (left_out_asked of without ≡ without)
+          ⊎ ((unit : ReaderUnit) × (left_out_asked of without ≡ with_device without (Reader unit))
+          × (of ≡ Some unit))
+      by_asked (Some unit) = inr (unit, refl, refl)
+      by_asked None = inl refl
 
-    profile_stays : (profile : Profile) (offence : Offence) (asked : Option ReaderUnit)
+  module _ (device : Device) (profile : Profile) (offence : Offence) where
+    stays_so : has without device ≡ true
         → has (left_out_by_profile profile told offence asked without) device ≡ true
-    profile_stays Base offence asked = for_stays offence.rule offence.blame
-    profile_stays Extended offence (Some unit) = with_stays without (Reader unit) device is
-    profile_stays Extended offence None = is
+    stays_so is = elim (leaves_out profile offence) [
+      | inl same ↦ rw same is
+      | inr (unit, more, why) ↦ rw more (with_stays without (Reader unit) device is)
+    ]
 
-  came : (unit : ReaderUnit) (low : Bool)
-      → has (if low then without else with_device without (Reader unit)) device ≡ true
-      → (has without device ≡ true)
-      ⊎ Blames rules.Profile (blame_on (Some (Reader unit))) device
-  came unit true out = inl out
-  came unit false out = elim (with_came without unit device out) [
-    | inl before ↦ inl before
-    | inr same ↦ inr (unit, same, refl, rw same refl)
-  ]
-
-  by_came : (blamed : Blame) → has (left_out_by told blamed without) device ≡ true
-      → (has without device ≡ true) ⊎ Blames rules.Profile blamed device
-  by_came blames.Cashless out = came First (is_told_below_2 told First) out
-  by_came blames.Cashless2 out = came Second (is_told_below_2 told Second) out
-  by_came blamed out = inl out
-
-  for_came : (broken : Rule) (blamed : Blame)
-      → has (left_out_for broken told blamed without) device ≡ true
-      → (has without device ≡ true) ⊎ Blames broken blamed device
-  for_came rules.Profile blamed out = by_came blamed out
-  for_came broken blamed out = inl out
-
-  asked_came : (asked : Option ReaderUnit) → has (left_out_asked asked without) device ≡ true
-      → (has without device ≡ true) ⊎ IsAsked asked device
-  asked_came (Some unit) out = elim (with_came without unit device out) [
-    | inl before ↦ inl before
-    | inr same ↦ inr (unit, same, refl)
-  ]
-  asked_came None out = inl out
+    came_so : has (left_out_by_profile profile told offence asked without) device ≡ true
+        → (has without device ≡ true)
+        ⊎ ((unit : ReaderUnit) × (device ≡ Reader unit)
+        × Why profile offence.rule offence.blame asked unit)
+    came_so out = elim (leaves_out profile offence) [
+      | inl same ↦ inl (rw same at out)
+      | inr (unit, more, why) ↦ elim (with_came without unit device (rw more at out)) [
+        | inl before ↦ inl before
+        | inr is ↦ inr (unit, is, why)
+      ]
+    ]
 
 -- what is left out at the start is at the end
 module _ (device : Device) where
@@ -190,10 +185,10 @@ module _ (device : Device) where
       → IsLeftOut start.scope device → IsLeftOut place.scope device
   stays_left_out start rows [] running place lead is = rw lead.1 is
   stays_left_out start rows (it ∷ earlier) running place goes is =
-      rw goes.ends.on (profile_stays (told_after goes.from.scope.begins goes.from.told
-      (acts_of goes.ends.pieces)) goes.from.scope.without device
-      (stays_left_out start goes.front earlier goes.before goes.from goes.lead is)
-      (profile_of goes.from.scope.begins) goes.ends.offence goes.ends.asked)
+      rw goes.ends.on (stays_so (told_after goes.from.scope.begins goes.from.told
+      (acts_of goes.ends.pieces)) goes.ends.asked goes.from.scope.without device
+      (profile_of goes.from.scope.begins) goes.ends.offence
+      (stays_left_out start goes.front earlier goes.before goes.from goes.lead is))
 
   -- and nobody else is followed again
   followed_before : (start : StretchStart) (rows : List Event) (ended : List Ended)
@@ -320,14 +315,14 @@ pub last_why : (scope : Scope) (rows : List Event) (ended : List Ended) (last : 
     → IsLeftOut last.scope device → IsLeftOut scope device ⊎ IsReaderBeyond ended device
 last_why scope rows ended last device base survey out =
     why (first_place scope) device Base (λ rows ended. IsReaderBeyond ended device)
-    (λ rows it earlier running place goes out. elim (for_came (told_after goes.from.scope.begins
-    goes.from.told (acts_of goes.ends.pieces)) goes.from.scope.without device
-    goes.ends.offence.rule goes.ends.offence.blame out) [
+    (λ rows it earlier running place goes out. elim (came_so (told_after goes.from.scope.begins
+    goes.from.told (acts_of goes.ends.pieces)) goes.ends.asked goes.from.scope.without device Base
+    goes.ends.offence out) [
       | inl before ↦ inl before
-      | inr by ↦ inr (record {
-        unit = by.0;
-        is = by.1;
-        fault = any_first _ _ _ (rw goes.ends.row_is by.2, rw goes.ends.row_is by.3);
+      | inr (unit, is, why) ↦ inr (record {
+        unit = unit;
+        is = is;
+        fault = any_first _ _ _ (rw goes.ends.row_is why.0, rw (goes.ends.row_is, is) why.1);
       })
     ])
     (λ rows it earlier running place goes beyond. record {
@@ -351,25 +346,25 @@ ends_after bytes before rows front parts ends = record {
 
 asked_here : (start : StretchStart) (device : Device) → start.rows ≡ 0
     → {rows : List Event} {it : Ended} {earlier : List Ended} {running : List Event}
-    {place : StretchStart} (goes : Goes start rows it earlier running place)
-    → IsAsked goes.ends.asked device → IsReaderAsked rows (it ∷ earlier) device
-asked_here start device none {earlier = earlier} {running = running} goes asked =
+    {place : StretchStart} (goes : Goes start rows it earlier running place) (unit : ReaderUnit)
+    → device ≡ Reader unit → goes.ends.asked ≡ Some unit → IsReaderAsked rows (it ∷ earlier) device
+asked_here start device none {earlier = earlier} {running = running} goes unit is asked =
     let end = lead_end start goes.front earlier goes.before goes.from goes.lead in
     let counted = lead_rows start goes.front earlier goes.before goes.from goes.lead in
     let bytes = open_block (position_of goes.from.scope goes.ends.pieces) in
-    let beyond = asked_beyond goes.ends.offence.rule bytes goes.ends.asked asked.0 asked.2
+    let beyond = asked_beyond goes.ends.offence.rule bytes goes.ends.asked unit asked
     goes.ends.asked_is in
     let number = goes.ends.is.number in
     record {
-      unit = asked.0;
-      is = asked.1;
+      unit = unit;
+      is = is;
       front = goes.front;
       row = goes.row;
       rest = running;
       parts = goes.parts;
       bytes = bytes;
       ends = ends_after bytes end.0 goes.before goes.front end.1
-          (ends_so goes.from.scope goes.ends.pieces goes.before asked.0 goes.ends.act_list
+          (ends_so goes.from.scope goes.ends.pieces goes.before unit goes.ends.act_list
           beyond.1);
       asks = beyond.1;
       fault = any_first _ _ _
@@ -381,10 +376,11 @@ pub last_asked : (scope : Scope) (rows : List Event) (ended : List Ended) (last 
     → IsLeftOut last.scope device → IsLeftOut scope device ⊎ IsReaderAsked rows ended device
 last_asked scope rows ended last device extended survey out =
     why (first_place scope) device Extended (λ rows ended. IsReaderAsked rows ended device)
-    (λ rows it earlier running place goes out. elim (asked_came (told_before scope)
-    goes.from.scope.without device goes.ends.asked out) [
+    (λ rows it earlier running place goes out. elim (came_so (told_after goes.from.scope.begins
+    goes.from.told (acts_of goes.ends.pieces)) goes.ends.asked goes.from.scope.without device
+    Extended goes.ends.offence out) [
       | inl before ↦ inl before
-      | inr asked ↦ inr (asked_here (first_place scope) device refl goes asked)
+      | inr (unit, is, asked) ↦ inr (asked_here (first_place scope) device refl goes unit is asked)
     ])
     (λ rows it earlier running place goes by. record {
       unit = by.unit;

@@ -1,5 +1,5 @@
 -- Which levels are told on.
-use Rattle.std.proofs.Common.{refl, ap, sym, subst, ◌∙◌, ◌≡◌, ◌↔◌, ◌⊎◌, inl, inr, ℕ, List, [], ◌∷◌, ◌++◌, Option, Some, None, All, option_map}
+use Rattle.std.proofs.Common.{refl, ap, sym, ◌∙◌, ◌≡◌, ◌↔◌, ◌⊎◌, inl, inr, ℕ, List, [], ◌∷◌, ◌++◌, Option, Some, None, All, option_map}
 use Rattle.std.proofs.lemmas.List.Elements.{All-cons, All-head, All-nil, All-tail}
 use Rattle.mdb_msgs.specs.declared.command.Command.TheVariants as commands
 use Rattle.mdb_msgs.specs.declared.command.Device.TheVariants as devices
@@ -108,19 +108,6 @@ does profile unit (acts.Reply (commands.Bill asked) (replies.BillSetup table)) t
     neither (λ level tells. cc (tells.is), λ has. cc (has.is)) refl
 does profile unit act told = neither (λ level tells. cc (tells.is), λ has. cc (has.is)) refl
 
-tells_by : (profile : Profile) (unit : ReaderUnit) (level : ℕ) (act : Act) (told : Told)
-    → TellsLevel unit level act
-    → Does profile unit act told → kept unit (learnt_by profile act told) ≡ Some level
-tells_by profile unit level act told it (tells other also is) = is ∙ cc (it.is, also.is)
-tells_by profile unit level act told it (answers has is) = cc (it.is, has.is)
-tells_by profile unit level act told it (neither is_neither is) = absurd (is_neither.0 level it)
-
-leaves_by : (profile : Profile) (unit : ReaderUnit) (act : Act) (told : Told) → IsNeither unit act
-    → Does profile unit act told → kept unit (learnt_by profile act told) ≡ kept unit told
-leaves_by profile unit act told is_neither (tells level it is) = absurd (is_neither.0 level it)
-leaves_by profile unit act told is_neither (answers has is) = absurd (is_neither.1 has)
-leaves_by profile unit act told is_neither (neither so is) = is
-
 module _ (begins : Beginning) (unit : ReaderUnit) (told : Told) where
   -- what is told on of it after acts
   abbrev Kept : List Act → Option ℕ
@@ -131,7 +118,11 @@ module _ (begins : Beginning) (unit : ReaderUnit) (told : Told) where
   goes act done = does (profile_of begins) unit act (told_after begins told done)
 
   same : (act : Act) (done : List Act) → IsNeither unit act → Kept (act ∷ done) ≡ Kept done
-  same act done is = leaves_by (profile_of begins) unit act _ is (goes act done)
+  same act done is_neither = elim (goes act done) [
+    | tells level it is ↦ absurd (is_neither.0 level it)
+    | answers has is ↦ absurd (is_neither.1 has)
+    | neither so is ↦ is
+  ]
 
   leave : (done : List Act) → All (IsNeither unit) done → Kept done ≡ kept unit told
   leave [] since = refl
@@ -141,8 +132,11 @@ module _ (begins : Beginning) (unit : ReaderUnit) (told : Told) where
   module _ (level : ℕ) where
     told_last : (later before : List Act) (ask : Act) → TellsLevel unit level ask
         → All (IsNeither unit) later → Kept (later ++ ask ∷ before) ≡ Some level
-    told_last [] before ask it since =
-        tells_by (profile_of begins) unit level ask _ it (goes ask before)
+    told_last [] before ask it since = elim (goes ask before) [
+      | tells other also is ↦ is ∙ cc (it.is, also.is)
+      | answers has is ↦ cc (it.is, has.is)
+      | neither is_neither is ↦ absurd (is_neither.0 level it)
+    ]
     told_last (act ∷ later) before ask it since =
         same act (later ++ ask ∷ before) (All-head (IsNeither unit) act later since)
         ∙ told_last later before ask it (All-tail (IsNeither unit) act later since)
@@ -164,26 +158,22 @@ module _ (begins : Beginning) (unit : ReaderUnit) (told : Told) where
     further act done is_neither (inr none) =
         inr (All-cons (IsNeither unit) act done is_neither none.0, none.1)
 
-    why_by : (act : Act) (done : List Act) → (Kept done ≡ Some level → Why done)
-        → Does (profile_of begins) unit act (told_after begins told done)
-        → Kept (act ∷ done) ≡ Some level → Why (act ∷ done)
-    why_by act done why (tells other it is) kept_is =
-        let is_level : other ≡ level = cc in
-        inl (record {
-          later = [];
-          ask = act;
-          before = done;
-          order = refl;
-          tells = rw is_level at it;
-          since = All-nil (IsNeither unit);
-        })
-    why_by act done why (answers has is) kept_is = absurd cc
-    why_by act done why (neither is_neither is) kept_is =
-        further act done is_neither (why (sym is ∙ kept_is))
-
     why_kept : (done : List Act) → Kept done ≡ Some level → Why done
     why_kept [] is = inr (All-nil (IsNeither unit), is)
-    why_kept (act ∷ done) is = why_by act done (why_kept done) (goes act done) is
+    why_kept (act ∷ done) kept_is = elim (goes act done) [
+      | tells other it is ↦
+          let is_level : other ≡ level = cc in
+          inl (record {
+            later = [];
+            ask = act;
+            before = done;
+            order = refl;
+            tells = rw is_level at it;
+            since = All-nil (IsNeither unit);
+          })
+      | answers has is ↦ absurd cc
+      | neither is_neither is ↦ further act done is_neither (why_kept done (sym is ∙ kept_is))
+    ]
 
     kept_why : (done : List Act) → Why done → Kept done ≡ Some level
     kept_why done (inl last) =

@@ -1,5 +1,5 @@
 -- The records of a text are surveyed in one way.
-use Rattle.std.proofs.Common.{arith, refl, ap, sym, subst, ◌∙◌, ◌≡◌, ◌+◌, ◌<◌, ◌≤◌, ℕ, List, [], ◌∷◌, ◌++◌, Result, Ok, Err, inl, inr, ◌⊎◌, length, length-append}
+use Rattle.std.proofs.Common.{arith, refl, ap, sym, ◌∙◌, ◌≡◌, ◌+◌, ◌<◌, ◌≤◌, ℕ, List, [], ◌∷◌, ◌++◌, Result, Ok, Err, inl, inr, length, length-append}
 use Rattle.mdb_words.specs.declared.event.Event.{Event}
 use Rattle.mdb_words.specs.Row.{IsRow}
 use Rattle.mdb_words.specs.Refusals.{IsRefusal}
@@ -23,165 +23,108 @@ HaveOneSurvey scope = (rows : List Event) (one other : List Ended) (last also : 
     → IsSurvey scope rows one last → IsSurvey scope rows other also
     → (one ≡ other) × (last ≡ also)
 
--- The rows at the front of the records, where no row goes on.
-record Front (scope : Scope) (records : List (List (List ℕ))) (ended : List Ended) (last : Stretch)
-    (rest : List (List (List ℕ))) : Type 0 where
-  surveyed : AreSurveyed scope records ended last rest
-  few : length surveyed.rows ≤ ROWS_MAX
-  ends : (fields : List (List ℕ)) (more : List (List (List ℕ))) (event : Event)
-      → rest ≡ fields ∷ more → IsRow fields event → length surveyed.rows < ROWS_MAX → ⊥
+module _ (form : LineForm) (scope : Scope) where
+  -- how the survey of a text ends after so many rows
+  abbrev EndsBy : List Ended → Stretch → ℕ → List (List (List ℕ)) → Result Summary RunFault
+      → List ℕ → Type 0
+  EndsBy ended last count rest (Ok summary) text =
+      (rest ≡ []) × (summary ≡ summary_of ended last)
+      × (text ≡ lines_of form ended ++ form.stretch last ++ form.summary summary)
+  EndsBy ended last count rest (Err (BadRow row fault)) text =
+      (fields : List (List ℕ)) × (after : List (List (List ℕ))) × (rest ≡ fields ∷ after)
+      × IsRefusal fields fault × (row ≡ count + 1) × (count < ROWS_MAX)
+      × (text ≡ lines_of form ended ++ form.stretch last)
+  EndsBy ended last count rest (Err TooLong) text =
+      (fields : List (List ℕ)) × (after : List (List (List ℕ))) × (rest ≡ fields ∷ after)
+      × (count ≡ ROWS_MAX) × (text ≡ lines_of form ended ++ form.stretch last)
+  EndsBy ended last count rest (Err fault) text = ⊥
 
-no_longer : (rows others : List Event) (rest : List (List (List ℕ))) → length others ≤ ROWS_MAX
-    → ((fields : List (List ℕ)) (more : List (List (List ℕ))) (event : Event) → rest ≡ fields ∷ more
-    → IsRow fields event → length rows < ROWS_MAX → ⊥) → GoesOn rows others rest → ⊥
-no_longer rows others rest few ends on =
-    let long : length others ≡ length rows + length (on.event ∷ on.more) =
-    ap length on.longer_is ∙ length-append rows (on.event ∷ on.more) in
-    ends on.fields on.after on.event on.record_is on.row (omega (arith, few, long))
+  -- no row goes on there
+  stops : (ended : List Ended) (last : Stretch) (count : ℕ) (rest : List (List (List ℕ)))
+      (answer : Result Summary RunFault) (text : List ℕ)
+      → EndsBy ended last count rest answer text → (fields : List (List ℕ))
+      (after : List (List (List ℕ))) (event : Event) → rest ≡ fields ∷ after → IsRow fields event
+      → count < ROWS_MAX → ⊥
+  stops ended last count rest (Ok summary) text ends fields after event is row few =
+      cc (ends.0, is)
+  stops ended last count rest (Err (BadRow number fault)) text ends fields after event is row few =
+      let same : fields ≡ ends.0 = cc (ends.2, is) in
+      row_not_refused ends.0 event fault (rw same at row) ends.3
+  stops ended last count rest (Err TooLong) text ends fields after event is row few =
+      omega (arith, ends.3, few)
+  stops ended last count rest (Err fault) text ends fields after event is row few = ends
 
--- such a front is one
-one_front : (scope : Scope) (records : List (List (List ℕ))) (ended others : List Ended)
-    (last also : Stretch) (rest left : List (List (List ℕ)))
-    → (first : Front scope records ended last rest)
-    → (second : Front scope records others also left)
-    → (first.surveyed.rows ≡ second.surveyed.rows) × (rest ≡ left)
-one_front scope records ended others last also rest left first second =
-    by_case (compared one.done two.done rest left one.rows two.rows one.told two.told
-    (sym one.split ∙ two.split))
-  where
-    one : AreSurveyed scope records ended last rest
-    one = first.surveyed
+  -- such an end is one
+  one_end : (ended : List Ended) (last : Stretch) (count : ℕ) (rest : List (List (List ℕ)))
+      (a b : Result Summary RunFault) (s t : List ℕ) → EndsBy ended last count rest a s
+      → EndsBy ended last count rest b t → (a ≡ b) × (s ≡ t)
+  one_end ended last count rest (Ok summary) (Ok other) s t p q =
+      let one : summary ≡ other = p.1 ∙ sym q.1 in (ap Ok one, rw (p.2, one, q.2))
+  one_end ended last count rest (Err (BadRow row fault)) (Err (BadRow number other)) s t p q =
+      let same : q.0 ≡ p.0 = cc (q.2, p.2) in
+      (cc (p.4, q.4, one_refusal p.0 fault other p.3 (rw same at q.3)), p.6 ∙ sym q.6)
+  one_end ended last count rest (Err TooLong) (Err TooLong) s t p q = (refl, p.4 ∙ sym q.4)
+  one_end ended last count rest (Ok summary) (Err TooLong) s t p q = absurd (cc (p.0, q.2))
+  one_end ended last count rest (Err TooLong) (Ok summary) s t p q = absurd (cc (p.2, q.0))
+  one_end ended last count rest a b s t p q = absurd (first_of (search, cc, omega arith))
 
-    two : AreSurveyed scope records others also left
-    two = second.surveyed
+  module _ (records : List (List (List ℕ))) where
+    record Ending (answer : Result Summary RunFault) (text : List ℕ) : Type 0 where
+      ended : List Ended
+      last : Stretch
+      rest : List (List (List ℕ))
+      surveyed : AreSurveyed scope records ended last rest
+      few : length surveyed.rows ≤ ROWS_MAX
+      by : EndsBy ended last (length surveyed.rows) rest answer text
 
-    by_case : ((one.rows ≡ two.rows) × (rest ≡ left))
-        ⊎ (GoesOn one.rows two.rows rest ⊎ GoesOn two.rows one.rows left)
-        → (one.rows ≡ two.rows) × (rest ≡ left)
-    by_case (inl same) = same
-    by_case (inr (inl on)) = absurd (no_longer one.rows two.rows rest second.few first.ends on)
-    by_case (inr (inr on)) = absurd (no_longer two.rows one.rows left first.few second.ends on)
+    ending : (read : ℕ) (answer : Result Summary RunFault) (text : List ℕ)
+        → IsSurveying form scope records read answer text → IsOwnAnswer answer
+        → Ending answer text
+    ending read (Ok summary) text is own = record {
+      ended = is.ended;
+      last = is.last;
+      rest = [];
+      surveyed = is.surveyed;
+      few = is.few;
+      by = (refl, is.comes_to, is.lines);
+    }
+    ending read (Err (BadRow row fault)) text is own = record {
+      ended = is.ended;
+      last = is.last;
+      rest = is.fields ∷ is.rest;
+      surveyed = is.surveyed;
+      few = omega (arith, is.few);
+      by = (is.fields, is.rest, refl, is.refused, is.number, is.few, is.lines);
+    }
+    ending read (Err TooLong) text is own = record {
+      ended = is.ended;
+      last = is.last;
+      rest = is.fields ∷ is.rest;
+      surveyed = is.surveyed;
+      few = omega (arith, is.full);
+      by = (is.fields, is.rest, refl, is.full, is.lines);
+    }
+    ending read (Err fault) text is own = absurd own
 
--- how the survey of a text ends after its front
-abbrev Ends : LineForm → List Ended → Stretch → ℕ → List (List (List ℕ)) → Result Summary RunFault
-    → List ℕ → Type 0
-Ends form ended last count rest (Ok summary) text = (rest ≡ []) × (summary ≡ summary_of ended last)
-    × (text ≡ lines_of form ended ++ form.stretch last ++ form.summary summary)
-Ends form ended last count rest (Err (BadRow row fault)) text =
-    (fields : List (List ℕ)) × (more : List (List (List ℕ))) × (rest ≡ fields ∷ more)
-    × IsRefusal fields fault × (row ≡ count + 1) × (count < ROWS_MAX)
-    × (text ≡ lines_of form ended ++ form.stretch last)
-Ends form ended last count rest (Err TooLong) text =
-    (fields : List (List ℕ)) × (more : List (List (List ℕ))) × (rest ≡ fields ∷ more)
-    × (count ≡ ROWS_MAX) × (text ≡ lines_of form ended ++ form.stretch last)
-Ends form ended last count rest (Err Read) text = ⊥
-Ends form ended last count rest (Err Write) text = ⊥
-Ends form ended last count rest (Err Memory) text = ⊥
+    -- of two endings none is after more rows
+    no_longer : (a b : Result Summary RunFault) (s t : List ℕ) (one : Ending a s)
+        (other : Ending b t) → GoesOn one.surveyed.rows other.surveyed.rows one.rest → ⊥
+    no_longer a b s t one other on =
+        let long = length-append one.surveyed.rows (on.event ∷ on.more) in
+        stops one.ended one.last (length one.surveyed.rows) one.rest a s one.by on.fields on.after
+        on.event on.record_is on.row (omega (arith, other.few, ap length on.longer_is, long))
 
-record Ending (form : LineForm) (scope : Scope) (records : List (List (List ℕ)))
-    (answer : Result Summary RunFault) (text : List ℕ) : Type 0 where
-  ended : List Ended
-  last : Stretch
-  rest : List (List (List ℕ))
-  front : Front scope records ended last rest
-  end : Ends form ended last (length front.surveyed.rows) rest answer text
-
-ending : (form : LineForm) (scope : Scope) (records : List (List (List ℕ))) (read : ℕ)
-    (answer : Result Summary RunFault) (text : List ℕ)
-    → IsSurveying form scope records read answer text → IsOwnAnswer answer
-    → Ending form scope records answer text
-ending form scope records read (Ok summary) text is own = record {
-  ended = is.ended;
-  last = is.last;
-  rest = [];
-  front = record {
-    surveyed = is.surveyed;
-    few = is.few;
-    ends = λ fields more event none row below. cc;
-  };
-  end = (refl, is.comes_to, is.lines);
-}
-ending form scope records read (Err (BadRow row fault)) text is own = record {
-  ended = is.ended;
-  last = is.last;
-  rest = is.fields ∷ is.rest;
-  front = record {
-    surveyed = is.surveyed;
-    few = omega (arith, is.few);
-    ends = λ fields more event same told below. no_row fields event (cc) told;
-  };
-  end = (is.fields, is.rest, refl, is.refused, is.number, is.few, is.lines);
-}
-  where
-    no_row : (fields : List (List ℕ)) (event : Event) → fields ≡ is.fields → IsRow fields event → ⊥
-    no_row fields event same told =
-        let P : List (List ℕ) → Type 0 = λ f. IsRow f event in
-        row_not_refused is.fields event fault (subst P same told) is.refused
-ending form scope records read (Err TooLong) text is own = record {
-  ended = is.ended;
-  last = is.last;
-  rest = is.fields ∷ is.rest;
-  front = record {
-    surveyed = is.surveyed;
-    few = omega (arith, is.full);
-    ends = λ fields more event same told below. omega (arith, is.full, below);
-  };
-  end = (is.fields, is.rest, refl, is.full, is.lines);
-}
-ending form scope records read (Err Read) text is own = absurd own
-ending form scope records read (Err Write) text is own = absurd own
-ending form scope records read (Err Memory) text is own = absurd own
-
-none_left : (rest : List (List (List ℕ))) (fields : List (List ℕ)) (more : List (List (List ℕ)))
-    → rest ≡ [] → rest ≡ fields ∷ more → ⊥
-none_left rest fields more none some =
-    let clash : [] ≡ fields ∷ more = sym none ∙ some in
-    cc clash
-
-same_fields : (rest : List (List (List ℕ))) (fields others : List (List ℕ))
-    (more after : List (List (List ℕ))) → rest ≡ fields ∷ more → rest ≡ others ∷ after
-    → others ≡ fields
-same_fields rest fields others more after one other =
-    let same : fields ∷ more ≡ others ∷ after = sym one ∙ other in
-    cc
-
-abbrev Same : Result Summary RunFault → Result Summary RunFault → List ℕ → List ℕ → Type 0
-Same a b s t = (a ≡ b) × (s ≡ t)
-
--- two ends after one front
-one_end : (form : LineForm) (ended : List Ended) (last : Stretch) (count : ℕ)
-    (rest : List (List (List ℕ))) (a b : Result Summary RunFault) (s t : List ℕ)
-    → Ends form ended last count rest a s → Ends form ended last count rest b t → Same a b s t
-one_end form ended last count rest (Ok summary) (Ok other) s t p q =
-    let one : summary ≡ other = p.1 ∙ sym q.1 in (
-      ap Ok one,
-      p.2 ∙ (ap (λ x. lines_of form ended ++ form.stretch last ++ form.summary x) one ∙ sym q.2),
-    )
-one_end form ended last count rest (Ok summary) (Err (BadRow row fault)) s t p q =
-    absurd (none_left rest q.0 q.1 p.0 q.2)
-one_end form ended last count rest (Ok summary) (Err TooLong) s t p q =
-    absurd (none_left rest q.0 q.1 p.0 q.2)
-one_end form ended last count rest (Err (BadRow row fault)) (Ok summary) s t p q =
-    absurd (none_left rest p.0 p.1 q.0 p.2)
-one_end form ended last count rest (Err (BadRow row fault)) (Err (BadRow number other)) s t p q =
-    let P : List (List ℕ) → Type 0 = λ f. IsRefusal f other in
-    let one : fault ≡ other =
-    one_refusal p.0 fault other p.3 (subst P (same_fields rest p.0 q.0 p.1 q.1 p.2 q.2) q.3) in
-    let same : row ≡ number = p.4 ∙ sym q.4 in
-    (ap (λ n. Err (BadRow n fault)) same ∙ ap (λ f. Err (BadRow number f)) one, p.6 ∙ sym q.6)
-one_end form ended last count rest (Err (BadRow row fault)) (Err TooLong) s t p q =
-    absurd (omega (arith, p.5, q.3))
-one_end form ended last count rest (Err TooLong) (Ok summary) s t p q =
-    absurd (none_left rest p.0 p.1 q.0 p.2)
-one_end form ended last count rest (Err TooLong) (Err (BadRow row fault)) s t p q =
-    absurd (omega (arith, p.3, q.5))
-one_end form ended last count rest (Err TooLong) (Err TooLong) s t p q = (refl, p.4 ∙ sym q.4)
-one_end form ended last count rest (Err Read) b s t p q = absurd p
-one_end form ended last count rest (Err Write) b s t p q = absurd p
-one_end form ended last count rest (Err Memory) b s t p q = absurd p
-one_end form ended last count rest a (Err Read) s t p q = absurd q
-one_end form ended last count rest a (Err Write) s t p q = absurd q
-one_end form ended last count rest a (Err Memory) s t p q = absurd q
+    one_front : (a b : Result Summary RunFault) (s t : List ℕ) (one : Ending a s)
+        (other : Ending b t)
+        → (one.surveyed.rows ≡ other.surveyed.rows) × (one.rest ≡ other.rest)
+    one_front a b s t one other =
+        elim (compared one.surveyed.done other.surveyed.done one.rest other.rest one.surveyed.rows
+        other.surveyed.rows one.surveyed.told other.surveyed.told
+        (sym one.surveyed.split ∙ other.surveyed.split)) [
+          | inl same ↦ same
+          | inr (inl on) ↦ absurd (no_longer a b s t one other on)
+          | inr (inr on) ↦ absurd (no_longer b a t s other one on)
+        ]
 
 -- the survey of a text is one
 pub one_surveying : (form : LineForm) (scope : Scope) → HaveOneSurvey scope
@@ -189,27 +132,14 @@ pub one_surveying : (form : LineForm) (scope : Scope) → HaveOneSurvey scope
     (s t : List ℕ) → IsSurveying form scope records read a s
     → IsSurveying form scope records more b t → IsOwnAnswer a → IsOwnAnswer b
     → (a ≡ b) × (s ≡ t)
-one_surveying form scope law records read more a b s t p q own other =
-    let first : Ending form scope records a s = ending form scope records read a s p own in
-    let second : Ending form scope records b t = ending form scope records more b t q other in
-    let rows : List Event = first.front.surveyed.rows in
-    let others : List Event = second.front.surveyed.rows in
-    let same : (rows ≡ others) × (first.rest ≡ second.rest) =
-    one_front scope records first.ended second.ended first.last second.last first.rest
-    second.rest first.front second.front in
-    let Survey : List Event → Type 0 = λ l. IsSurvey scope l second.ended second.last in
-    let one : (first.ended ≡ second.ended) × (first.last ≡ second.last) =
-    law rows first.ended second.ended first.last second.last first.front.surveyed.survey
-    (subst Survey (sym same.0) second.front.surveyed.survey) in
-    let A : List Event → Type 0 =
-    λ l. Ends form second.ended second.last (length l) second.rest b t in
-    let B : List (List (List ℕ)) → Type 0 =
-    λ l. Ends form second.ended second.last (length rows) l b t in
-    let C : List Ended → Type 0 = λ l. Ends form l second.last (length rows) first.rest b t in
-    let D : Stretch → Type 0 = λ x. Ends form first.ended x (length rows) first.rest b t in
-    one_end form first.ended first.last (length rows) first.rest a b s t first.end
-    (subst D (sym one.1)
-    (subst C (sym one.0) (subst B (sym same.1) (subst A (sym same.0) second.end))))
+one_surveying form scope law records read more a b s t p q own also =
+    let one = ending form scope records read a s p own in
+    let other = ending form scope records more b t q also in
+    let same = one_front form scope records a b s t one other in
+    let its = law other.surveyed.rows one.ended other.ended one.last other.last
+    (rw same.0 at one.surveyed.survey) other.surveyed.survey in
+    one_end form scope other.ended other.last (length other.surveyed.rows) other.rest a b s t
+    (rw (same.0, same.1, its.0, its.1) at one.by) other.by
 
 -- and so it is in each form
 pub in_other_form : (form other : LineForm) (scope : Scope) (records : List (List (List ℕ)))

@@ -1,5 +1,5 @@
 -- What the survey is, by how the reading of rows ended.
-use Rattle.std.proofs.Common.{arith, refl, ap, sym, subst, inl, inr, ◌∙◌, ◌≡◌, ◌+◌, ◌-◌, ℕ, List, [], ◌∷◌, ◌++◌, Result, Ok, Err, append_assoc}
+use Rattle.std.proofs.Common.{arith, refl, inl, inr, ◌∙◌, ◌≡◌, ◌+◌, ◌-◌, ℕ, List, [], ◌∷◌, ◌++◌, Result, Ok, Err, append_assoc}
 use Rattle.std.specs.Prelude.{IfErr}
 use Rattle.mdb_words.specs.declared.event.Event.{Event}
 use Rattle.mdb_words.specs.Row.{IsRow}
@@ -16,10 +16,10 @@ use Rattle.mdb_stretches.specs.Surveyor.{StandsFor, rows_of}
 use Rattle.mdb_verdict.specs.declared.fault.RunFault.{RunFault}
 use Rattle.mdb_verdict.specs.declared.fault.RunFault.TheVariants.{BadRow, TooLong, Read, Write, Memory}
 use Rattle.mdb_verdict.specs.Ending.{AreRead, FindsUpTo, HasEnded, IsStopped, IsTakenInPart, IsTakenWhole}
-use Rattle.mdb_verdict.proofs.Rows.{IsReadBefore, are_rows, read_before}
+use Rattle.mdb_verdict.proofs.Rows.{are_rows, read_before}
 use Rattle.mdb_verdict.proofs.Tellings.{not_taken_of_output}
 use Rattle.mdb_verdict.specs.Telling.{IsNotTaken, IsOfOutput}
-use Rattle.mdb_writing.specs.Output.{Breaks, Output, Puts}
+use Rattle.mdb_writing.specs.Output.{Output, Puts}
 use Rattle.mdb_writing.proofs.Outputs.{break_both, put_both}
 use Rattle.mdb_survey.specs.inner.SurveySteps.{HasAddedEnd, HasAddedLast, HasStopped, HasSurveyed, LeadInto, PutsSurveying}
 use Rattle.mdb_survey_text.specs.Lines.{LineForm, lines_of}
@@ -31,97 +31,221 @@ use Rattle.mdb_survey.proofs.Surveys.{lead_into}
 abbrev pub Stops : LineForm → Scope → Output → Output → List Event → List Event → RunFault → Type 0
 Stops form scope before after earlier rows = HasStopped form scope before after (earlier ++ rows)
 
--- the survey of the rows that were read
-abbrev surveyed_of : (scope : Scope) (all : List (List (List ℕ))) (rows : List Event)
-    (rest : List (List (List ℕ))) (ended : List Ended) (last : Stretch)
-    → AreRead IsRow all rows rest
-    → IsSurvey scope rows ended last → AreSurveyed scope all ended last rest
-surveyed_of scope all rows rest ended last read survey = record {
-  done = read.done;
-  split = read.split;
-  rows = rows;
-  told = are_rows read.done rows read.told;
-  survey = survey;
-}
+module _ (form : LineForm) (scope : Scope) (all : List (List (List ℕ))) where
+  -- the survey of the rows that were read
+  abbrev surveyed_of : (rows : List Event) (rest : List (List (List ℕ))) (ended : List Ended)
+      (last : Stretch) → AreRead IsRow all rows rest → IsSurvey scope rows ended last
+      → AreSurveyed scope all ended last rest
+  surveyed_of rows rest ended last read survey = record {
+    done = read.done;
+    split = read.split;
+    rows = rows;
+    told = are_rows read.done rows read.told;
+    survey = survey;
+  }
 
--- the lines of faults alone are those of a part of the records
-part_of : (form : LineForm) (scope : Scope) (all : List (List (List ℕ))) (rows : List Event)
-    (rest : List (List (List ℕ))) (ended : List Ended) → AreRead IsRow all rows rest
-    → LeadInto scope rows ended → IsSurveyedInPart form scope all (lines_of form ended)
-part_of form scope all rows rest ended read lead =
-    let Read : List Event → Type 0 = λ l. AreRead IsRow all l rest in
-    let before : IsReadBefore IsRow all lead.front lead.rest =
-    read_before IsRow all lead.front lead.rest rest (subst Read lead.parts read) in
-    record {
-      ended = ended;
-      last = lead.last;
-      rest = before.after ++ before.rest;
-      surveyed =
-          surveyed_of scope all lead.front (before.after ++ before.rest) ended lead.last before.read
-          lead.survey;
-      lines = refl;
-    }
+  -- the lines of faults alone are those of a part of the records
+  part_of : {rows : List Event} {rest : List (List (List ℕ))} (ended : List Ended)
+      → AreRead IsRow all rows rest → LeadInto scope rows ended
+      → IsSurveyedInPart form scope all (lines_of form ended)
+  part_of {rest = rest} ended read lead =
+      let before = read_before IsRow all lead.front lead.rest rest (rw lead.parts at read) in
+      record {
+        ended = ended;
+        last = lead.last;
+        rest = before.after ++ before.rest;
+        surveyed = surveyed_of lead.front (before.after ++ before.rest) ended lead.last before.read
+            lead.survey;
+        lines = refl;
+      }
 
--- The text ends.
-whole_by : (form : LineForm) (scope : Scope) (all : List (List (List ℕ))) (read : ℕ)
-    (surveyor : Surveyor) (before now later : Output)
-    → (it : IsTakenWhole IsRow (HasSurveyed form scope surveyor before now) ROWS_MAX all)
-    → (answer : Result Summary RunFault) → (adds : HasAddedEnd form surveyor now later answer)
-    → (summary : Summary) → summary ≡ adds.summary
-    → IsSurveying form scope all read (Ok summary)
-    (lines_of form it.has.ended ++ form.stretch adds.last ++ form.summary adds.summary)
-whole_by form scope all read surveyor before now later it answer adds summary is =
-    let both = adds.survey scope it.rows it.has.ended it.has.stands in
-    record {
-      ended = it.has.ended;
-      last = adds.last;
-      surveyed = surveyed_of scope all it.rows [] it.has.ended adds.last it.read both.0;
-      few = it.few;
-      comes_to = is ∙ both.1;
-      lines =
-          ap (λ s. lines_of form it.has.ended ++ form.stretch adds.last ++ form.summary s) (sym is);
-    }
-
-pub whole : NoneAreReached
-    → (form : LineForm) (scope : Scope) (all : List (List (List ℕ))) (read : ℕ)
-    (surveyor : Surveyor) (before now later : Output)
-    → IsTakenWhole IsRow (HasSurveyed form scope surveyor before now) ROWS_MAX all
-    → (answer : Result Summary RunFault) → HasAddedEnd form surveyor now later answer
-    → PutsSurveying form scope all read before later answer
-whole law form scope all read surveyor before now later it (Ok summary) adds = inl (
-  lines_of form it.has.ended ++ form.stretch adds.last ++ form.summary adds.summary,
-  whole_by form scope all read surveyor before now later it (Ok summary) adds summary adds.told,
-  subst (Puts before later) (sym (append_assoc (lines_of form it.has.ended) (form.stretch adds.last)
-      (form.summary adds.summary)))
-      (put_both before now later (lines_of form it.has.ended)
-      (form.stretch adds.last ++ form.summary adds.summary) it.has.written adds.added),
-)
-whole law form scope all read surveyor before now later it (Err (BadRow row fault)) adds =
-    absurd adds.refused
-whole law form scope all read surveyor before now later it (Err TooLong) adds = absurd adds.refused
-whole law form scope all read surveyor before now later it (Err Read) adds = absurd adds.refused
-whole law form scope all read surveyor before now later it (Err Write) adds = inr (
-  refl,
-  record {
-    answer = Ok adds.summary;
-    text = lines_of form it.has.ended ++ form.stretch adds.last ++ form.summary adds.summary;
-    is =
-        whole_by form scope all read surveyor before now later it (Err Write) adds adds.summary
-        refl;
-    broken =
-        subst (Breaks before later) (sym (append_assoc (lines_of form it.has.ended)
-        (form.stretch adds.last) (form.summary adds.summary)))
-        (break_both before now later (lines_of form it.has.ended)
-        (form.stretch adds.last ++ form.summary adds.summary) it.has.written adds.refused);
-  },
-)
-whole law form scope all read surveyor before now later it (Err Memory) adds =
-    let P : Output → Type 0 = λ bytes. Puts before bytes (lines_of form it.has.ended) in inl (
-      lines_of form it.has.ended,
-      part_of form scope all it.rows [] it.has.ended it.read
-          (lead_into law scope surveyor it.rows it.has.ended it.has.stands),
-      subst P (sym adds.refused) it.has.written,
+  module _ (surveyor : Surveyor) (before now : Output) where
+    -- those of all rows that were taken, where no rows are reached
+    part_taken : NoneAreReached → {rows : List Event} {rest : List (List (List ℕ))}
+        → HasSurveyed form scope surveyor before now rows → AreRead IsRow all rows rest
+        → (text : List ℕ) × IsSurveyedInPart form scope all text × Puts before now text
+    part_taken law {rows = rows} has read = (
+      lines_of form has.ended,
+      part_of has.ended read (lead_into law scope surveyor rows has.ended has.stands),
+      has.written,
     )
+
+    -- The text ends.
+    module _ (read : ℕ) (later : Output)
+        (it : IsTakenWhole IsRow (HasSurveyed form scope surveyor before now) ROWS_MAX all) where
+      whole_by : (answer : Result Summary RunFault)
+          (adds : HasAddedEnd form surveyor now later answer) (summary : Summary)
+          → summary ≡ adds.summary
+          → IsSurveying form scope all read (Ok summary)
+          (lines_of form it.has.ended ++ form.stretch adds.last ++ form.summary adds.summary)
+      whole_by answer adds summary is =
+          let both = adds.survey scope it.rows it.has.ended it.has.stands in
+          record {
+            ended = it.has.ended;
+            last = adds.last;
+            surveyed = surveyed_of it.rows [] it.has.ended adds.last it.read both.0;
+            few = it.few;
+            comes_to = is ∙ both.1;
+            lines = rw is;
+          }
+
+      pub whole : NoneAreReached → (answer : Result Summary RunFault)
+          → HasAddedEnd form surveyor now later answer
+          → PutsSurveying form scope all read before later answer
+      whole law (Ok summary) adds = inl (
+        lines_of form it.has.ended ++ form.stretch adds.last ++ form.summary adds.summary,
+        whole_by (Ok summary) adds summary adds.told,
+        rw (append_assoc (lines_of form it.has.ended) (form.stretch adds.last)
+            (form.summary adds.summary)) (put_both before now later (lines_of form it.has.ended)
+            (form.stretch adds.last ++ form.summary adds.summary) it.has.written adds.added),
+      )
+      whole law (Err Write) adds = inr (
+        refl,
+        record {
+          answer = Ok adds.summary;
+          text = lines_of form it.has.ended ++ form.stretch adds.last ++ form.summary adds.summary;
+          is = whole_by (Err Write) adds adds.summary refl;
+          broken = rw (append_assoc (lines_of form it.has.ended) (form.stretch adds.last)
+              (form.summary adds.summary)) (break_both before now later
+              (lines_of form it.has.ended) (form.stretch adds.last ++ form.summary adds.summary)
+              it.has.written adds.refused);
+        },
+      )
+      whole law (Err Memory) adds = rw adds.refused (inl (part_taken law it.has it.read))
+      whole law (Err fault) adds = absurd adds.refused
+
+    -- A record isn't taken, or can't be read.
+
+    -- so many rows are taken, and with the lines of the stretch that runs this is the answer
+    record TakenUpTo (read : ℕ) (fault : RunFault) : Type 0 where
+      taken : IsTakenInPart IsRow (HasSurveyed form scope surveyor before now) all
+      answers : (last : Stretch) → IsSurvey scope taken.rows taken.has.ended last
+          → IsSurveying form scope all read (Err fault)
+          (lines_of form taken.has.ended ++ form.stretch last)
+
+    -- the reading ended at a fault that isn't want of memory
+    module _ (start found : ℕ) (fault : RunFault) (not : fault ≡ Memory → ⊥)
+        (ended : HasEnded IsRow IsRefusal (HasSurveyed form scope surveyor before now)
+        (Stops form scope before now) ROWS_MAX all (Err fault))
+        (most : FindsUpTo fault (start + rows_of surveyor) found) where
+      taken_up_to : TakenUpTo (found - start) fault
+      taken_up_to = by fault not ended most
+        where
+          by : (fault : RunFault) → (fault ≡ Memory → ⊥)
+              → HasEnded IsRow IsRefusal (HasSurveyed form scope surveyor before now)
+              (Stops form scope before now) ROWS_MAX all (Err fault)
+              → FindsUpTo fault (start + rows_of surveyor) found
+              → TakenUpTo (found - start) fault
+          by (BadRow row fault) not it most = record {
+            taken = record {
+              rows = it.rows;
+              rest = it.fields ∷ it.rest;
+              read = it.read;
+              has = it.has;
+            };
+            answers = λ last survey. record {
+              ended = it.has.ended;
+              last = last;
+              fields = it.fields;
+              rest = it.rest;
+              surveyed = surveyed_of it.rows (it.fields ∷ it.rest) it.has.ended last it.read survey;
+              few = it.few;
+              number = it.number;
+              refused = it.refused;
+              lines = refl;
+            };
+          }
+          by TooLong not it most = record {
+            taken = record {
+              rows = it.rows;
+              rest = it.fields ∷ it.rest;
+              read = it.read;
+              has = it.has;
+            };
+            answers = λ last survey. record {
+              ended = it.has.ended;
+              last = last;
+              fields = it.fields;
+              rest = it.rest;
+              surveyed = surveyed_of it.rows (it.fields ∷ it.rest) it.has.ended last it.read survey;
+              full = it.full;
+              lines = refl;
+            };
+          }
+          by Read not it most = record {
+            taken = it;
+            answers = λ last survey. record {
+              ended = it.has.ended;
+              last = last;
+              rest = it.rest;
+              surveyed = surveyed_of it.rows it.rest it.has.ended last it.read survey;
+              none_left_out = omega (arith, it.has.counted, most);
+              lines = refl;
+            };
+          }
+          by Write not it most = absurd it
+          by Memory not it most = absurd (not refl)
+
+      -- the lines of the stretch that runs are added
+      pub told_with_last : (later : Output) (done : Unit)
+          → HasAddedLast form surveyor now later (Ok done)
+          → PutsSurveying form scope all (found - start) before later (Err fault)
+      told_with_last later done adds =
+          let has = taken_up_to.taken.has in inl (
+            lines_of form has.ended ++ form.stretch adds.last,
+            taken_up_to.answers adds.last
+                (adds.survey scope taken_up_to.taken.rows has.ended has.stands),
+            put_both before now later (lines_of form has.ended) (form.stretch adds.last)
+                has.written adds.added,
+          )
+
+      -- they aren't taken
+      pub last_refused : NoneAreReached → (later : Output) (other : RunFault)
+          → HasAddedLast form surveyor now later (Err other)
+          → PutsSurveying form scope all (found - start) before later (Err other)
+      last_refused law later Write adds =
+          let has = taken_up_to.taken.has in inr (
+            refl,
+            record {
+              answer = Err fault;
+              text = lines_of form has.ended ++ form.stretch adds.last;
+              is = taken_up_to.answers adds.last
+                  (adds.survey scope taken_up_to.taken.rows has.ended has.stands);
+              broken = break_both before now later (lines_of form has.ended)
+                  (form.stretch adds.last) has.written adds.refused;
+            },
+          )
+      last_refused law later Memory adds = rw adds.refused
+          (inl (part_taken law taken_up_to.taken.has taken_up_to.taken.read))
+      last_refused law later other adds = absurd adds.refused
+
+    -- memory is refused
+    pub out_of_memory : NoneAreReached → (read : ℕ) (fault : RunFault) → fault ≡ Memory
+        → HasEnded IsRow IsRefusal (HasSurveyed form scope surveyor before now)
+        (Stops form scope before now) ROWS_MAX all (Err fault)
+        → PutsSurveying form scope all read before now (Err fault)
+    out_of_memory law read fault is ended =
+        let it : IsTakenInPart IsRow (HasSurveyed form scope surveyor before now) all =
+        rw is at ended in
+        rw is (inl (part_taken law it.has it.read))
+
+  -- The lines of a fault and its stretch aren't taken.
+  pub lines_untaken : (read : ℕ) (before now : Output) (fault : RunFault)
+      → IsStopped IsRow
+      (λ earlier later. HasStopped form scope before now (earlier ++ later) fault) ROWS_MAX all
+      → PutsSurveying form scope all read before now (Err fault)
+  lines_untaken read before now Write it = inr (
+    refl,
+    record {
+      answer = Err Memory;
+      text = lines_of form it.stops.0;
+      is = part_of it.stops.0 it.read it.stops.1;
+      broken = it.stops.2;
+    },
+  )
+  lines_untaken read before now Memory it =
+      inl (lines_of form it.stops.0, part_of it.stops.0 it.read it.stops.1, it.stops.2)
+  lines_untaken read before now fault it = absurd it.stops
 
 -- the same, where the lines of the whole are refused
 pub end_refused : (form : LineForm) (surveyor : Surveyor) (now later : Output) (last : Stretch)
@@ -140,174 +264,6 @@ end_refused form surveyor now later last summary survey fault not_taken = record
   refused = not_taken;
 }
 
--- A record isn't taken, or can't be read.
-
--- so many rows are taken, and with the lines of the stretch that runs this is the answer
-record TakenUpTo (form : LineForm) (scope : Scope) (all : List (List (List ℕ))) (read : ℕ)
-    (surveyor : Surveyor) (before now : Output) (fault : RunFault) : Type 0 where
-  taken : IsTakenInPart IsRow (HasSurveyed form scope surveyor before now) all
-  answers : (last : Stretch) → IsSurvey scope taken.rows taken.has.ended last
-      → IsSurveying form scope all read (Err fault)
-      (lines_of form taken.has.ended ++ form.stretch last)
-
-taken_up_to : (form : LineForm) (scope : Scope) (all : List (List (List ℕ))) (start found : ℕ)
-    (surveyor : Surveyor) (before now : Output) (fault : RunFault) → (fault ≡ Memory → ⊥)
-    → HasEnded IsRow IsRefusal (HasSurveyed form scope surveyor before now)
-    (Stops form scope before now) ROWS_MAX all (Err fault)
-    → FindsUpTo fault (start + rows_of surveyor) found
-    → TakenUpTo form scope all (found - start) surveyor before now fault
-taken_up_to form scope all start found surveyor before now (BadRow row fault) not it most = record {
-  taken = record { rows = it.rows; rest = it.fields ∷ it.rest; read = it.read; has = it.has };
-  answers = λ last survey. record {
-    ended = it.has.ended;
-    last = last;
-    fields = it.fields;
-    rest = it.rest;
-    surveyed = surveyed_of scope all it.rows (it.fields ∷ it.rest) it.has.ended last it.read survey;
-    few = it.few;
-    number = it.number;
-    refused = it.refused;
-    lines = refl;
-  };
-}
-taken_up_to form scope all start found surveyor before now TooLong not it most = record {
-  taken = record { rows = it.rows; rest = it.fields ∷ it.rest; read = it.read; has = it.has };
-  answers = λ last survey. record {
-    ended = it.has.ended;
-    last = last;
-    fields = it.fields;
-    rest = it.rest;
-    surveyed = surveyed_of scope all it.rows (it.fields ∷ it.rest) it.has.ended last it.read survey;
-    full = it.full;
-    lines = refl;
-  };
-}
-taken_up_to form scope all start found surveyor before now Read not it most = record {
-  taken = it;
-  answers = λ last survey. record {
-    ended = it.has.ended;
-    last = last;
-    rest = it.rest;
-    surveyed = surveyed_of scope all it.rows it.rest it.has.ended last it.read survey;
-    none_left_out = omega (arith, it.has.counted, most);
-    lines = refl;
-  };
-}
-taken_up_to form scope all start found surveyor before now Write not it most = absurd it
-taken_up_to form scope all start found surveyor before now Memory not it most = absurd (not refl)
-
--- the lines of the stretch that runs are added
-pub told_with_last : (form : LineForm) (scope : Scope) (all : List (List (List ℕ)))
-    (start found : ℕ) (surveyor : Surveyor) (before now later : Output) (fault : RunFault)
-    → (fault ≡ Memory → ⊥)
-    → HasEnded IsRow IsRefusal (HasSurveyed form scope surveyor before now)
-    (Stops form scope before now) ROWS_MAX all (Err fault)
-    → FindsUpTo fault (start + rows_of surveyor) found
-    → (done : Unit) → HasAddedLast form surveyor now later (Ok done)
-    → PutsSurveying form scope all (found - start) before later (Err fault)
-told_with_last form scope all start found surveyor before now later fault not ended finds done
-    adds =
-    let it : TakenUpTo form scope all (found - start) surveyor before now fault =
-    taken_up_to form scope all start found surveyor before now fault not ended finds in
-    let has : HasSurveyed form scope surveyor before now it.taken.rows = it.taken.has in inl (
-      lines_of form has.ended ++ form.stretch adds.last,
-      it.answers adds.last (adds.survey scope it.taken.rows has.ended has.stands),
-      put_both before now later (lines_of form has.ended) (form.stretch adds.last) has.written
-          adds.added,
-    )
-
--- they aren't taken
-last_untaken : NoneAreReached
-    → (form : LineForm) (scope : Scope) (all : List (List (List ℕ))) (read : ℕ)
-    (surveyor : Surveyor) (before now later : Output) (fault : RunFault)
-    → TakenUpTo form scope all read surveyor before now fault → (other : RunFault)
-    → HasAddedLast form surveyor now later (Err other)
-    → PutsSurveying form scope all read before later (Err other)
-last_untaken law form scope all read surveyor before now later fault it (BadRow row refusal) adds =
-    absurd adds.refused
-last_untaken law form scope all read surveyor before now later fault it TooLong adds =
-    absurd adds.refused
-last_untaken law form scope all read surveyor before now later fault it Read adds =
-    absurd adds.refused
-last_untaken law form scope all read surveyor before now later fault it Write adds =
-    let has : HasSurveyed form scope surveyor before now it.taken.rows = it.taken.has in inr (
-      refl,
-      record {
-        answer = Err fault;
-        text = lines_of form has.ended ++ form.stretch adds.last;
-        is = it.answers adds.last (adds.survey scope it.taken.rows has.ended has.stands);
-        broken =
-            break_both before now later (lines_of form has.ended) (form.stretch adds.last)
-            has.written adds.refused;
-      },
-    )
-last_untaken law form scope all read surveyor before now later fault it Memory adds =
-    let has : HasSurveyed form scope surveyor before now it.taken.rows = it.taken.has in
-    let P : Output → Type 0 = λ bytes. Puts before bytes (lines_of form has.ended) in inl (
-      lines_of form has.ended,
-      part_of form scope all it.taken.rows it.taken.rest has.ended it.taken.read
-          (lead_into law scope surveyor it.taken.rows has.ended has.stands),
-      subst P (sym adds.refused) has.written,
-    )
-
-pub last_refused : NoneAreReached → (form : LineForm) (scope : Scope) (all : List (List (List ℕ)))
-    (start found : ℕ) (surveyor : Surveyor) (before now later : Output) (fault : RunFault)
-    → (fault ≡ Memory → ⊥)
-    → HasEnded IsRow IsRefusal (HasSurveyed form scope surveyor before now)
-    (Stops form scope before now) ROWS_MAX all (Err fault)
-    → FindsUpTo fault (start + rows_of surveyor) found
-    → (other : RunFault) → HasAddedLast form surveyor now later (Err other)
-    → PutsSurveying form scope all (found - start) before later (Err other)
-last_refused law form scope all start found surveyor before now later fault not ended finds other
-    adds =
-    last_untaken law form scope all (found - start) surveyor before now later fault
-    (taken_up_to form scope all start found surveyor before now fault not ended finds) other adds
-
--- memory is refused
-pub out_of_memory : NoneAreReached → (form : LineForm) (scope : Scope) (all : List (List (List ℕ)))
-    (read : ℕ) (surveyor : Surveyor) (before now : Output) (fault : RunFault) → fault ≡ Memory
-    → HasEnded IsRow IsRefusal (HasSurveyed form scope surveyor before now)
-    (Stops form scope before now) ROWS_MAX all (Err fault)
-    → PutsSurveying form scope all read before now (Err fault)
-out_of_memory law form scope all read surveyor before now fault is ended =
-    let Ended : RunFault → Type 0 = λ f.
-    HasEnded IsRow IsRefusal (HasSurveyed form scope surveyor before now)
-    (Stops form scope before now) ROWS_MAX all (Err f) in
-    let it : IsTakenInPart IsRow (HasSurveyed form scope surveyor before now) all =
-    subst Ended is ended in
-    let P : RunFault → Type 0 = λ f. PutsSurveying form scope all read before now (Err f) in
-    subst P (sym is) (inl (
-      lines_of form it.has.ended,
-      part_of form scope all it.rows it.rest it.has.ended it.read
-          (lead_into law scope surveyor it.rows it.has.ended it.has.stands),
-      it.has.written,
-    ))
-
--- The lines of a fault and its stretch aren't taken.
-pub lines_untaken : (form : LineForm) (scope : Scope) (all : List (List (List ℕ))) (read : ℕ)
-    (before now : Output) (fault : RunFault)
-    → IsStopped IsRow (λ earlier later. HasStopped form scope before now (earlier ++ later) fault)
-    ROWS_MAX all → PutsSurveying form scope all read before now (Err fault)
-lines_untaken form scope all read before now (BadRow row fault) it = absurd it.stops
-lines_untaken form scope all read before now TooLong it = absurd it.stops
-lines_untaken form scope all read before now Read it = absurd it.stops
-lines_untaken form scope all read before now Write it =
-    let rows : List Event = it.earlier ++ it.later in inr (
-      refl,
-      record {
-        answer = Err Memory;
-        text = lines_of form it.stops.0;
-        is = part_of form scope all rows it.rest it.stops.0 it.read it.stops.1;
-        broken = it.stops.2;
-      },
-    )
-lines_untaken form scope all read before now Memory it =
-    let rows : List Event = it.earlier ++ it.later in inl (
-      lines_of form it.stops.0,
-      part_of form scope all rows it.rest it.stops.0 it.read it.stops.1,
-      it.stops.2,
-    )
-
 -- A fault of what is added is one of the output.
 
 pub end_of_output : (form : LineForm) (surveyor : Surveyor) (before after : Output)
@@ -325,8 +281,6 @@ last_of_output form surveyor before after fault adds =
 
 pub stop_of_output : (form : LineForm) (scope : Scope) (before after : Output) (rows : List Event)
     (fault : RunFault) → HasStopped form scope before after rows fault → IsOfOutput fault
-stop_of_output form scope before after rows (BadRow row fault) stopped = absurd stopped
-stop_of_output form scope before after rows TooLong stopped = absurd stopped
-stop_of_output form scope before after rows Read stopped = absurd stopped
 stop_of_output form scope before after rows Write stopped = tt
 stop_of_output form scope before after rows Memory stopped = tt
+stop_of_output form scope before after rows fault stopped = absurd stopped

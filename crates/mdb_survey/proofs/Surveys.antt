@@ -5,10 +5,11 @@ use Rattle.mdb_bus.specs.declared.scope.Scope.{Scope}
 use Rattle.mdb_follow.specs.Runs.{IsReached}
 use Rattle.mdb_stretches.specs.declared.stretch.Ended.{Ended}
 use Rattle.mdb_stretches.specs.declared.surveyor.Surveyor.{Surveyor}
-use Rattle.mdb_stretches.specs.Stretches.{LeadFrom, StretchStart, first_place, stretch_at}
+use Rattle.mdb_stretches.specs.Stretches.{LeadFrom, first_place, stretch_at}
 use Rattle.mdb_stretches.specs.Surveyor.{EndsAmong, StandsFor, rows_of}
+use Rattle.mdb_stretches.proofs.Parts.{cut_at}
 use Rattle.mdb_verdict.specs.declared.fault.RunFault.{RunFault}
-use Rattle.mdb_verdict.specs.declared.fault.RunFault.TheVariants.{BadRow, TooLong, Read, Write, Memory}
+use Rattle.mdb_verdict.specs.declared.fault.RunFault.TheVariants.{Write, Memory}
 use Rattle.mdb_verdict.specs.Telling.{IsNotTaken}
 use Rattle.mdb_writing.specs.Output.{Output, Puts, begun, output}
 use Rattle.mdb_writing.proofs.Outputs.{break_both, put_begun, put_both}
@@ -24,53 +25,22 @@ pub begins : (form : LineForm) (scope : Scope) (surveyor : Surveyor) (page : Lis
 begins form scope surveyor page stands none empty contents =
     record { ended = []; stands = stands; counted = none; written = put_begun contents page empty }
 
--- Rows lead over faults to a place: those up to the last of the faults do, too.
-record LeadsBefore (start : StretchStart) (rows : List Event) (ended : List Ended)
-    (place : StretchStart) : Type 0 where
-  front : List Event
-  rest : List Event
-  parts : rows ≡ front ++ rest
-  lead : LeadFrom start front ended [] place
-
-leads_before : (start : StretchStart) (rows : List Event) (ended : List Ended)
-    (running : List Event)
-    (place : StretchStart) → LeadFrom start rows ended running place
-    → LeadsBefore start rows ended place
-leads_before start rows [] running place lead =
-    record { front = []; rest = rows; parts = refl; lead = (refl, lead.1) }
-leads_before start rows (newest ∷ earlier) running place lead = record {
-  front = lead.front ++ lead.row ∷ [];
-  rest = running;
-  parts = lead.parts ∙ sym (append_assoc lead.front (lead.row ∷ []) running);
-  lead = record {
-    front = lead.front;
-    before = lead.before;
-    from = lead.from;
-    row = lead.row;
-    lead = lead.lead;
-    parts = refl;
-    ends = lead.ends;
-  };
-}
-
--- so the first of the rows that a surveyor stands for have a survey with its faults
+-- the rows up to the last fault that a surveyor stands for have a survey with its faults
 pub lead_into : NoneAreReached → (scope : Scope) (surveyor : Surveyor) (rows : List Event)
     (ended : List Ended) → StandsFor surveyor scope rows ended → LeadInto scope rows ended
 lead_into law scope surveyor rows ended stands =
     let reached : IsReached stands.place.scope [] =
-    subst (λ s. IsReached s []) stands.followed_so
-    (law surveyor.follower stands.running stands.follows) in
-    let before : LeadsBefore (first_place scope) rows ended stands.place =
-    leads_before (first_place scope) rows ended stands.running stands.place stands.lead in
+    rw stands.followed_so at (law surveyor.follower stands.running stands.follows) in
+    let cut = cut_at (first_place scope) rows [] ended stands.running stands.place stands.lead in
     record {
-      front = before.front;
-      rest = before.rest;
-      parts = before.parts;
+      front = cut.front;
+      rest = cut.rest;
+      parts = cut.parts;
       last = stretch_at stands.place (report_on_none stands.place.scope);
       survey = record {
         running = [];
         place = stands.place;
-        lead = before.lead;
+        lead = subst (LeadFrom (first_place scope) cut.front ended []) (sym cut.onward.1) cut.to;
         is = record { is = is_report_on_none stands.place.scope reached; begins = refl };
       };
     }
@@ -89,70 +59,59 @@ lead_further scope rows more ended lead = record {
 stopped_further : (form : LineForm) (scope : Scope) (before after : Output) (rows more : List Event)
     (fault : RunFault) → HasStopped form scope before after rows fault
     → HasStopped form scope before after (rows ++ more) fault
-stopped_further form scope before after rows more (BadRow row fault) stopped = absurd stopped
-stopped_further form scope before after rows more TooLong stopped = absurd stopped
-stopped_further form scope before after rows more Read stopped = absurd stopped
 stopped_further form scope before after rows more Write stopped =
     (stopped.0, lead_further scope rows more stopped.0 stopped.1, stopped.2)
 stopped_further form scope before after rows more Memory stopped =
     (stopped.0, lead_further scope rows more stopped.0 stopped.1, stopped.2)
+stopped_further form scope before after rows more fault stopped = absurd stopped
 
 -- Some rows more.
+module _ (form : LineForm) (scope : Scope) (old new : Surveyor) (before now : Output)
+    (rows more : List Event) (has : HasSurveyed form scope old before now rows) where
+  -- they end no stretch
+  goes_on : ((scope : Scope) (rows : List Event) (ended : List Ended)
+      → StandsFor old scope rows ended → StandsFor new scope (rows ++ more) ended)
+      → rows_of new ≡ rows_of old + length more
+      → HasSurveyed form scope new before now (rows ++ more)
+  goes_on on counted = record {
+    ended = has.ended;
+    stands = on scope rows has.ended has.stands;
+    counted = omega (arith, counted, has.counted, length-append rows more);
+    written = has.written;
+  }
 
--- they end no stretch
-pub goes_on : (form : LineForm) (scope : Scope) (old new : Surveyor) (before now : Output)
-    (rows more : List Event)
-    → ((scope : Scope) (rows : List Event) (ended : List Ended) → StandsFor old scope rows ended
-    → StandsFor new scope (rows ++ more) ended) → rows_of new ≡ rows_of old + length more
-    → HasSurveyed form scope old before now rows
-    → HasSurveyed form scope new before now (rows ++ more)
-goes_on form scope old new before now rows more on counted has = record {
-  ended = has.ended;
-  stands = on scope rows has.ended has.stands;
-  counted = omega (arith, counted, has.counted, length-append rows more);
-  written = has.written;
-}
+  -- the last of them ends one
+  module _ (later : Output) (it : Ended)
+      (on : (scope : Scope) (rows : List Event) (ended : List Ended)
+      → StandsFor old scope rows ended → StandsFor new scope (rows ++ more) (it ∷ ended)) where
+    -- its lines are added
+    ends_one : rows_of new ≡ rows_of old + length more → Puts now later (ended_lines form it)
+        → HasSurveyed form scope new before later (rows ++ more)
+    ends_one counted added = record {
+      ended = it ∷ has.ended;
+      stands = on scope rows has.ended has.stands;
+      counted = omega (arith, counted, has.counted, length-append rows more);
+      written = put_both before now later (lines_of form has.ended) (ended_lines form it)
+          has.written added;
+    }
 
--- the last of them ends one, whose lines are added
-ends_one : (form : LineForm) (scope : Scope) (old new : Surveyor) (before now later : Output)
-    (rows more : List Event) (it : Ended)
-    → ((scope : Scope) (rows : List Event) (ended : List Ended) → StandsFor old scope rows ended
-    → StandsFor new scope (rows ++ more) (it ∷ ended)) → rows_of new ≡ rows_of old + length more
-    → HasSurveyed form scope old before now rows → Puts now later (ended_lines form it)
-    → HasSurveyed form scope new before later (rows ++ more)
-ends_one form scope old new before now later rows more it on counted has added = record {
-  ended = it ∷ has.ended;
-  stands = on scope rows has.ended has.stands;
-  counted = omega (arith, counted, has.counted, length-append rows more);
-  written =
-      put_both before now later (lines_of form has.ended) (ended_lines form it) has.written added;
-}
-
--- the last of them ends one, whose lines aren't taken
-ends_none : NoneAreReached
-    → (form : LineForm) (scope : Scope) (old new : Surveyor) (before now later : Output)
-    (rows more : List Event) (it : Ended)
-    → ((scope : Scope) (rows : List Event) (ended : List Ended) → StandsFor old scope rows ended
-    → StandsFor new scope (rows ++ more) (it ∷ ended))
-    → HasSurveyed form scope old before now rows → (fault : RunFault)
-    → IsNotTaken fault now later (ended_lines form it)
-    → HasStopped form scope before later (rows ++ more) fault
-ends_none law form scope old new before now later rows more it on has (BadRow row fault) refused =
-    absurd refused
-ends_none law form scope old new before now later rows more it on has TooLong refused =
-    absurd refused
-ends_none law form scope old new before now later rows more it on has Read refused = absurd refused
-ends_none law form scope old new before now later rows more it on has Write refused = (
-  it ∷ has.ended,
-  lead_into law scope new (rows ++ more) (it ∷ has.ended) (on scope rows has.ended has.stands),
-  break_both before now later (lines_of form has.ended) (ended_lines form it) has.written refused,
-)
-ends_none law form scope old new before now later rows more it on has Memory refused =
-    let P : Output → Type 0 = λ bytes. Puts before bytes (lines_of form has.ended) in (
+    -- its lines aren't taken
+    ends_none : NoneAreReached → (fault : RunFault)
+        → IsNotTaken fault now later (ended_lines form it)
+        → HasStopped form scope before later (rows ++ more) fault
+    ends_none law Write refused = (
+      it ∷ has.ended,
+      lead_into law scope new (rows ++ more) (it ∷ has.ended)
+          (on scope rows has.ended has.stands),
+      break_both before now later (lines_of form has.ended) (ended_lines form it) has.written
+          refused,
+    )
+    ends_none law Memory refused = (
       has.ended,
       lead_further scope rows more has.ended (lead_into law scope old rows has.ended has.stands),
-      subst P (sym refused) has.written,
+      rw refused has.written,
     )
+    ends_none law fault refused = absurd refused
 
 -- Rows that are fed to a surveyor until all are taken.
 
@@ -166,73 +125,58 @@ pub record Goes (form : LineForm) (scope : Scope) (old new : Surveyor) (was now 
       → HasSurveyed form scope old before was earlier
       → HasSurveyed form scope new before now (earlier ++ taken)
 
--- the rows up to one of the rest are the next ones
-next_rows : (rows taken rest front after : List Event) (row : Event) → rows ≡ taken ++ rest
-    → rest ≡ front ++ row ∷ after → rows ≡ (taken ++ (front ++ row ∷ [])) ++ after
-next_rows rows taken rest front after row parts more =
-    parts ∙ ap (λ l. taken ++ l) (more ∙ sym (append_assoc front (row ∷ []) after))
-    ∙ sym (append_assoc taken (front ++ row ∷ []) after)
+module _ {form : LineForm} {scope : Scope} {old mid : Surveyor} {was now : Output}
+    {rows rest : List Event} (goes : Goes form scope old mid was now rows rest) where
+  -- one of the rest ended a stretch
+  module _ {new : Surveyor} {after : List Event} {it : Ended} (later : Output)
+      (ends : EndsAmong mid rest it after new) where
+    -- the rows up to that one are the next ones
+    abbrev more : List Event
+    more = ends.front ++ ends.row ∷ []
 
--- where it ended a stretch, the surveyor stands for them, too
-stands_on : (scope : Scope) (mid new : Surveyor) (rest after : List Event) (it : Ended)
-    → (ends : EndsAmong mid rest it after new) → (rows : List Event) (ended : List Ended)
-    → StandsFor mid scope rows ended
-    → StandsFor new scope (rows ++ (ends.front ++ ends.row ∷ [])) (it ∷ ended)
-stands_on scope mid new rest after it ends rows ended on =
-    subst (λ l. StandsFor new scope l (it ∷ ended)) (append_assoc rows ends.front (ends.row ∷ []))
-    (ends.stands scope rows ended on)
+    next_rows : rows ≡ (goes.taken ++ more) ++ after
+    next_rows = rw (goes.parts, ends.parts) (simp append_assoc)
 
--- one of the rest ended a stretch, whose lines are added
-pub goes_more : (form : LineForm) (scope : Scope) (old mid new : Surveyor) (was now later : Output)
-    (rows rest after : List Event) (it : Ended) → Goes form scope old mid was now rows rest
-    → EndsAmong mid rest it after new → Puts now later (ended_lines form it)
-    → Goes form scope old new was later rows after
-goes_more form scope old mid new was now later rows rest after it goes ends added =
-    let more : List Event = ends.front ++ ends.row ∷ [] in
-    let many : length more ≡ length ends.front + 1 = length-append ends.front (ends.row ∷ []) in
-    let counted : rows_of new ≡ rows_of mid + length more = omega (arith, many, ends.counted) in
-    record {
-      taken = goes.taken ++ more;
-      parts = next_rows rows goes.taken rest ends.front after ends.row goes.parts ends.parts;
-      counted = omega (arith, goes.counted, counted, length-append goes.taken more);
-      surveyed = λ before earlier has.
-          let P : List Event → Type 0 = λ l. HasSurveyed form scope new before later l in
-          subst P (append_assoc earlier goes.taken more)
-          (ends_one form scope mid new before now later (earlier ++ goes.taken) more it
-          (λ s. stands_on s mid new rest after it ends) counted (goes.surveyed before earlier has)
-          added);
-    }
+    -- the surveyor stands for them, too
+    stands_on : (scope : Scope) (rows : List Event) (ended : List Ended)
+        → StandsFor mid scope rows ended → StandsFor new scope (rows ++ more) (it ∷ ended)
+    stands_on scope rows ended on = rw append_assoc at (ends.stands scope rows ended on)
 
--- its lines aren't taken
-pub goes_no_more : NoneAreReached → (form : LineForm) (scope : Scope) (old mid new : Surveyor)
-    (was now later : Output) (rows rest after : List Event) (it : Ended)
-    → Goes form scope old mid was now rows rest → EndsAmong mid rest it after new
-    → (fault : RunFault) → IsNotTaken fault now later (ended_lines form it)
-    → (before : Output) (earlier : List Event) → HasSurveyed form scope old before was earlier
-    → HasStopped form scope before later (earlier ++ rows) fault
-goes_no_more law form scope old mid new was now later rows rest after it goes ends fault refused
-    before earlier has =
-    let P : List Event → Type 0 = λ l. HasStopped form scope before later l fault in
-    let more : List Event = ends.front ++ ends.row ∷ [] in
-    let here : HasStopped form scope before later ((earlier ++ goes.taken) ++ more) fault =
-    ends_none law form scope mid new before now later (earlier ++ goes.taken) more it
-    (λ s. stands_on s mid new rest after it ends) (goes.surveyed before earlier has) fault
-    refused in
-    subst P (ap (λ l. l ++ after) (append_assoc earlier goes.taken more)
-    ∙ append_assoc earlier (goes.taken ++ more) after
-    ∙ ap (λ l. earlier ++ l)
-    (sym (next_rows rows goes.taken rest ends.front after ends.row goes.parts ends.parts)))
-    (stopped_further form scope before later ((earlier ++ goes.taken) ++ more) after fault here)
+    -- its lines are added
+    pub goes_more : Puts now later (ended_lines form it)
+        → Goes form scope old new was later rows after
+    goes_more added =
+        let many = length-append ends.front (ends.row ∷ []) in
+        let counted : rows_of new ≡ rows_of mid + length more = omega (arith, many, ends.counted) in
+        record {
+          taken = goes.taken ++ more;
+          parts = next_rows;
+          counted = omega (arith, goes.counted, counted, length-append goes.taken more);
+          surveyed = λ before earlier has.
+              rw (append_assoc earlier goes.taken more) at
+              (ends_one form scope mid new before now (earlier ++ goes.taken) more
+              (goes.surveyed before earlier has) later it stands_on counted added);
+        }
 
--- all of the rest are taken, and end none
-pub goes_all : (form : LineForm) (scope : Scope) (old mid new : Surveyor) (was now : Output)
-    (rows rest : List Event) → Goes form scope old mid was now rows rest
-    → ((scope : Scope) (before : List Event) (ended : List Ended) → StandsFor mid scope before ended
-    → StandsFor new scope (before ++ rest) ended) → rows_of new ≡ rows_of mid + length rest
-    → (before : Output) (earlier : List Event) → HasSurveyed form scope old before was earlier
-    → HasSurveyed form scope new before now (earlier ++ rows)
-goes_all form scope old mid new was now rows rest goes on counted before earlier has =
-    let P : List Event → Type 0 = λ l. HasSurveyed form scope new before now l in
-    subst P (append_assoc earlier goes.taken rest ∙ ap (λ l. earlier ++ l) (sym goes.parts))
-    (goes_on form scope mid new before now (earlier ++ goes.taken) rest on counted
-    (goes.surveyed before earlier has))
+    -- its lines aren't taken
+    pub goes_no_more : NoneAreReached → (fault : RunFault)
+        → IsNotTaken fault now later (ended_lines form it) → (before : Output)
+        (earlier : List Event) → HasSurveyed form scope old before was earlier
+        → HasStopped form scope before later (earlier ++ rows) fault
+    goes_no_more law fault refused before earlier has =
+        let same : ((earlier ++ goes.taken) ++ more) ++ after ≡ earlier ++ rows =
+        rw next_rows (simp append_assoc) in
+        rw same at (stopped_further form scope before later ((earlier ++ goes.taken) ++ more)
+        after fault (ends_none form scope mid new before now (earlier ++ goes.taken) more
+        (goes.surveyed before earlier has) later it stands_on law fault refused))
+
+  -- all of the rest are taken, and end none
+  pub goes_all : {new : Surveyor} → ((scope : Scope) (before : List Event) (ended : List Ended)
+      → StandsFor mid scope before ended → StandsFor new scope (before ++ rest) ended)
+      → rows_of new ≡ rows_of mid + length rest → (before : Output) (earlier : List Event)
+      → HasSurveyed form scope old before was earlier
+      → HasSurveyed form scope new before now (earlier ++ rows)
+  goes_all {new = new} on counted before earlier has =
+      rw (goes.parts, sym (append_assoc earlier goes.taken rest))
+      (goes_on form scope mid new before now (earlier ++ goes.taken) rest
+      (goes.surveyed before earlier has) on counted)

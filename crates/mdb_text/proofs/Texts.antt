@@ -1,5 +1,5 @@
 -- Texts that are written in parts.
-use Rattle.std.proofs.Common.{[], Bool, true, false, refl, ap, sym, ◌∙◌, ◌≡◌, ℕ, List, ◌++◌, append_assoc, codes, Option, Result, Ok, Err, get_or, length, ◌+◌, ◌<◌, ◌≤◌, subst, take}
+use Rattle.std.proofs.Common.{[], Bool, true, false, refl, sym, ◌≡◌, ℕ, List, ◌++◌, append_assoc, codes, Option, Result, Ok, Err, get_or, length, ◌+◌, ◌<◌, ◌≤◌, take}
 use Rattle.std.proofs.KnownBytes.{Appends-trans}
 use Rattle.std.proofs.lemmas.List.{flat_map_more, take_all, take_more}
 use Rattle.std.specs.Fmt.{decimal}
@@ -16,38 +16,33 @@ pub on_ok : {T E : Type 0} (r : Result T E) (P Q : Type 0) → (P → Q) → OnO
 on_ok (Ok x) P Q weaker h = weaker h
 on_ok (Err e) P Q weaker h = tt
 
+pub then_written : {T E : Type 0} (r : Result T E) (a b c : Option (List ℕ))
+    (first second : List ℕ) → Appends a b first → OnOk r (Appends b c second)
+    → OnOk r (Appends a c (first ++ second))
+then_written r a b c first second written =
+    on_ok r _ _ (Appends-trans a b c first second written)
+
 -- a text that is made of a list, with one part more
 pub one_part_more : {X : Type 0} (part : X → List ℕ) (a b c : Option (List ℕ)) (head : List ℕ)
     (xs : List X) (i : ℕ) (d : X) (text : List ℕ) → i < length xs
     → Appends a b (head ++ flat_map part (take i xs)) → text ≡ part (get_or xs i d)
     → Appends b c text → Appends a c (head ++ flat_map part (take (i + 1) xs))
 one_part_more part a b c head xs i d text below so_far is more =
-    subst (λ text. Appends a c text)
-    (flat_map_more part head (take i xs) (get_or xs i d)
-    ∙ ap (λ ys. head ++ flat_map part ys) (sym (take_more xs i d below)))
+    rw (take_more xs i d below, ← flat_map_more part head (take i xs) (get_or xs i d))
     (Appends-trans a b c (head ++ flat_map part (take i xs)) (part (get_or xs i d)) so_far
-    (subst (λ text. Appends b c text) is more))
+    (rw is at more))
 
 -- and with all of them
 pub all_parts : {X : Type 0} (part : X → List ℕ) (a b : Option (List ℕ)) (head : List ℕ)
     (xs : List X) (i : ℕ) → length xs ≤ i
     → Appends a b (head ++ flat_map part (take i xs)) → Appends a b (head ++ flat_map part xs)
-all_parts part a b head xs i past so_far =
-    subst (λ ys. Appends a b (head ++ flat_map part ys)) (take_all i xs past) so_far
+all_parts part a b head xs i past so_far = rw (take_all i xs past) at so_far
 
 -- the line of a word and of the devices of a set, where there are some
 some_words : (word : List ℕ) (changer bill first second : Bool)
-    → ((record { changer = changer; bill = bill; first_reader = first; second_reader = second })
-    ≡ NONE → ⊥)
-    → (
-    let set : DeviceSet =
-    record {
-      changer = changer;
-      bill = bill;
-      first_reader = first;
-      second_reader = second;
-    } in
-    line_of_devices word (devices_text set) ≡ line (word ++ devices_text set))
+    → let set : DeviceSet =
+    record { changer = changer; bill = bill; first_reader = first; second_reader = second } in
+    (set ≡ NONE → ⊥) → line_of_devices word (devices_text set) ≡ line (word ++ devices_text set)
 some_words word true bill first second some = refl
 some_words word false true first second some = refl
 some_words word false false true second some = refl
@@ -61,7 +56,7 @@ with_line word set some =
 
 pub without_line : (word : List ℕ) (set : DeviceSet) → set ≡ NONE
     → line_of_devices word (devices_text set) ≡ []
-without_line word set none = ap (λ s. line_of_devices word (devices_text s)) none
+without_line word set none = rw none
 
 -- the line of rows out of their time is written in two parts
 abbrev pub untimely_first : List ℕ → Untimely → List ℕ

@@ -93,15 +93,6 @@ whole_of scope {limit = limit} {all = all} sales ended outcome tells_yes =
     }
     told (No offence) never = absurd never
 
-pub whole : (scope : Scope) → ((rows : List Event) → SalesFollowApprovals scope rows)
-    → (limit : ℕ) (all : List (List (List ℕ))) (follower : Follower)
-    → IsTakenWhole IsRow (HasFollowedRows scope follower) limit all
-    → (outcome : Outcome)
-    → ((rows : List Event) → StandsFor follower rows → IsYes scope rows outcome)
-    → IsAnswer scope limit all (Ok outcome)
-whole scope sales limit all follower ended outcome tells_yes =
-    whole_of scope sales ended outcome (λ rows has. tells_yes rows has.stands)
-
 -- a row cannot be
 pub impossible : (scope : Scope) (limit : ℕ) (all : List (List (List ℕ))) (offence : Offence)
     → IsStopped IsRow (λ earlier rows. HasOffence scope earlier rows offence) limit all
@@ -146,12 +137,3 @@ module _ {Stop : Type 0} (scope : Scope) (limit : ℕ) (all : List (List (List �
       → IsAnswer scope limit all answer
   refused_of fault ended answer is =
       handed (IsAnswer scope limit all) fault answer is (refused_by fault ended)
-
-pub refused : (scope : Scope) {Stop : Type 0} → Reaches
-    → (limit : ℕ) (all : List (List (List ℕ))) (follower : Follower)
-    (Stops : List Event → List Event → Stop → Type 0) (fault : RunFault)
-    → HasEnded IsRow IsRefusal (HasFollowedRows scope follower) Stops limit all (Err fault)
-    → (answer : Result Outcome RunFault) → IsErrAnd answer (λ other. other ≡ fault)
-    → IsAnswer scope limit all answer
-refused scope reaches limit all follower Stops =
-    refused_of scope limit all (HasFollowedRows scope follower) (reached reaches) Stops

@@ -28,6 +28,7 @@ use mdb_msgs::{Need, begins_options, command_of, laws, need_of};
 use mdb_words::{Event, Line, Time, Word};
 
 /// A word of the controller where a block may begin, at least so long after the row before it.
+#[inline(always)]
 pub(crate) fn begin_block(
     scope: &Scope,
     last: &Option<Event>,

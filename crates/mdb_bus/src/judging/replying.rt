@@ -22,6 +22,7 @@ use mdb_msgs::{Command, laws};
 use mdb_words::{BLOCK_GAP_MAX, Event, Line, Time, Word};
 
 /// A peripheral's word inside its reply.
+#[inline(always)]
 pub(crate) fn go_on_replying(
     times: Profile,
     command: &Command,

@@ -79,6 +79,8 @@ pub(crate) fn ended_by(approved: bool, command: ReaderCommand, value: u64) -> En
 }
 
 /// The command of a session that a command is.
+// Inlined, since each command to a reader asks for it several times.
+#[inline(always)]
 pub(crate) fn transaction_of(command: ReaderCommand) -> Option<Transaction>
     ensures { result ≡ spec.transaction_of command }
 {

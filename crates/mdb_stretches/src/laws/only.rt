@@ -30,6 +30,7 @@ pub fn rows_have_one_survey()
 }
 
 /// A survey with no fault is the report on all rows.
+#[tactic(auto, using(crate::proofs::OneSurvey::no_fault))]
 pub fn a_survey_with_no_fault_is_the_report()
     ensures { (scope : Scope) (rows : List Event) (last : Stretch) → IsSurvey scope rows [] last
         → IsReport scope rows last.report

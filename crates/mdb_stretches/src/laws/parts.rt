@@ -28,6 +28,7 @@ use mdb_follow::laws;
 
 /// A survey may be cut at a fault: the rows up to it lead to where the next stretch begins, and the
 /// others lead on from there.
+#[tactic(auto, using(crate::proofs::Parts::cut_at))]
 pub fn surveys_may_be_cut_at_a_fault()
     ensures { (start : StretchStart) (rows : List Event) (later earlier : List Ended)
         (running : List Event) (place : StretchStart)
@@ -36,6 +37,7 @@ pub fn surveys_may_be_cut_at_a_fault()
 {}
 
 /// What was cut at a fault may be put together again.
+#[tactic(auto, using(crate::proofs::Parts::together))]
 pub fn surveys_may_be_put_together()
     ensures { (start cut place : StretchStart) (front rest running : List Event)
         (earlier later : List Ended) → LeadFrom start front earlier [] cut
@@ -83,6 +85,7 @@ pub fn left_out_are_those_of_the_start_and_readers_beyond_this_profile()
 /// `options` says when a reader's options are told. `handed_on` says what the bus of the next
 /// stretch knows by the extended profile: these options, and these levels, but for the
 /// controller's where `asked_on` keeps it back.
+#[tactic(auto, using(crate::proofs::Learning::levels_later, crate::proofs::Learning::setups_after, crate::proofs::OptionsTold::told_last, crate::proofs::OptionsTold::handed_on, crate::proofs::OptionsTold::begun))]
 pub fn what_is_told_is_what_was_said_last()
     ensures levels { (begins : Beginning) (told : Told) (pieces : List Piece)
         → (told_after begins told (acts_of pieces)).levels

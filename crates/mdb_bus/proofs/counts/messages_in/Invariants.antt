@@ -1,7 +1,6 @@
 use Rattle.std.proofs.Common.{◌≡◌, ◌≤◌, ◌++◌, length}
-use Rattle.std.specs.List.{filter}
+use Rattle.mdb_bus.proofs.Words.{filter, counts}
 use Rattle.arrayvec.specs.ArrayVec.{array_vec_len}
-use Rattle.mdb_bus.specs.ExtendedCounts.{counts}
 use Rattle.mdb_bus.proofs.counts.messages_in.Given as goal
 
 abbrev pub invariant-loop-message : goal.invariant-loop-message

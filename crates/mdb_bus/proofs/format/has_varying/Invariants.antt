@@ -1,6 +1,5 @@
 use Rattle.std.proofs.Common.{◌≡◌}
-use Rattle.std.specs.List.{list_any}
-use Rattle.mdb_bus.specs.inner.Reading.{varies}
+use Rattle.mdb_bus.proofs.Words.{list_any, varies}
 use Rattle.mdb_bus.proofs.format.has_varying.Given as goal
 
 abbrev pub invariant-loop-message : goal.invariant-loop-message

@@ -1,6 +1,5 @@
 -- A word of the controller is judged at each phase as its judge there does.
-use Rattle.mdb_words.specs.declared.event.Event.TheVariants.{Word}
-use Rattle.mdb_words.specs.declared.word.Line.TheVariants.{Controller}
+use Rattle.mdb_bus.proofs.Words.{Word, Controller}
 use Rattle.mdb_bus.proofs.Verdicts.{asking_followed, asking_known}
 use Rattle.mdb_bus.proofs.judging.judge_controller.Goals as goal
 

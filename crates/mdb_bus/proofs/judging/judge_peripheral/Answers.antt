@@ -1,6 +1,5 @@
 -- A word of a peripheral is judged at each phase as its judge there does.
-use Rattle.mdb_words.specs.declared.event.Event.TheVariants.{Word}
-use Rattle.mdb_words.specs.declared.word.Line.TheVariants.{Peripheral}
+use Rattle.mdb_bus.proofs.Words.{Word, Peripheral}
 use Rattle.mdb_bus.proofs.judging.judge_peripheral.Goals as goal
 
 pub returns-in-Asked-clause-judged : goal.returns-in-Asked-clause-judged

@@ -1,7 +1,5 @@
-use Rattle.std.proofs.Common.{◌+◌, ◌≤◌, take}
-use Rattle.arrayvec.specs.ArrayVec.{array_vec_len}
-use Rattle.mdb_cashless.specs.declared.reader.state.TheConstants.{READER_STATES}
-use Rattle.mdb_machine.proofs.StepCodes.{AreCoded}
+use Rattle.mdb_cashless.proofs.Words.{◌+◌, ◌≤◌, array_vec_len, READER_STATES, AreCoded}
+use Rattle.std.proofs.Common.{take}
 use Rattle.mdb_cashless.proofs.by_profile.raised.Given as goal
 
 abbrev pub invariant-loop-code : goal.invariant-loop-code

@@ -1,6 +1,5 @@
-use Rattle.std.proofs.Common.{[], ◌∷◌, refl}
+use Rattle.mdb_cashless.proofs.Words.{[], ◌∷◌, refl, controller_gains, in_slots}
 use Rattle.mdb_msgs.specs.declared.command.ReaderCommand.TheVariants as reader
-use Rattle.mdb_machine.specs.Gains.{controller_gains, in_slots}
 use Rattle.mdb_cashless.proofs.ApprovedSales.{is_told, may_be_told}
 use Rattle.mdb_cashless.proofs.Sales.{own_of_unit}
 use Rattle.mdb_cashless.proofs.laws.a_sale_is_told_exactly_where_it_is_approved.Goals as goal

@@ -1,7 +1,5 @@
-use Rattle.std.proofs.Common.{◌↔◌, ap, subst, sym}
-use Rattle.mdb_cashless.specs.declared.by_profile.state.StateByProfile.TheVariants.{Base, Extended}
-use Rattle.mdb_cashless.specs.ByProfile.{base_state, by_profile, extended_state, machine_in}
-use Rattle.mdb_cashless.specs.ByProfileFacts.{by_base, by_extended}
+use Rattle.mdb_cashless.proofs.Words.{◌↔◌, ap, subst, sym, Base, Extended, base_state, by_profile}
+use Rattle.mdb_cashless.proofs.Words.{extended_state, machine_in, by_base, by_extended}
 use Rattle.mdb_cashless.specs.ExtendedAmounts as extended_amounts
 use Rattle.mdb_cashless.specs.ExtendedFacts as extended_facts
 use Rattle.mdb_cashless.specs.ExtendedReader as extended

@@ -1,27 +1,21 @@
-use Rattle.std.proofs.Common.{refl, ◌≡◌, true, false}
+-- A mark row is refused for its number, or for its third field.
+use Rattle.std.proofs.Common.{refl, ℕ, List, [], ◌∷◌}
+use Rattle.mdb_explained_runs.specs.declared.mark.Mark.{Mark}
+use Rattle.mdb_explain.specs.Replay.{IsForMark, mark_letter}
 use Rattle.mdb_explain.proofs.entry.mark_row.Goals as goal
 
+abbrev own : (number value : List ℕ) (mark : Mark)
+    → IsForMark (number ∷ (mark_letter mark ∷ []) ∷ value ∷ [])
+own number value mark = record { number = number; mark = mark; value = value; are = refl }
+
 pub returns-in_default : goal.returns-in_default
-returns-in_default c = (
-  record {
-    number = c.args.number.now;
-    mark = c.args.mark;
-    value = c.args.value.now;
-    are = refl;
-  },
-  c.in_default.ensures.none,
-)
+returns-in_default c =
+    (own c.args.number.now c.args.value.now c.args.mark, c.in_default.ensures.none)
 
 pub returns-else-is_dash : goal.returns-else-is_dash
 returns-else-is_dash c = (
-  record {
-    number = c.args.number.now;
-    mark = c.args.mark;
-    value = c.args.value.now;
-    are = refl;
-  },
+  own c.args.number.now c.args.value.now c.args.mark,
   c.in-Some.row,
   c.in-Some.ensures.some,
-  λ same. let clash : false ≡ true =
-      c.if-is_dash.ensures.1 same in absurd (cc),
+  λ same. absurd (cc (c.if-is_dash.ensures.1 same)),
 )

@@ -1,3 +1,4 @@
+-- The lines of the marks so far are on their way, or the writer fails at one.
 use Rattle.std.proofs.Common.{refl}
 use Rattle.mdb_explain.specs.inner.Explaining.{mark_line}
 use Rattle.mdb_writing.specs.Output.{output}
@@ -10,23 +11,14 @@ loop-mark-init g c =
 
 pub returns-in_err-add_mark-clause-broken : goal.returns-in_err-add_mark-clause-broken
 returns-in_err-add_mark-clause-broken g c =
-    let held = g.W.Write.contents in
-    outputs.at_error c.from_residual.result _
-    (outputs.break_more mark_line (output (held c.args.writer.now) c.args.page.now)
-    (output (held c.loop-mark.writer) c.loop-mark.page)
-    (output (held c.add_mark.new.writer) c.add_mark.new.page) c.args.marks.now
-    c.loop-mark.mark-index _ _ c.loop-mark-test.true c.loop-mark.invariant
-    refl c.in_err-add_mark.ensures.broken)
+    outputs.at_error c.from_residual.result _ (outputs.break_more mark_line _ _
+    (output (g.W.Write.contents c.add_mark.new.writer) c.add_mark.new.page) c.args.marks.now _ _ _
+    c.loop-mark-test.true c.loop-mark.invariant refl c.in_err-add_mark.ensures.broken)
 
 pub loop-mark-preserved : goal.loop-mark-preserved
-loop-mark-preserved g c =
-    let held = g.W.Write.contents in
-    outputs.put_more mark_line (output (held c.args.writer.now) c.args.page.now)
-    (output (held c.loop-mark.writer) c.loop-mark.page)
-    (output (held c.add_mark.new.writer) c.add_mark.new.page) c.args.marks.now
-    c.loop-mark.mark-index _ _ c.loop-mark-test.true c.loop-mark.invariant
-    refl c.in_ok-add_mark.ensures.added
+loop-mark-preserved g c = outputs.put_more mark_line _ _ _ c.args.marks.now _ _ _
+    c.loop-mark-test.true c.loop-mark.invariant refl c.in_ok-add_mark.ensures.added
 
 pub returns-clause-added : goal.returns-clause-added
-returns-clause-added g c = outputs.put_all mark_line _ _ c.args.marks.now
-    c.loop-mark.mark-index c.loop-mark-test.false c.loop-mark.invariant
+returns-clause-added g c = outputs.put_all mark_line _ _ c.args.marks.now _ c.loop-mark-test.false
+    c.loop-mark.invariant

@@ -1,3 +1,4 @@
+-- The lines of the rows so far are on their way, or the writer fails at one.
 use Rattle.std.proofs.Common.{ap}
 use Rattle.mdb_explain.specs.inner.Explaining.{row_line}
 use Rattle.mdb_writing.specs.Output.{output}
@@ -10,23 +11,16 @@ loop-row-init g c =
 
 pub returns-in_err-add_row-clause-broken : goal.returns-in_err-add_row-clause-broken
 returns-in_err-add_row-clause-broken g c =
-    let held = g.W.Write.contents in
-    outputs.at_error c.from_residual.result _
-    (outputs.break_more row_line (output (held c.args.writer.now) c.args.page.now)
-    (output (held c.loop-row.writer) c.loop-row.page)
-    (output (held c.add_row.new.writer) c.add_row.new.page) c.args.rows.now
-    c.loop-row.row-index _ _ c.loop-row-test.true c.loop-row.invariant
-    (ap row_line c.row-item.is) c.in_err-add_row.ensures.broken)
+    outputs.at_error c.from_residual.result _ (outputs.break_more row_line _ _
+    (output (g.W.Write.contents c.add_row.new.writer) c.add_row.new.page) c.args.rows.now _ _ _
+    c.loop-row-test.true c.loop-row.invariant (ap row_line c.row-item.is)
+    c.in_err-add_row.ensures.broken)
 
 pub loop-row-preserved : goal.loop-row-preserved
-loop-row-preserved g c =
-    let held = g.W.Write.contents in
-    outputs.put_more row_line (output (held c.args.writer.now) c.args.page.now)
-    (output (held c.loop-row.writer) c.loop-row.page)
-    (output (held c.add_row.new.writer) c.add_row.new.page) c.args.rows.now
-    c.loop-row.row-index _ _ c.loop-row-test.true c.loop-row.invariant
-    (ap row_line c.row-item.is) c.in_ok-add_row.ensures.added
+loop-row-preserved g c = outputs.put_more row_line _ _ _ c.args.rows.now _ _ _
+    c.loop-row-test.true c.loop-row.invariant (ap row_line c.row-item.is)
+    c.in_ok-add_row.ensures.added
 
 pub returns-clause-added : goal.returns-clause-added
-returns-clause-added g c = outputs.put_all row_line _ _ c.args.rows.now
-    c.loop-row.row-index c.loop-row-test.false c.loop-row.invariant
+returns-clause-added g c = outputs.put_all row_line _ _ c.args.rows.now _ c.loop-row-test.false
+    c.loop-row.invariant

@@ -1,3 +1,4 @@
+-- The text of an explanation is read as it was written, and is short.
 use Rattle.mdb_explain.proofs.ExplanationLengths.{explanation_short}
 use Rattle.mdb_explain.proofs.Explanations.{read_as_written}
 use Rattle.mdb_explain.proofs.laws.explanations_read_as_their_marks_and_rows.Goals as goal

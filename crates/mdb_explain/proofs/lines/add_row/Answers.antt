@@ -1,3 +1,4 @@
+-- Room is made for the line, or the writer fails.
 use Rattle.std.proofs.Common.{[]}
 use Rattle.mdb_writing.specs.Output.{output}
 use Rattle.mdb_writing.proofs.Outputs as outputs
@@ -7,15 +8,10 @@ use Rattle.mdb_explain.proofs.lines.add_row.Goals as goal
 
 pub returns-in_err-make_room-clause-broken : goal.returns-in_err-make_room-clause-broken
 returns-in_err-make_room-clause-broken g c =
-    let held = g.W.Write.contents in
+    let later = output (g.W.Write.contents c.make_room.new.writer) c.make_room.new.self in
     outputs.at_error c.from_residual.result _
-    (outputs.break_longer (output (held c.args.writer.now) c.args.page.now)
-    (output (held c.make_room.new.writer) c.make_room.new.self) [] (row_line c.args.row.now)
+    (outputs.break_longer _ later [] (row_line c.args.row.now)
     c.in_err-make_room.ensures.broken)
 
 pub returns-clause-added : goal.returns-clause-added
-returns-clause-added g c =
-    let held = g.W.Write.contents in
-    put_room (output (held c.args.writer.now) c.args.page.now)
-    (output (held c.make_room.new.writer) c.make_room.new.self) c.push_row.new.page
-    (row_line c.args.row.now) c.in_ok-make_room.ensures.put c.push_row.ensures
+returns-clause-added g c = put_room _ _ _ _ c.in_ok-make_room.ensures.put c.push_row.ensures

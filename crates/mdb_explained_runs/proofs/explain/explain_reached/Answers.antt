@@ -1,6 +1,5 @@
 -- The marks of the best ways of all devices explain the goal.
-use Rattle.std.proofs.Common.{◌∙◌}
-use Rattle.mdb_follow.proofs.Following.{if-ok}
+use Rattle.mdb_explained_runs.proofs.Words.{◌∙◌, if-ok}
 use Rattle.mdb_explained_runs.proofs.Explained.{explained_all, has-way, list-of-seeker}
 use Rattle.mdb_explained_runs.proofs.Explained.{paths-of-seeker}
 use Rattle.mdb_explained_runs.proofs.explain.explain_reached.Goals as goal

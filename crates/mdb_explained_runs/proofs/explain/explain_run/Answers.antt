@@ -1,5 +1,4 @@
-use Rattle.std.proofs.Common.{subst, ◌∙◌, []}
-use Rattle.mdb_follow.specs.Runs.{IsReached}
+use Rattle.mdb_explained_runs.proofs.Words.{subst, ◌∙◌, [], IsReached}
 use Rattle.mdb_explained_runs.proofs.explain.explain_run.Goals as goal
 
 pub explain_reached-requires-clause-reached : goal.explain_reached-requires-clause-reached

@@ -1,7 +1,6 @@
 -- The first mark of both lists is that of the least row.
-use Rattle.std.proofs.Common.{arith, ◌∷◌}
+use Rattle.mdb_explained_runs.proofs.Words.{arith, ◌∷◌, of_one, of_other}
 use Rattle.mdb_explained_runs.proofs.Merging.{before_none, none_left}
-use Rattle.mdb_explained_runs.specs.inner.Merges.{of_one, of_other}
 use Rattle.mdb_explained_runs.proofs.explain.first_of.Goals as goal
 
 pub returns-in_err-next-clause-none : goal.returns-in_err-next-clause-none

@@ -1,7 +1,5 @@
 -- The marks of each device become one list, one after the other.
-use Rattle.std.proofs.Common.{get_or}
-use Rattle.mdb_follow.specs.declared.report.TheConstants.Report.{DEVICES}
-use Rattle.mdb_follow.proofs.ByDevice.{placed}
+use Rattle.mdb_explained_runs.proofs.Words.{get_or, DEVICES, placed}
 use Rattle.mdb_explained_runs.proofs.Explained.{best_enough, best_more, best_none}
 use Rattle.mdb_explained_runs.proofs.explain.marks_of_all.Goals as goal
 

@@ -1,9 +1,5 @@
-use Rattle.std.proofs.Common.{List}
-use Rattle.mdb_msgs.specs.declared.command.Device.{Device}
-use Rattle.mdb_bus.specs.declared.scope.Profile.{Profile}
-use Rattle.mdb_bus.specs.ActLists.{Piece}
-use Rattle.mdb_follow.specs.declared.goal.Goal.{Goal}
-use Rattle.mdb_explained_runs.specs.inner.AllPaths.{AreAllPaths, AreBestBelow, HasWay}
+use Rattle.mdb_explained_runs.proofs.Words.{List, Device, Profile, Piece, Goal, AreAllPaths}
+use Rattle.mdb_explained_runs.specs.inner.AllPaths.{AreBestBelow, HasWay}
 use Rattle.mdb_explained_runs.proofs.explain.marks_of_all.Given as goal
 
 -- the marks so far are those of the devices before this one

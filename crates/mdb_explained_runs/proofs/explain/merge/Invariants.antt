@@ -1,6 +1,4 @@
-use Rattle.std.proofs.Common.{◌+◌, ◌++◌, ℕ, List, length}
-use Rattle.mdb_explained_runs.specs.declared.mark.Mark.{Mark}
-use Rattle.mdb_explained_runs.specs.inner.Merges.{Merges}
+use Rattle.mdb_explained_runs.proofs.Words.{◌+◌, ◌++◌, ℕ, List, length, Mark, Merges}
 use Rattle.mdb_explained_runs.proofs.explain.merge.Given as goal
 
 -- what the marks that are left become comes behind those so far

@@ -1,6 +1,4 @@
-use Rattle.std.proofs.Common.{◌≡◌}
-use Rattle.std.specs.Prelude.{map}
-use Rattle.mdb_machine.specs.Kept.{has_reset, keeps_early}
+use Rattle.mdb_explained_runs.proofs.Words.{◌≡◌, map, has_reset, keeps_early}
 use Rattle.mdb_cashless.specs.ReaderMessages as reader
 use Rattle.mdb_explained_runs.proofs.mark.reader_may_tell_of_restart.Given as goal
 

@@ -1,6 +1,5 @@
 -- A track is led by the only step of its machine.
-use Rattle.std.proofs.Common.{refl}
-use Rattle.mdb_bus.specs.declared.scope.Beginning.TheVariants.{PowerOn}
+use Rattle.mdb_explained_runs.proofs.Words.{refl, PowerOn}
 use Rattle.mdb_explained_runs.proofs.Tracked.{leads}
 use Rattle.mdb_explained_runs.proofs.track.lead.Goals as goal
 

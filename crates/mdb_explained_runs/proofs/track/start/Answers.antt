@@ -1,6 +1,5 @@
-use Rattle.std.proofs.Common.{arith, refl, sym, ◌≡◌}
+use Rattle.mdb_explained_runs.proofs.Words.{arith, refl, sym, ◌≡◌, no_sums}
 use Rattle.mdb_follow.specs.declared.cell.TheConstants.Cell.{NOTHING}
-use Rattle.mdb_follow.specs.Sums.{no_sums}
 use Rattle.mdb_follow.proofs.Starts.{nothing-is, nothing-within}
 use Rattle.mdb_explained_runs.proofs.track.start.Goals as goal
 

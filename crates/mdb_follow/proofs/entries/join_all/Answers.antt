@@ -1,9 +1,5 @@
 -- The join of all cells is within the limit of each.
-use Rattle.std.proofs.lemmas.List.{take_all}
-use Rattle.std.proofs.lemmas.List.Elements.{All-head, All-tail}
-use Rattle.std.specs.Prelude.{ℕ}
-use Rattle.mdb_follow.specs.declared.cell.Cell.{Cell}
-use Rattle.mdb_follow.specs.Limits.{IsCellWithin}
+use Rattle.mdb_follow.proofs.Words.{take_all, All-head, All-tail, ℕ, Cell, IsCellWithin}
 use Rattle.mdb_follow.proofs.Limits.{joined-within}
 use Rattle.mdb_follow.proofs.entries.join_all.Goals as goal
 

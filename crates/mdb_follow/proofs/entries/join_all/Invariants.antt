@@ -1,5 +1,4 @@
-use Rattle.std.proofs.Common.{◌≡◌, take}
-use Rattle.mdb_follow.specs.inner.Entries.{joined_cells}
+use Rattle.mdb_follow.proofs.Words.{◌≡◌, take, joined_cells}
 use Rattle.mdb_follow.proofs.entries.join_all.Given as goal
 
 abbrev pub invariant-loop-cell : goal.invariant-loop-cell

@@ -1,7 +1,4 @@
-use Rattle.std.proofs.Common.{◌≡◌, List, All}
-use Rattle.mdb_bus.specs.declared.act.Act.{Act}
-use Rattle.mdb_machine.specs.Pair.{IsBreak, own_acts}
-use Rattle.mdb_follow.specs.Report.{unvalued_of}
+use Rattle.mdb_follow.proofs.Words.{◌≡◌, List, All, Act, IsBreak, own_acts, unvalued_of}
 use Rattle.mdb_follow.proofs.OwnKnown.{any_device, no_decimals}
 use Rattle.mdb_follow.proofs.laws.breaks_tell_nothing_of_a_device.Goals as goal
 

@@ -1,8 +1,4 @@
-use Rattle.std.proofs.Common.{◌≡◌, List}
-use Rattle.mdb_bus.specs.declared.act.Act.{Act}
-use Rattle.mdb_machine.specs.Pair.{own_acts}
-use Rattle.mdb_follow.specs.ReportedDevices.{reported_of}
-use Rattle.mdb_follow.specs.Report.{unvalued_of}
+use Rattle.mdb_follow.proofs.Words.{◌≡◌, List, Act, own_acts, reported_of, unvalued_of}
 use Rattle.mdb_follow.proofs.OwnKnown.{any_device}
 use Rattle.mdb_follow.proofs.laws.what_is_known_of_a_device_is_of_its_own_acts.Goals as goal
 

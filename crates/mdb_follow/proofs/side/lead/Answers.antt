@@ -1,5 +1,4 @@
-use Rattle.std.proofs.Common.{arith, refl}
-use Rattle.mdb_follow.specs.Sums.{added}
+use Rattle.mdb_follow.proofs.Words.{arith, refl, added}
 use Rattle.mdb_follow.proofs.side.lead.Goals as goal
 
 pub returns-then-not-advance-clause-none : goal.returns-then-not-advance-clause-none

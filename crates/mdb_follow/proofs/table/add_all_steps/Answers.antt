@@ -1,8 +1,5 @@
 -- The moves by an act: its plain steps, and those by the other choice that it leaves.
-use Rattle.std.proofs.Common.{rules, ◌<◌, ◌++◌, ℕ}
-use Rattle.std.proofs.lemmas.List.Elements.{All-append}
-use Rattle.mdb_machine.specs.declared.gains.Gains.{Gains}
-use Rattle.mdb_machine.specs.SmallGains.{IsSmall}
+use Rattle.mdb_follow.proofs.Words.{rules, ◌<◌, ◌++◌, ℕ, All-append, Gains, IsSmall}
 use Rattle.mdb_machine.proofs.Ways.{by_second, plain_only}
 use Rattle.mdb_follow.proofs.Led.{moves-kept, with_moves-append}
 use Rattle.mdb_follow.proofs.TwoSteps.{all-moves, plain-moves}

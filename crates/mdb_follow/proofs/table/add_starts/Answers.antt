@@ -1,6 +1,5 @@
 -- The entries of the states in which a machine may start, code by code.
-use Rattle.std.proofs.Common.{rules, ◌≡◌, ◌∙◌, arith, refl, sym}
-use Rattle.std.proofs.lemmas.Bool.{false≢true}
+use Rattle.mdb_follow.proofs.Words.{rules, ◌≡◌, ◌∙◌, arith, refl, sym, false≢true}
 use Rattle.mdb_follow.specs.declared.cell.TheConstants.Cell.{NOTHING}
 use Rattle.mdb_follow.proofs.Starts.{more-starts, same-starts, table-starts}
 use Rattle.mdb_follow.proofs.table.add_starts.Goals as goal

@@ -1,6 +1,4 @@
-use Rattle.std.proofs.Common.{take}
-use Rattle.mdb_bus.specs.declared.scope.Beginning.{Beginning}
-use Rattle.mdb_follow.specs.inner.Entries.{AllRest}
+use Rattle.mdb_follow.proofs.Words.{take, Beginning, AllRest}
 use Rattle.mdb_follow.proofs.table.all_rest.Given as goal
 
 abbrev pub invariant-loop-code : goal.invariant-loop-code

@@ -1,9 +1,6 @@
 -- The entries after an act that the facts settle: the loop reads those before it one by one.
-use Rattle.std.proofs.Common.{rules, ◌<◌, refl}
-use Rattle.std.proofs.lemmas.List.{take_all}
-use Rattle.std.proofs.lemmas.List.Elements.{Contains-get_or}
-use Rattle.mdb_machine.specs.SmallGains.{IsSmall}
-use Rattle.mdb_machine.proofs.Ways.{small_moves}
+use Rattle.mdb_follow.proofs.Words.{rules, ◌<◌, refl, take_all, Contains-get_or, IsSmall}
+use Rattle.mdb_follow.proofs.Words.{small_moves}
 use Rattle.mdb_follow.proofs.Led.{led-read, moves-kept, within-with_moves}
 use Rattle.mdb_follow.proofs.TwoSteps.{either-moves}
 use Rattle.mdb_follow.proofs.Ways.{table-led}

@@ -1,6 +1,5 @@
 -- The entries after an act, settled or not: the loop reads those before it one by one.
-use Rattle.std.proofs.lemmas.List.{take_all}
-use Rattle.std.proofs.lemmas.List.Elements.{Contains-get_or}
+use Rattle.mdb_follow.proofs.Words.{take_all, Contains-get_or}
 use Rattle.mdb_follow.proofs.Led.{led-read, within-with_moves}
 use Rattle.mdb_follow.proofs.Ways.{table-led}
 use Rattle.mdb_follow.proofs.table.fill_all.Goals as goal

@@ -1,16 +1,9 @@
 -- A table of one entry after an act: what the two steps from it lead to.
-use Rattle.std.proofs.Common.{true, false, ◌≡◌, ◌+◌, ◌∷◌, ◌^◌, ◌∙◌, [], ap, arith, get_or, ℕ, List}
-use Rattle.std.proofs.Common.{refl}
+use Rattle.mdb_follow.proofs.Words.{true, false, ◌≡◌, ◌+◌, ◌∷◌, ◌^◌, ◌∙◌, [], ap, arith, get_or, ℕ}
+use Rattle.mdb_follow.proofs.Words.{List, refl, All-head, Sums, Act, Beginning, Cell, Arrives}
+use Rattle.mdb_follow.proofs.Words.{AreBelow, LeadTo, IsCellWithin, IsTableWithin, ArrivesAt}
+use Rattle.mdb_follow.proofs.Words.{Bounds, IsTable}
 use Rattle.std.proofs.lemmas.Bool.{OnFalse_at, OnFalse_from, OnTrue_at, OnTrue_from}
-use Rattle.std.proofs.lemmas.List.Elements.{All-head}
-use Rattle.mdb_follow.specs.Sums.{Sums}
-use Rattle.mdb_bus.specs.declared.act.Act.{Act}
-use Rattle.mdb_bus.specs.declared.scope.Beginning.{Beginning}
-use Rattle.mdb_follow.specs.declared.cell.Cell.{Cell}
-use Rattle.mdb_follow.specs.Arrivals.{Arrives}
-use Rattle.mdb_follow.specs.inner.Entries.{AreBelow, LeadTo}
-use Rattle.mdb_follow.specs.Limits.{IsCellWithin, IsTableWithin}
-use Rattle.mdb_follow.specs.Tables.{ArrivesAt, Bounds, IsTable}
 use Rattle.mdb_follow.proofs.Alone.{alone-below, alone-either, alone-led, alone-within, lead-none}
 use Rattle.mdb_follow.proofs.Alone.{only-is, some-entry}
 use Rattle.mdb_follow.proofs.Limits.{table-within-weaker}

@@ -4,11 +4,8 @@ use Rattle.mdb_late_start.proofs.laws.ends_of_yeses_are_yeses.Goals as goal
 
 pub returns : goal.returns
 returns c = λ scope setups limit front end report answer may.
-    end_says_yes (record {
-      one_event = c.fields_are_of_one_event.ensures;
-      none_refused = c.rows_are_never_refused.ensures;
-      fronts = c.fronts_of_reached_rows_are_reached.ensures;
-    }) scope (joined_with setups scope) limit front end
+    end_says_yes c.fronts_of_reached_rows_are_reached.ensures scope
+    (joined_with setups scope) limit front end
     (λ rows ends is are reached.
     c.ends_of_reached_rows_are_reached.ensures scope setups rows ends (may rows ends is are)
     reached) report answer

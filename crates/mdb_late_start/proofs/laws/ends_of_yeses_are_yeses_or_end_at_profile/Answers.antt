@@ -2,11 +2,7 @@ use Rattle.mdb_late_start.proofs.EndVerdicts.{end_says_yes_or_profile}
 use Rattle.mdb_late_start.proofs.laws.ends_of_yeses_are_yeses_or_end_at_profile.Goals as goal
 
 pub returns : goal.returns
-returns c = end_says_yes_or_profile (record {
-  one_event = c.fields_are_of_one_event.ensures;
-  none_refused = c.rows_are_never_refused.ensures;
-  fronts = c.fronts_of_reached_rows_are_reached.ensures;
-}) (record {
+returns c = end_says_yes_or_profile c.fronts_of_reached_rows_are_reached.ensures (record {
   reaches = c.ends_of_reached_rows_are_reached.ensures;
   left_out = c.ends_break_no_rule_of_the_link_but_profile.ensures;
 })

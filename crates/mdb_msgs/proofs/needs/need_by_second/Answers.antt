@@ -1,6 +1,5 @@
-use Rattle.std.proofs.Common.{◌≡◌, slice_index, slice_get, sym, ap, ◌∙◌, arith}
-use Rattle.std.proofs.lemmas.Grind.{common_steps}
-use Rattle.mdb_msgs.specs.Needs.{need}
+use Rattle.mdb_msgs.proofs.Words.{◌≡◌, common_steps, need}
+use Rattle.std.proofs.Common.{slice_index, slice_get, sym, ap, ◌∙◌, arith}
 use Rattle.mdb_msgs.proofs.Addresses.{at_first, at_second, need_at}
 use Rattle.mdb_msgs.proofs.needs.need_by_second.Goals as goal
 

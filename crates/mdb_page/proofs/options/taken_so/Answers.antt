@@ -1,11 +1,6 @@
-use Rattle.std.proofs.Common.{subst, sym}
-use Rattle.mdb_msgs.specs.declared.device_set.DeviceSet.{DeviceSet}
-use Rattle.mdb_page.specs.Options.{AreSetups}
 use Rattle.mdb_page.proofs.options.taken_so.Goals as goal
 
 pub returns-in_default-clause-refused : goal.returns-in_default-clause-refused
 returns-in_default-clause-refused c = λ scope is.
     let known = is.joined c.if-options-eq0.false in
-    c.in_default.ensures.refused known.0 (subst
-    (λ (left_out : DeviceSet). AreSetups left_out c.args.options.now known.0)
-    (sym c.left_out-without.ensures) known.2)
+    c.in_default.ensures.refused known.0 (rw c.left_out-without.ensures known.2)

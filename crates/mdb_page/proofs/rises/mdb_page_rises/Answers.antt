@@ -1,17 +1,15 @@
-use Rattle.std.proofs.Common.{[], arith, subst, sym}
-use Rattle.mdb_follow.specs.Follower.{rows_of, scope_of}
-use Rattle.mdb_follow.specs.Report.{IsReport}
-use Rattle.mdb_page.specs.inner.Rising.{IsNear}
+use Rattle.std.proofs.Common.{[], arith}
+use Rattle.mdb_follow.specs.Follower.{rows_of}
 use Rattle.mdb_page.proofs.Rising.{near}
 use Rattle.mdb_page.proofs.rises.mdb_page_rises.Goals as goal
 
 pub follow-answer-requires-clause-near : goal.follow-answer-requires-clause-near
 follow-answer-requires-clause-near c =
-    subst IsNear (sym c.after-listing.ensures.last)
+    rw c.after-listing.ensures.last
     (near (rows_of c.scoped-follower.result) c.report_before.result
     (omega (arith, c.scoped-follower.ensures.empty)) c.report_before.ensures.within)
 
 pub follow-answer-requires-clause-last : goal.follow-answer-requires-clause-last
 follow-answer-requires-clause-last c =
-    subst (IsReport (scope_of c.scoped-follower.result) []) (sym c.after-listing.ensures.last)
+    rw c.after-listing.ensures.last
     (c.report_before.ensures.going [] c.scoped-follower.ensures.stands)

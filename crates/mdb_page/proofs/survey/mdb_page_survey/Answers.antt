@@ -1,3 +1,4 @@
+-- A survey has an answer, by how its reading ended.
 use Rattle.std.proofs.Common.{◌∙◌, arith, refl}
 use Rattle.mdb_page.proofs.Surveys.{had_room, surveyed}
 use Rattle.mdb_page.proofs.survey.mdb_page_survey.Goals as goal
@@ -13,9 +14,8 @@ returns-clause-surveyed c valid fits =
     (c.after-listing.ensures.listed c.without_mark-rest.result.now c.args.faults.now _ refl) in (
       scope,
       c.in-Some.ensures.taken,
-      surveyed scope c.args.text.now c.without_mark-rest.result.now now.rest.now c.args.skip
-          now.surveyor now.listing now.faults now.lines stop _ _ _ c.end_with.new.told
-          c.end_with.new.answer c.end_with.result c.without_mark-rest.ensures.rest has
+      surveyed stop _ _ _ c.end_with.new.told c.end_with.new.answer c.end_with.result
+          c.without_mark-rest.ensures.rest has
           c.survey_lines-stop.ensures.stops
           (c.ending-last.ensures scope has.rows has.ended has.stands) c.rows-told.ensures ends
           (omega (

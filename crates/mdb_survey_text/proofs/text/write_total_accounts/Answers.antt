@@ -1,3 +1,4 @@
+-- The totals of the accounts have their lines, one after the other.
 use Rattle.std.proofs.Common.{[], ◌++◌, ap, codes}
 use Rattle.std.proofs.KnownBytes.{Appends-trans}
 use Rattle.mdb_follow.specs.declared.account_name.TheConstants.AccountName.{ALL}
@@ -16,4 +17,4 @@ loop-name-preserved g c =
 pub returns : goal.returns
 returns g c =
     all_parts (λ name. codes "total " ++ account_line name (total_of name c.args.totals.now)) _ _ []
-    ALL c.loop-name.name-index c.loop-name-test.false c.loop-name.invariant
+    ALL _ c.loop-name-test.false c.loop-name.invariant

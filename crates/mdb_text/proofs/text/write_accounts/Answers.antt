@@ -1,3 +1,4 @@
+-- The accounts have their lines, one after the other.
 use Rattle.std.proofs.Common.{[], ap}
 use Rattle.mdb_follow.specs.declared.account_name.TheConstants.AccountName.{ALL}
 use Rattle.mdb_follow.specs.AccountNames.{account_of}
@@ -14,4 +15,4 @@ loop-name-preserved g c =
 pub returns : goal.returns
 returns g c =
     all_parts (λ name. account_line name (account_of name c.args.report.now)) _ _ [] ALL
-    c.loop-name.name-index c.loop-name-test.false c.loop-name.invariant
+    _ c.loop-name-test.false c.loop-name.invariant

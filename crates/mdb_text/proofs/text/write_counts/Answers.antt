@@ -1,17 +1,14 @@
-use Rattle.std.proofs.Common.{ap, subst, sym, get_or}
+-- The line of counts has a part for each device.
+use Rattle.std.proofs.Common.{ap, get_or}
 use Rattle.std.proofs.lemmas.List.{append-nil}
-use Rattle.std.specs.Io.KnownBytes.{Appends}
 use Rattle.mdb_follow.specs.declared.report.TheConstants.Report.{DEVICES}
 use Rattle.mdb_follow.specs.ReportedDevices.{device_place}
 use Rattle.mdb_text.specs.Text.{count_text}
-use Rattle.std.proofs.KnownBytes.{Appends-trans}
-use Rattle.mdb_text.proofs.Texts.{all_parts, on_ok, one_part_more}
+use Rattle.mdb_text.proofs.Texts.{all_parts, one_part_more, then_written}
 use Rattle.mdb_text.proofs.text.write_counts.Goals as goal
 
 pub loop-device-init : goal.loop-device-init
-loop-device-init g c =
-    subst (Appends (g.W.Write.contents c.args.writer.now) (g.W.Write.contents c.write.new.self))
-    (sym (append-nil c.args.word.now)) c.in_ok-write.ensures.bytes
+loop-device-init g c = rw append-nil c.in_ok-write.ensures.bytes
 
 pub loop-device-preserved : goal.loop-device-preserved
 loop-device-preserved g c =
@@ -23,9 +20,7 @@ loop-device-preserved g c =
 
 pub returns : goal.returns
 returns g c =
-    on_ok c.write-2.result _ _
-    (λ last. Appends-trans _ _ _ _ _
+    then_written c.write-2.result _ _ _ _ _
     (all_parts (λ device. count_text device (get_or c.args.counts.now (device_place device) 0))
-    _ _ c.args.word.now DEVICES c.loop-device.device-index c.loop-device-test.false
-    c.loop-device.invariant) last)
+    _ _ c.args.word.now DEVICES _ c.loop-device-test.false c.loop-device.invariant)
     c.write-2.ensures.bytes

@@ -1,9 +1,9 @@
+-- The line of decimal places has a part for each device.
 use Rattle.std.proofs.Common.{codes, ap}
 use Rattle.mdb_follow.specs.declared.report.TheConstants.Report.{DEVICES}
 use Rattle.mdb_follow.specs.Report.{device_decimals}
 use Rattle.mdb_text.specs.Text.{places_text}
-use Rattle.std.proofs.KnownBytes.{Appends-trans}
-use Rattle.mdb_text.proofs.Texts.{all_parts, on_ok, one_part_more}
+use Rattle.mdb_text.proofs.Texts.{all_parts, one_part_more, then_written}
 use Rattle.mdb_text.proofs.text.write_decimals.Goals as goal
 
 pub loop-device-init : goal.loop-device-init
@@ -17,9 +17,7 @@ loop-device-preserved g c =
 
 pub returns : goal.returns
 returns g c =
-    on_ok c.write-2.result _ _
-    (λ last. Appends-trans _ _ _ _ _
+    then_written c.write-2.result _ _ _ _ _
     (all_parts (λ device. places_text device (device_decimals device c.args.report.now)) _ _
-    (codes "decimals") DEVICES c.loop-device.device-index c.loop-device-test.false
-    c.loop-device.invariant) last)
+    (codes "decimals") DEVICES _ c.loop-device-test.false c.loop-device.invariant)
     c.write-2.ensures.bytes

@@ -1,3 +1,4 @@
+-- The line on a text that is too long has the limit in digits.
 use Rattle.std.proofs.Common.{ap, sym}
 use Rattle.std.specs.Fmt.{digits}
 use Rattle.mdbcheck_run.specs.Complaint.{cause_line}

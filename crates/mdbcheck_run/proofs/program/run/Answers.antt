@@ -1,3 +1,4 @@
+-- What the status of `check` says is said of its task.
 use Rattle.mdbcheck_run.proofs.Status.{says_checked}
 use Rattle.mdbcheck_run.proofs.program.run.Goals as goal
 

@@ -1,3 +1,4 @@
+-- What the status of `check` says, and what standard error is told.
 use Rattle.std.proofs.Common.{subst, sym}
 use Rattle.std.proofs.lemmas.Option.{IfSome_then}
 use Rattle.mdb_follow.specs.declared.follower.TheConstants.{ROWS_MAX}

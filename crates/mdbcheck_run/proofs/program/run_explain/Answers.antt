@@ -1,3 +1,4 @@
+-- What the status of `explain` says.
 use Rattle.std.proofs.lemmas.Option.{IfSome_then}
 use Rattle.mdb_bus.specs.Scopes.{from_power_on}
 use Rattle.mdbcheck_run.proofs.Status.{not_yes, says_explained, says_of}

@@ -1,3 +1,4 @@
+-- What the status of `replay` says.
 use Rattle.std.proofs.lemmas.Option.{IfSome_then}
 use Rattle.mdb_bus.specs.Scopes.{from_power_on}
 use Rattle.mdb_explain.specs.Replay.{IsReplayAnswer}

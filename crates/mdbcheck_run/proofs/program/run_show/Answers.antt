@@ -1,3 +1,4 @@
+-- What the status of `show` says.
 use Rattle.std.proofs.lemmas.Option.{IfSome_then}
 use Rattle.mdbcheck_run.proofs.Status.{not_whole, says_of, says_shown}
 use Rattle.mdbcheck_run.proofs.program.run_show.Goals as goal

@@ -1,3 +1,4 @@
+-- What the status of `survey` says.
 use Rattle.std.proofs.lemmas.Option.{IfSome_then}
 use Rattle.mdbcheck_run.proofs.Status.{not_surveyed, says_of, says_surveyed}
 use Rattle.mdbcheck_run.proofs.program.run_survey.Goals as goal

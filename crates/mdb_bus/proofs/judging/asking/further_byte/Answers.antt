@@ -1,7 +1,6 @@
 -- A further byte of a block leaves a command open, or is its last.
 use Rattle.std.proofs.Common.{rules, arith, ◌%◌, ap, ◌≡◌, ◌≤◌, ◌+◌, length, sym, ◌∙◌, ℕ}
-use Rattle.mdb_msgs.specs.declared.need.Need.TheVariants.{Exactly}
-use Rattle.mdb_msgs.specs.Needs.{needed}
+use Rattle.mdb_bus.proofs.Words.{Exactly, needed}
 use Rattle.mdb_bus.proofs.Verdicts.{are_bytes, further_end, further_front}
 use Rattle.mdb_bus.proofs.judging.asking.further_byte.Goals.{in_default-via-in-Exactly+else-so_far-length, in_default-via-in_default}
 use Rattle.mdb_bus.proofs.judging.asking.further_byte.Goals as goal

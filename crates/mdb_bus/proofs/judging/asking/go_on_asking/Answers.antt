@@ -1,7 +1,6 @@
 -- A word inside a block of the controller is judged as a second byte or a further one.
 use Rattle.std.proofs.Common.{rules, refl}
-use Rattle.mdb_bus.specs.declared.scope.Profile.TheVariants.{Extended}
-use Rattle.mdb_bus.specs.Scopes.{profile_of}
+use Rattle.mdb_bus.proofs.Words.{Extended, profile_of}
 use Rattle.mdb_bus.proofs.Verdicts.{asking_belongs, block_covered, block_timely, going_on, some_bytes}
 use Rattle.mdb_bus.proofs.judging.asking.go_on_asking.Goals as goal
 

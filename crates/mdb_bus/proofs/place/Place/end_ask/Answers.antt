@@ -1,14 +1,10 @@
 -- A block has one command, so an ask of a POLL's block is that POLL.
 use Rattle.std.proofs.Common.{◌≡◌, ◌∙◌, ap, ℕ, List, Option, Some}
-use Rattle.mdb_blocks.specs.Block.{block_of}
-use Rattle.mdb_msgs.specs.Commands.{Spells}
-use Rattle.mdb_msgs.specs.declared.command.Command.{Command}
-use Rattle.mdb_bus.specs.declared.act.Act.{Act}
+use Rattle.mdb_bus.proofs.Words.{block_of, Spells, Command, Act, ended_act, position_at}
+use Rattle.mdb_bus.proofs.Words.{HasAdvanced, IsAt}
 use Rattle.mdb_bus.specs.declared.act.Act.TheVariants as acts
 use Rattle.mdb_bus.specs.ActLists.{Position, InAsk, Asked}
-use Rattle.mdb_bus.specs.Bus.{ended_act, position_at}
 use Rattle.mdb_bus.specs.shared.Step as step
-use Rattle.mdb_bus.specs.shared.Steps.{HasAdvanced, IsAt}
 use Rattle.mdb_bus.proofs.place.Place.end_ask.Goals as goal
 
 asked_poll : (at new : Position) (bytes : List ℕ) (poll : Command) (ended : Option Act)

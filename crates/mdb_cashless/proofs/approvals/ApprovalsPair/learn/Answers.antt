@@ -1,6 +1,4 @@
-use Rattle.std.proofs.Common.{◌≡◌, ◌∙◌, ap, subst}
-use Rattle.mdb_cashless.specs.ExtendedFacts.{facts_after}
-use Rattle.mdb_cashless.specs.Units.{unit_of}
+use Rattle.mdb_cashless.proofs.Words.{◌≡◌, ◌∙◌, ap, subst, facts_after, unit_of}
 use Rattle.mdb_cashless.specs.inner.Approvals.{facts_in}
 use Rattle.mdb_cashless.proofs.approvals.ApprovalsPair.learn.Goals as goal
 

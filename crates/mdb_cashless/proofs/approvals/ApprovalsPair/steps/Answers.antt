@@ -1,6 +1,5 @@
 -- The steps by codes are those after the facts after the acts.
-use Rattle.std.proofs.Common.{sym}
-use Rattle.mdb_machine.proofs.StepCodes.{coded_below, steps_coded}
+use Rattle.mdb_cashless.proofs.Words.{sym, coded_below, steps_coded}
 use Rattle.mdb_cashless.specs.shared.ApprovalCodes.{apart, below, code_of}
 use Rattle.mdb_cashless.proofs.approvals.ApprovalsPair.steps.Goals as goal
 

@@ -1,6 +1,4 @@
-use Rattle.std.proofs.Common.{◌≡◌, ◌≤◌, ◌++◌, length}
-use Rattle.arrayvec.specs.ArrayVec.{array_vec_len}
-use Rattle.mdb_cashless.specs.ExtendedFacts.{approvals_in}
+use Rattle.mdb_cashless.proofs.Words.{◌≡◌, ◌≤◌, ◌++◌, length, array_vec_len, approvals_in}
 use Rattle.mdb_cashless.proofs.approvals.facts.approvals.Given as goal
 
 abbrev pub invariant-loop-message : goal.invariant-loop-message

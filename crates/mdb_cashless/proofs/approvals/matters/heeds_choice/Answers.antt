@@ -1,11 +1,9 @@
-use Rattle.std.proofs.Common.{◌≡◌, ◌∙◌, false, rules, sym}
+use Rattle.mdb_cashless.proofs.Words.{◌≡◌, ◌∙◌, false, rules, sym, Plain, messages_of, part_of}
+use Rattle.mdb_cashless.proofs.Words.{no_restart}
 use Rattle.mdb_bus.specs.declared.act.Act.TheVariants as acts
-use Rattle.mdb_machine.specs.declared.choice.Choice.TheVariants.{Plain}
 use Rattle.mdb_cashless.specs.ExtendedReader.{ReplyStep, VmcAckStep}
-use Rattle.mdb_cashless.specs.ReaderMessages.{messages_of, part_of}
 use Rattle.mdb_cashless.specs.shared.ApprovalWays.{own_as}
 use Rattle.mdb_cashless.proofs.ApprovalSteps.{ack_unheeded, reply_unheeded}
-use Rattle.mdb_machine.proofs.KeptLists.{no_restart}
 use Rattle.mdb_cashless.proofs.Steps.{denied}
 use Rattle.mdb_cashless.proofs.approvals.matters.heeds_choice.Goals as goal
 

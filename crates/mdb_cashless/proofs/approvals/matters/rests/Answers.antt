@@ -1,7 +1,6 @@
-use Rattle.std.proofs.Common.{◌≡◌, ◌∙◌, Some, ap, rules, sym}
+use Rattle.mdb_cashless.proofs.Words.{◌≡◌, ◌∙◌, Some, ap, rules, sym, own}
 use Rattle.mdb_msgs.specs.declared.command.ReaderCommand.TheVariants as reader
 use Rattle.mdb_bus.specs.declared.act.Act.TheVariants as acts
-use Rattle.mdb_cashless.specs.Units.{own}
 use Rattle.mdb_cashless.proofs.ApprovalSteps.{poll_stays}
 use Rattle.mdb_cashless.proofs.Steps.{where_not}
 use Rattle.mdb_cashless.proofs.approvals.matters.rests.Goals as goal

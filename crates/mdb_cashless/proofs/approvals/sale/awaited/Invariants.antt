@@ -1,6 +1,4 @@
-use Rattle.std.proofs.Common.{◌≡◌}
-use Rattle.mdb_cashless.specs.declared.approvals.sale.Sale.TheVariants.{Awaited}
-use Rattle.mdb_cashless.specs.ExtendedReader.{approved_to}
+use Rattle.mdb_cashless.proofs.Words.{◌≡◌, Awaited, approved_to}
 use Rattle.mdb_cashless.proofs.approvals.sale.awaited.Given as goal
 
 abbrev pub invariant-loop-message : goal.invariant-loop-message

@@ -1,9 +1,6 @@
-use Rattle.std.proofs.Common.{inl, inr, subst}
+use Rattle.mdb_cashless.proofs.Words.{inl, inr, subst, Contains-push_cases, Gains, IsSmall}
+use Rattle.mdb_cashless.proofs.Words.{ApprovalState}
 use Rattle.std.specs.List.{Contains}
-use Rattle.std.proofs.lemmas.List.Elements.{Contains-push_cases}
-use Rattle.mdb_machine.specs.declared.gains.Gains.{Gains}
-use Rattle.mdb_machine.specs.SmallGains.{IsSmall}
-use Rattle.mdb_cashless.specs.declared.approvals.state.ApprovalState.{ApprovalState}
 use Rattle.mdb_cashless.proofs.approvals.ways.add_step.Goals as goal
 
 pub returns-in-Some-clause-small : goal.returns-in-Some-clause-small

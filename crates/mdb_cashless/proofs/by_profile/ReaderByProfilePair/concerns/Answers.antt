@@ -1,7 +1,5 @@
 -- What concerns neither machine leaves a state of either.
-use Rattle.std.proofs.lemmas.Bool.{OnFalse_at, OnFalse_from}
-use Rattle.mdb_cashless.specs.ByProfile.{base_state, extended_state}
-use Rattle.mdb_cashless.specs.shared.ByProfileWays.{if_some}
+use Rattle.mdb_cashless.proofs.Words.{OnFalse_at, OnFalse_from, base_state, extended_state, if_some}
 use Rattle.mdb_cashless.proofs.ByProfile.{stays_by}
 use Rattle.mdb_cashless.proofs.by_profile.ReaderByProfilePair.concerns.Goals as goal
 

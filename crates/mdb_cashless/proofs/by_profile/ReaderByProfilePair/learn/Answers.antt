@@ -1,5 +1,4 @@
-use Rattle.std.proofs.Common.{ap}
-use Rattle.mdb_cashless.specs.ByProfileFacts.{by_extended}
+use Rattle.mdb_cashless.proofs.Words.{ap, by_extended}
 use Rattle.mdb_cashless.proofs.ByProfile.{is_extended}
 use Rattle.mdb_cashless.proofs.by_profile.ReaderByProfilePair.learn.Goals as goal
 

@@ -1,15 +1,11 @@
 -- The steps by codes are those of the machine of the profile, and of a state of the other one.
-use Rattle.std.proofs.Common.{◌≡◌, ◌+◌, ◌-◌, ◌<◌, ◌≤◌, None, arith, refl}
-use Rattle.mdb_cashless.specs.declared.by_profile.state.StateByProfile.{StateByProfile}
-use Rattle.mdb_cashless.specs.declared.by_profile.state.StateByProfile.TheVariants.{Base, Extended}
-use Rattle.mdb_cashless.specs.declared.reader.state.TheConstants.{READER_STATES}
-use Rattle.mdb_cashless.specs.ByProfile.{base_state, extended_state, machine}
+use Rattle.mdb_cashless.proofs.Words.{◌≡◌, ◌+◌, ◌-◌, ◌<◌, ◌≤◌, None, arith, refl, StateByProfile}
+use Rattle.mdb_cashless.proofs.Words.{Base, Extended, READER_STATES, base_state, extended_state}
+use Rattle.mdb_cashless.proofs.Words.{unit_of, base_part, extended_part}
 use Rattle.mdb_cashless.specs.ExtendedReader as extended
 use Rattle.mdb_cashless.specs.Reader as base
-use Rattle.mdb_cashless.specs.Units.{unit_of}
 use Rattle.mdb_cashless.specs.shared.ApprovalCodes as extended_codes
 use Rattle.mdb_cashless.specs.shared.ByProfileCodes.{code_of}
-use Rattle.mdb_cashless.specs.shared.ByProfileWays.{base_part, extended_part}
 use Rattle.mdb_cashless.specs.shared.ReaderCodes as base_codes
 use Rattle.mdb_cashless.proofs.ByProfile.{IsStray, is_base, is_extended, one_step, placed_steps, stray_step}
 use Rattle.mdb_cashless.proofs.by_profile.ReaderByProfilePair.steps.Goals as goal

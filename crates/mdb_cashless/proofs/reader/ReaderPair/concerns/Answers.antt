@@ -1,7 +1,5 @@
 -- What changes nothing after any facts changes nothing where not all is known.
-use Rattle.std.proofs.Common.{sym}
-use Rattle.std.proofs.lemmas.Bool.{OnFalse_at}
-use Rattle.mdb_cashless.specs.inner.KnowingReader.{stays}
+use Rattle.mdb_cashless.proofs.Words.{sym, OnFalse_at, stays}
 use Rattle.mdb_cashless.proofs.Steps.{denied}
 use Rattle.mdb_cashless.proofs.reader.ReaderPair.concerns.Goals as goal
 

@@ -1,5 +1,4 @@
-use Rattle.std.proofs.Common.{◌∙◌, [], ap}
-use Rattle.mdb_cashless.specs.ReaderFacts.{known_of}
+use Rattle.mdb_cashless.proofs.Words.{◌∙◌, [], ap, known_of}
 use Rattle.mdb_cashless.proofs.reader.ReaderPair.facts_start.Goals as goal
 
 pub returns : goal.returns

@@ -1,8 +1,4 @@
-use Rattle.std.proofs.Common.{◌≡◌, List, ◌∷◌, subst}
-use Rattle.mdb_msgs.specs.declared.command.ReaderUnit.{ReaderUnit}
-use Rattle.mdb_bus.specs.declared.act.Act.{Act}
-use Rattle.mdb_bus.specs.declared.scope.Beginning.{Beginning}
-use Rattle.mdb_cashless.specs.ReaderFacts.{known_of}
+use Rattle.mdb_cashless.proofs.Words.{◌≡◌, List, ◌∷◌, subst, ReaderUnit, Act, Beginning, known_of}
 use Rattle.mdb_cashless.specs.ReaderValues.{known_in}
 use Rattle.mdb_cashless.proofs.reader.ReaderPair.learn.Goals as goal
 

@@ -1,7 +1,5 @@
 -- What changes nothing after any facts changes nothing where not all is known.
-use Rattle.std.proofs.Common.{sym}
-use Rattle.std.proofs.lemmas.Bool.{OnTrue_at, OnTrue_from}
-use Rattle.mdb_cashless.specs.inner.KnowingReader.{stays}
+use Rattle.mdb_cashless.proofs.Words.{sym, OnTrue_at, OnTrue_from, stays}
 use Rattle.mdb_cashless.proofs.reader.ReaderPair.rests.Goals as goal
 
 pub returns : goal.returns

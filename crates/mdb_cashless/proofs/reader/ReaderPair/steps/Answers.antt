@@ -1,6 +1,5 @@
 -- The steps by codes are those after what is known of the acts.
-use Rattle.std.proofs.Common.{sym}
-use Rattle.mdb_machine.proofs.StepCodes.{coded_below, steps_coded}
+use Rattle.mdb_cashless.proofs.Words.{sym, coded_below, steps_coded}
 use Rattle.mdb_cashless.specs.shared.ReaderCodes.{apart, below, code_of}
 use Rattle.mdb_cashless.proofs.reader.ReaderPair.steps.Goals as goal
 

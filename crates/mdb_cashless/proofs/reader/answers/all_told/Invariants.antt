@@ -1,5 +1,4 @@
-use Rattle.std.proofs.Common.{◌≡◌, drop}
-use Rattle.mdb_cashless.specs.ReaderDevice.{all_told}
+use Rattle.mdb_cashless.proofs.Words.{◌≡◌, drop, all_told}
 use Rattle.mdb_cashless.proofs.reader.answers.all_told.Given as goal
 
 abbrev pub invariant-loop-message : goal.invariant-loop-message

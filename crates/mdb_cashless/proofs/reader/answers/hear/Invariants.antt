@@ -1,7 +1,5 @@
-use Rattle.std.proofs.Common.{◌≡◌, ◌+◌, ◌*◌, ◌≤◌, ◌++◌, ◌||◌, length}
+use Rattle.mdb_cashless.proofs.Words.{◌≡◌, ◌+◌, ◌*◌, ◌≤◌, ◌++◌, ◌||◌, length, all_heard, keeps_some}
 use Rattle.mdb_cashless.specs.Reader.{all_approved_to}
-use Rattle.mdb_cashless.specs.ReaderView.{all_heard}
-use Rattle.mdb_cashless.specs.inner.ReaderSaid.{keeps_some}
 use Rattle.mdb_cashless.proofs.reader.answers.hear.Given as goal
 
 abbrev pub invariant-loop-message : goal.invariant-loop-message

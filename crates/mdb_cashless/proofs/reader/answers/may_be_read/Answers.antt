@@ -1,5 +1,4 @@
-use Rattle.mdb_cashless.specs.ReaderMessages.{messages_of, part_of}
-use Rattle.mdb_machine.proofs.KeptLists.{no_restart}
+use Rattle.mdb_cashless.proofs.Words.{messages_of, part_of, no_restart}
 use Rattle.mdb_cashless.proofs.reader.answers.may_be_read.Goals as goal
 
 pub returns-in-Restart : goal.returns-in-Restart

@@ -1,9 +1,7 @@
 -- An ACK where it isn't known which transaction the reader took last: it was this, or another.
-use Rattle.std.proofs.Common.{Option, ◌⊎◌, None, Some}
-use Rattle.mdb_cashless.specs.declared.reader.transaction.Transaction.{Transaction}
+use Rattle.mdb_cashless.proofs.Words.{Option, ◌⊎◌, None, Some, Transaction, transaction_of}
 use Rattle.mdb_cashless.specs.Reader as spec
 use Rattle.mdb_cashless.specs.ReaderValues.{facts_in}
-use Rattle.mdb_cashless.specs.Transactions.{transaction_of}
 use Rattle.mdb_cashless.specs.inner.Guesses as guesses
 use Rattle.mdb_cashless.proofs.Knowing.{acks_some}
 use Rattle.mdb_cashless.proofs.Listed.{adds_first, adds_one, adds_two, none_small, small_one}

@@ -1,5 +1,4 @@
-use Rattle.std.proofs.Common.{◌+◌, ◌≤◌}
-use Rattle.arrayvec.specs.ArrayVec.{array_vec_len}
+use Rattle.mdb_cashless.proofs.Words.{◌+◌, ◌≤◌, array_vec_len}
 use Rattle.mdb_cashless.specs.ReaderValues.{facts_in}
 use Rattle.mdb_cashless.proofs.Knowing.{OfFront}
 use Rattle.mdb_cashless.proofs.Listed.{Adds, AreSmall}

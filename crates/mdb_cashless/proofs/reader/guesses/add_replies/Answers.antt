@@ -1,7 +1,6 @@
 -- A reply where it isn't known which transaction the reader took last, or where it is.
-use Rattle.std.proofs.Common.{◌∙◌, ◌⊎◌, Option, None, Some, ap, subst}
-use Rattle.mdb_machine.specs.PastValues.{if_known}
-use Rattle.mdb_cashless.specs.declared.reader.transaction.Transaction.{Transaction}
+use Rattle.mdb_cashless.proofs.Words.{◌∙◌, ◌⊎◌, Option, None, Some, ap, subst, if_known}
+use Rattle.mdb_cashless.proofs.Words.{Transaction}
 use Rattle.mdb_cashless.specs.Reader as spec
 use Rattle.mdb_cashless.specs.ReaderFacts.{Facts, own_transaction}
 use Rattle.mdb_cashless.specs.ReaderValues.{facts_in}

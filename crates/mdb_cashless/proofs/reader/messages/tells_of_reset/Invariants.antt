@@ -1,7 +1,4 @@
-use Rattle.std.proofs.Common.{◌≡◌}
-use Rattle.std.specs.List.{list_any}
-use Rattle.mdb_machine.specs.Kept.{is_reset}
-use Rattle.mdb_cashless.specs.ReaderMessages.{messages_of, part_of}
+use Rattle.mdb_cashless.proofs.Words.{◌≡◌, list_any, is_reset, messages_of, part_of}
 use Rattle.mdb_cashless.proofs.reader.messages.tells_of_reset.Given as goal
 
 abbrev pub invariant-loop-message : goal.invariant-loop-message

@@ -1,12 +1,10 @@
 -- A choice is heeded where it may lead elsewhere than the plain one.
-use Rattle.std.proofs.Common.{false, sym, ◌∙◌, ◌≡◌, rules}
+use Rattle.mdb_cashless.proofs.Words.{false, sym, ◌∙◌, ◌≡◌, rules, messages_of, part_of, OnFalse_at}
+use Rattle.mdb_cashless.proofs.Words.{no_restart}
 use Rattle.mdb_msgs.specs.declared.command.Command.TheVariants as commands
 use Rattle.mdb_bus.specs.declared.act.Act.TheVariants as acts
-use Rattle.mdb_cashless.specs.ReaderMessages.{messages_of, part_of}
 use Rattle.mdb_cashless.proofs.Choices.{unheard, unread, untaken}
 use Rattle.mdb_cashless.proofs.reader.steps.heeds_choice.Goals as goal
-use Rattle.std.proofs.lemmas.Bool.{OnFalse_at}
-use Rattle.mdb_machine.proofs.KeptLists.{no_restart}
 use Rattle.mdb_cashless.proofs.Steps.{denied}
 
 pub returns-in-Ack-Reader : goal.returns-in-Ack-Reader

@@ -1,6 +1,5 @@
-use Rattle.std.proofs.Common.{◌≡◌, ◌+◌, ◌≤◌, ◌++◌, length, sum_by}
+use Rattle.mdb_cashless.proofs.Words.{◌≡◌, ◌+◌, ◌≤◌, ◌++◌, length, sum_by, is_approval}
 use Rattle.mdb_machine.specs.Unvalued.{one_if}
-use Rattle.mdb_machine.specs.Choices.{is_approval}
 use Rattle.mdb_cashless.proofs.reader.unvalued.approvals.Given as goal
 
 abbrev pub invariant-loop-message : goal.invariant-loop-message

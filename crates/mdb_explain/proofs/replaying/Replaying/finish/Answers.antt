@@ -1,3 +1,4 @@
+-- The rows that were taken have a report.
 use Rattle.mdb_verdict.proofs.Rows.{not_refused}
 use Rattle.mdb_explain.proofs.replaying.Replaying.finish.Goals as goal
 

@@ -1,3 +1,4 @@
+-- Before the first entry.
 use Rattle.std.proofs.Common.{refl, subst, []}
 use Rattle.mdb_bus.specs.Scopes.{from_power_on}
 use Rattle.mdb_explained_runs.specs.ReplayFaults.{HasMarkedRun}

@@ -1,20 +1,17 @@
-use Rattle.std.proofs.Common.{refl, sym, subst, ◌∙◌, ◌++◌, take}
+-- Entries are taken up to the first at which the replay stops.
+use Rattle.std.proofs.Common.{refl, sym, ◌∙◌, ◌++◌, take}
 use Rattle.std.proofs.lemmas.List.{append-nil}
-use Rattle.mdb_explain.specs.inner.Replaying.{HasReplayed}
 use Rattle.mdb_explain.proofs.MarkSteps as steps
 use Rattle.mdb_explain.proofs.replaying.Replaying.take_each.Goals as goal
 
 pub loop-entry-init : goal.loop-entry-init
-loop-entry-init c = record {
-  taken = λ scope earlier has.
-      subst (HasReplayed scope c.args.self.now) (sym (append-nil earlier)) has;
-  scope = refl;
-}
+loop-entry-init c =
+    record { taken = λ scope earlier has. rw append-nil has; scope = refl }
 
 pub returns-then-is_some-clause-taken : goal.returns-then-is_some-clause-taken
 returns-then-is_some-clause-taken c scope earlier has =
     steps.stopped_in scope c.take-stop.new.self earlier c.args.entries.now c.loop-entry.entry-index
-    c.entry-item.result c.take-stop.result c.loop-entry-test.true c.entry-item.is
+    c.entry-item.result c.loop-entry-test.true c.entry-item.is c.take-stop.result
     (sym c.is_some.ensures ∙ c.if-is_some.true)
     (c.take-stop.ensures.taken scope (earlier ++ take c.loop-entry.entry-index c.args.entries.now)
     (c.loop-entry.invariant.taken scope earlier has))
@@ -26,7 +23,7 @@ pub loop-entry-preserved : goal.loop-entry-preserved
 loop-entry-preserved c = record {
   taken = λ scope earlier has.
       steps.one_more scope c.take-stop.new.self earlier c.args.entries.now c.loop-entry.entry-index
-      c.entry-item.result c.take-stop.result c.loop-entry-test.true c.entry-item.is
+      c.entry-item.result c.loop-entry-test.true c.entry-item.is c.take-stop.result
       (sym c.is_some.ensures ∙ c.if-is_some.false)
       (c.take-stop.ensures.taken scope (earlier ++ take c.loop-entry.entry-index c.args.entries.now)
       (c.loop-entry.invariant.taken scope earlier has));

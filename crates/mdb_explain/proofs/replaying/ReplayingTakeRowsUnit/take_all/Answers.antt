@@ -1,3 +1,4 @@
+-- The rows are taken as the entries that they are.
 use Rattle.std.proofs.Common.{subst, sym}
 use Rattle.mdb_explained_runs.specs.Replays.{scope_of}
 use Rattle.mdb_verdict.specs.Ending.{HasTakenOrStopped}

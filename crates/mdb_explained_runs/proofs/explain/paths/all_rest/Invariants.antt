@@ -1,7 +1,4 @@
-use Rattle.std.proofs.Common.{take}
-use Rattle.mdb_bus.specs.declared.scope.Beginning.TheVariants.{PowerOn}
-use Rattle.mdb_bus.specs.declared.scope.Profile.{Profile}
-use Rattle.mdb_explained_runs.specs.inner.Paths.{AllRest}
+use Rattle.mdb_explained_runs.proofs.Words.{take, PowerOn, Profile, AllRest}
 use Rattle.mdb_explained_runs.proofs.explain.paths.all_rest.Given as goal
 
 abbrev pub invariant-loop-code : goal.invariant-loop-code

@@ -1,6 +1,5 @@
 -- The entries after an act are what the steps from each entry lead to.
-use Rattle.std.proofs.Common.{arith, rules}
-use Rattle.std.proofs.lemmas.List.{take_all}
+use Rattle.mdb_explained_runs.proofs.Words.{arith, rules, take_all}
 use Rattle.mdb_explained_runs.proofs.Chains.{keep-then}
 use Rattle.mdb_explained_runs.proofs.EntryLimits.{entry-within-kept}
 use Rattle.mdb_explained_runs.proofs.Steps.{led-read}

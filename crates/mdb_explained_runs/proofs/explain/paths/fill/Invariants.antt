@@ -1,10 +1,5 @@
-use Rattle.std.proofs.Common.{List, take}
-use Rattle.mdb_bus.specs.declared.act.Act.{Act}
-use Rattle.mdb_bus.specs.declared.scope.Beginning.TheVariants.{PowerOn}
-use Rattle.mdb_bus.specs.declared.scope.Profile.{Profile}
-use Rattle.mdb_machine.specs.Choices.{CanStand}
-use Rattle.mdb_explained_runs.specs.inner.Chains.{KeepChains}
-use Rattle.mdb_explained_runs.specs.inner.Paths.{AreLed}
+use Rattle.mdb_explained_runs.proofs.Words.{List, take, Act, PowerOn, Profile, CanStand, KeepChains}
+use Rattle.mdb_explained_runs.proofs.Words.{AreLed}
 use Rattle.mdb_explained_runs.proofs.explain.paths.fill.Given as goal
 
 abbrev pub invariant-loop-entry : goal.invariant-loop-entry

@@ -1,11 +1,9 @@
 -- Paths are led over an act: by steps from their entries, or by resting.
-use Rattle.std.proofs.Common.{arith, rules, ap, ◌∙◌, ◌≡◌, ◌==◌, ℕ, List, [], length, Bool, true}
-use Rattle.mdb_bus.specs.declared.scope.Beginning.TheVariants.{PowerOn}
-use Rattle.mdb_bus.specs.ActLists.{acts_of}
+use Rattle.mdb_explained_runs.proofs.Words.{arith, rules, ap, ◌∙◌, ◌≡◌, ◌==◌, ℕ, List, [], length}
+use Rattle.mdb_explained_runs.proofs.Words.{Bool, true, PowerOn, acts_of, nil-told}
 use Rattle.mdb_machine.specs.shared.OwnWays.{decides}
 use Rattle.mdb_explained_runs.proofs.EntryLimits.{all-led-within, entries-within-kept}
 use Rattle.mdb_explained_runs.proofs.Chains.{keep-same}
-use Rattle.mdb_follow.proofs.Listed.{nil-told}
 use Rattle.mdb_explained_runs.proofs.Paths.{no-way, paths-led, paths-still}
 use Rattle.mdb_explained_runs.proofs.explain.paths.lead.Goals as goal
 use Rattle.mdb_explained_runs.proofs.explain.paths.lead.Goals.{then-matters+in_ok-fill+else-is_empty, else-matters}

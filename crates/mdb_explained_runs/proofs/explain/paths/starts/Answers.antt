@@ -1,6 +1,5 @@
 -- Each state in which the machine may start has its entry.
-use Rattle.std.proofs.Common.{arith, rules, ◌∙◌, sym}
-use Rattle.std.proofs.lemmas.Bool.{false≢true}
+use Rattle.mdb_explained_runs.proofs.Words.{arith, rules, ◌∙◌, sym, false≢true}
 use Rattle.mdb_explained_runs.proofs.PathStarts.{more-starts, same-starts}
 use Rattle.mdb_explained_runs.proofs.explain.paths.starts.Goals as goal
 use Rattle.mdb_explained_runs.proofs.explain.paths.starts.Goals.{then-may_start+in_ok-push, else-may_start}

@@ -1,5 +1,4 @@
-use Rattle.mdb_bus.specs.declared.scope.Beginning.TheVariants.{PowerOn}
-use Rattle.mdb_explained_runs.specs.inner.Paths.{AreStarts}
+use Rattle.mdb_explained_runs.proofs.Words.{PowerOn, AreStarts}
 use Rattle.mdb_explained_runs.proofs.explain.paths.starts.Given as goal
 
 abbrev pub invariant-loop-code : goal.invariant-loop-code

@@ -1,7 +1,5 @@
 -- A way that goes on is taken in, or one that is as good stays.
-use Rattle.std.proofs.Common.{arith, ap, refl, sym, ◌+◌}
-use Rattle.std.proofs.Common.{w64}
-use Rattle.std.proofs.lemmas.Int.{to_z-of_z}
+use Rattle.mdb_explained_runs.proofs.Words.{arith, ap, refl, sym, ◌+◌, w64, to_z-of_z}
 use Rattle.mdb_explained_runs.proofs.Bests.{has-counted, has-push, has-set, has-still, takes-push}
 use Rattle.mdb_explained_runs.proofs.Bests.{takes-same, takes-set}
 use Rattle.mdb_explained_runs.proofs.Bests.{good-read, marks-few}

@@ -1,7 +1,6 @@
 -- What the step under a choice leads to is taken in.
-use Rattle.std.proofs.Common.{inl, ap, refl, sym, ◌∙◌, ◌+ℤ◌}
-use Rattle.std.proofs.lemmas.Option.{none-some, same_Some}
-use Rattle.mdb_bus.specs.declared.scope.Beginning.TheVariants.{PowerOn}
+use Rattle.mdb_explained_runs.proofs.Words.{inl, ap, refl, sym, ◌∙◌, ◌+ℤ◌, same_Some, PowerOn}
+use Rattle.std.proofs.lemmas.Option.{none-some}
 use Rattle.mdb_explained_runs.proofs.Steps.{takes-nothing, takes-one}
 use Rattle.mdb_explained_runs.proofs.Weights.{small-sum}
 use Rattle.mdb_explained_runs.proofs.explain.paths.take_step.Goals as goal

@@ -1,7 +1,5 @@
 -- What the steps under all choices lead to is taken in.
-use Rattle.std.proofs.Common.{Some, refl, subst, sym}
-use Rattle.mdb_bus.specs.declared.scope.Beginning.TheVariants.{PowerOn}
-use Rattle.mdb_machine.specs.Choices.{CanStand}
+use Rattle.mdb_explained_runs.proofs.Words.{Some, refl, subst, sym, PowerOn, CanStand}
 use Rattle.mdb_machine.proofs.Ways.{by_second, plain_only}
 use Rattle.mdb_explained_runs.proofs.Steps.{takes-alone, takes-both, takes-unheeded}
 use Rattle.mdb_explained_runs.proofs.explain.paths.take_steps.Goals as goal

@@ -1,6 +1,5 @@
 -- A seeker stands for the rows so far, up to the last.
-use Rattle.std.proofs.Common.{◌∙◌, take}
-use Rattle.std.proofs.lemmas.List.{take_more}
+use Rattle.mdb_explained_runs.proofs.Words.{◌∙◌, take, take_more}
 use Rattle.mdb_explained_runs.proofs.Seeking.{reached-next}
 use Rattle.mdb_explained_runs.proofs.explain.seeker.seek.Goals as goal
 

@@ -1,6 +1,5 @@
-use Rattle.std.proofs.Common.{◌≡◌, take}
+use Rattle.mdb_explained_runs.proofs.Words.{◌≡◌, take, IsSeeker}
 use Rattle.mdb_bus.specs.Bus.{scope_of}
-use Rattle.mdb_explained_runs.specs.inner.Seekers.{IsSeeker}
 use Rattle.mdb_explained_runs.proofs.explain.seeker.seek.Given as goal
 
 abbrev pub invariant-loop-event : goal.invariant-loop-event

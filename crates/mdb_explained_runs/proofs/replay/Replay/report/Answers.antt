@@ -1,7 +1,6 @@
 -- A replay reports the run that it stands for.
 use Rattle.mdb_explained_runs.specs.Replays.{scope_of}
-use Rattle.mdb_bus.specs.ActLists.{acts_of}
-use Rattle.mdb_follow.specs.Cells.{cell_in}
+use Rattle.mdb_explained_runs.proofs.Words.{acts_of, cell_in}
 use Rattle.mdb_explained_runs.proofs.Replaying.{reported}
 use Rattle.mdb_explained_runs.proofs.replay.Replay.report.Goals as goal
 

@@ -1,7 +1,4 @@
-use Rattle.std.proofs.Common.{refl, ◌≡◌, [], ◌∷◌}
-use Rattle.mdb_follow.specs.Cells.{cell_in}
-use Rattle.mdb_explained_runs.specs.Tracks.{track_in}
-use Rattle.mdb_follow.proofs.ByDevice.{each}
+use Rattle.mdb_explained_runs.proofs.Words.{refl, ◌≡◌, [], ◌∷◌, cell_in, track_in, each}
 use Rattle.mdb_explained_runs.proofs.tracks.Tracks.cells.Goals as goal
 
 pub returns : goal.returns

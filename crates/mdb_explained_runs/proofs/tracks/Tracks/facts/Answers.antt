@@ -1,10 +1,6 @@
-use Rattle.std.proofs.Common.{refl, ◌∙◌}
-use Rattle.mdb_msgs.specs.declared.command.Device.{Device}
+use Rattle.mdb_explained_runs.proofs.Words.{refl, ◌∙◌, Device, First, Second, PowerOn, track_in}
+use Rattle.mdb_explained_runs.proofs.Words.{decimals-are}
 use Rattle.mdb_msgs.specs.declared.command.Device.TheVariants as devices
-use Rattle.mdb_msgs.specs.declared.command.ReaderUnit.TheVariants.{First, Second}
-use Rattle.mdb_bus.specs.declared.scope.Beginning.TheVariants.{PowerOn}
-use Rattle.mdb_explained_runs.specs.Tracks.{track_in}
-use Rattle.mdb_follow.proofs.Sided.{decimals-are}
 use Rattle.mdb_explained_runs.proofs.tracks.Tracks.facts.Goals as goal
 
 pub returns : goal.returns

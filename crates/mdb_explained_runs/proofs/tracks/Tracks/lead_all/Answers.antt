@@ -1,7 +1,5 @@
 -- A break leads the track of each device, one after the other.
-use Rattle.std.proofs.Common.{◌^◌}
-use Rattle.mdb_follow.proofs.ByDevice.{front-all, front-more}
-use Rattle.mdb_follow.proofs.Following.{if-err-is}
+use Rattle.mdb_explained_runs.proofs.Words.{◌^◌, front-all, front-more, if-err-is}
 use Rattle.mdb_explained_runs.proofs.Tracked.{front-fits, front-stops}
 use Rattle.mdb_explained_runs.proofs.tracks.Tracks.lead_all.Goals as goal
 

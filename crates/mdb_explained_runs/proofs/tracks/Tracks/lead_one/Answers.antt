@@ -1,8 +1,6 @@
 -- The track of a device is led, those of the others stay.
-use Rattle.mdb_follow.proofs.ByDevice.{each}
-use Rattle.std.proofs.Common.{ap, refl, ◌∙◌}
+use Rattle.mdb_explained_runs.proofs.Words.{each, ap, refl, ◌∙◌, First, Second}
 use Rattle.mdb_msgs.specs.declared.command.Device.TheVariants as devices
-use Rattle.mdb_msgs.specs.declared.command.ReaderUnit.TheVariants.{First, Second}
 use Rattle.mdb_explained_runs.proofs.Tracked.{one-leads, one-stops}
 use Rattle.mdb_explained_runs.proofs.tracks.Tracks.lead_one.Goals as goal
 

@@ -1,7 +1,5 @@
 -- The track of each device begins with the way through no act.
-use Rattle.mdb_msgs.specs.declared.command.ReaderUnit.TheVariants.{First, Second}
-use Rattle.mdb_bus.specs.declared.scope.Beginning.TheVariants.{PowerOn}
-use Rattle.mdb_follow.proofs.ByDevice.{each}
+use Rattle.mdb_explained_runs.proofs.Words.{First, Second, PowerOn, each}
 use Rattle.mdb_follow.proofs.OwnKnown.{none_unvalued}
 use Rattle.mdb_explained_runs.proofs.tracks.Tracks.start.Goals as goal
 

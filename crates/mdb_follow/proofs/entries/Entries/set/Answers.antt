@@ -1,5 +1,4 @@
-use Rattle.std.proofs.Common.{◌≡◌, ◌<◌, ◌≤◌, ◌∙◌, ℕ, List, ap, arith, length, take}
-use Rattle.std.specs.Prelude.{slice_set}
+use Rattle.mdb_follow.proofs.Words.{◌≡◌, ◌<◌, ◌≤◌, ◌∙◌, ℕ, List, ap, arith, length, take, slice_set}
 use Rattle.std.proofs.lemmas.List.{length-take-le}
 use Rattle.std.proofs.Math.Seq.{take-set-lt}
 use Rattle.mdb_follow.proofs.entries.Entries.set.Goals as goal

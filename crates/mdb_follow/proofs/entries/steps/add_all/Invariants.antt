@@ -1,5 +1,4 @@
-use Rattle.std.proofs.Common.{◌≡◌, take}
-use Rattle.mdb_follow.specs.inner.Entries.{IsKeyed, IsPlaced, with_moves}
+use Rattle.mdb_follow.proofs.Words.{◌≡◌, take, IsKeyed, IsPlaced, with_moves}
 use Rattle.mdb_follow.proofs.entries.steps.add_all.Given as goal
 
 abbrev pub invariant-loop-code : goal.invariant-loop-code

@@ -1,10 +1,7 @@
 -- One cell more: it is joined to the entry of its code, or the code has none and it is an entry.
-use Rattle.std.proofs.Common.{rules, ◌≡◌, ℕ, Bool, false, List, [], sym, ◌∙◌, ap, get_or}
-use Rattle.std.specs.Prelude.{IsTrue}
-use Rattle.std.proofs.lemmas.Bool.{false≢true}
-use Rattle.mdb_follow.specs.declared.cell.Cell.{Cell}
-use Rattle.mdb_follow.specs.Cells.{moved_cell}
-use Rattle.mdb_follow.specs.inner.Entries.{HasAt, IsPlaced, Lacks, with_cell}
+use Rattle.mdb_follow.proofs.Words.{rules, ◌≡◌, ℕ, Bool, false, List, [], sym, ◌∙◌, ap, get_or}
+use Rattle.mdb_follow.proofs.Words.{IsTrue, false≢true, Cell, moved_cell, HasAt, IsPlaced, Lacks}
+use Rattle.mdb_follow.proofs.Words.{with_cell}
 use Rattle.mdb_follow.proofs.Listed.{keyed-room, keyed-with_cell, with_cell-push, with_cell-set}
 use Rattle.mdb_follow.proofs.Places.{placed-front, placed-lacks, placed-push, placed-written}
 use Rattle.mdb_follow.proofs.entries.steps.add_cell.Goals as goal

@@ -1,8 +1,7 @@
 -- Rows one by one: so many were taken, and the next is taken or refused.
-use Rattle.std.proofs.Common.{arith}
+use Rattle.mdb_follow.proofs.Words.{arith, HasRefused}
 use Rattle.mdb_follow.proofs.Following.{fed-accepted, fed-all, fed-more, fed-refused, of-some}
 use Rattle.mdb_follow.proofs.Following.{taken-by}
-use Rattle.mdb_follow.specs.Feeding.{HasRefused}
 use Rattle.mdb_follow.proofs.follower.Follower.feed_all.Goals as goal
 
 pub take-requires-clause-room : goal.take-requires-clause-room

@@ -1,6 +1,5 @@
 -- Sides that follow an act stay within the limit of the rows, and stand for acts.
-use Rattle.std.proofs.Common.{arith, ◌*◌, ◌^◌}
-use Rattle.mdb_follow.specs.inner.SideSteps.{AreStanding, AreWithin}
+use Rattle.mdb_follow.proofs.Words.{arith, ◌*◌, ◌^◌, AreStanding, AreWithin}
 use Rattle.mdb_follow.proofs.Sided.{by-stay}
 use Rattle.mdb_follow.proofs.Within.{sides-within-next, sides-within-weaker, standing-next}
 use Rattle.mdb_follow.proofs.follower.Follower.follow.Goals as goal

@@ -1,12 +1,8 @@
 -- The report on the rows that were accepted is exact, and within their limit.
-use Rattle.std.proofs.Common.{ap, arith, ◌∙◌, ◌≡◌, ◌*◌, ◌^◌, ℕ}
-use Rattle.mdb_msgs.specs.declared.command.Device.{Device}
-use Rattle.mdb_bus.specs.ActLists.{acts_of}
+use Rattle.mdb_follow.proofs.Words.{ap, arith, ◌∙◌, ◌≡◌, ◌*◌, ◌^◌, ℕ, Device, acts_of, cell_in}
+use Rattle.mdb_follow.proofs.Words.{device_report, device_facts_in, silence_in}
 use Rattle.mdb_follow.specs.declared.report.DeviceReport.{DeviceReport}
-use Rattle.mdb_follow.specs.Cells.{cell_in}
 use Rattle.mdb_follow.specs.Follower.{scope_of}
-use Rattle.mdb_follow.specs.Report.{device_report, device_facts_in}
-use Rattle.mdb_follow.specs.SilencesKept.{silence_in}
 use Rattle.mdb_follow.proofs.Following.{accepted, accounts-within, few-times, reported}
 use Rattle.mdb_follow.proofs.Kept.{at-most-weaker}
 use Rattle.mdb_follow.proofs.Told.{listed}

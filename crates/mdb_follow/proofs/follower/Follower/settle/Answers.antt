@@ -1,9 +1,7 @@
 -- What a row of the bus makes of a follower: it is counted, and the act that it ends followed.
-use Rattle.std.proofs.Common.{List, ◌∷◌, [], ◌+◌, ◌*◌, ◌^◌, None, Some, ap, arith, refl, ◌∙◌}
-use Rattle.mdb_follow.specs.Counted.{counted_with}
-use Rattle.mdb_follow.specs.Feeding.{HasRefused}
+use Rattle.mdb_follow.proofs.Words.{List, ◌∷◌, [], ◌+◌, ◌*◌, ◌^◌, None, Some, ap, arith, refl, ◌∙◌}
+use Rattle.mdb_follow.proofs.Words.{counted_with, HasRefused, Event}
 use Rattle.mdb_follow.specs.Follower.{StandsFor, scope_of}
-use Rattle.mdb_words.specs.declared.event.Event.{Event}
 use Rattle.mdb_follow.proofs.Within.{sides-within-weaker}
 use Rattle.mdb_follow.proofs.Following.{accepted-still, ended-by, is-some-weaker, machine-offence}
 use Rattle.mdb_follow.proofs.Following.{none-beyond, none-late, stands-on, stands-still, taken-by, times-on}

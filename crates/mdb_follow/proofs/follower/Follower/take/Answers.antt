@@ -1,6 +1,5 @@
 -- A row is settled, or taken slowly.
-use Rattle.std.proofs.Common.{rules, ap, refl, sym}
-use Rattle.mdb_follow.specs.Counted.{counted_with}
+use Rattle.mdb_follow.proofs.Words.{rules, ap, refl, sym, counted_with}
 use Rattle.mdb_follow.proofs.follower.Follower.take.Goals as goal
 
 pub returns-in-Some : goal.returns-in-Some

@@ -1,8 +1,7 @@
 -- Any row: the bus takes it, and it is settled, or it breaks a rule of the link.
-use Rattle.std.proofs.Common.{◌+◌, ap, inl, refl, ◌∙◌}
-use Rattle.mdb_bus.specs.Bus.{open_block_of, scope_of}
+use Rattle.mdb_follow.proofs.Words.{◌+◌, ap, inl, refl, ◌∙◌, open_block_of, HasRefused}
+use Rattle.mdb_bus.specs.Bus.{scope_of}
 use Rattle.mdb_follow.proofs.Following.{accepted-still, link-offence, some-at}
-use Rattle.mdb_follow.specs.Feeding.{HasRefused}
 use Rattle.mdb_follow.proofs.follower.Follower.take_slowly.Goals as goal
 
 pub returns-in-Ok-clause-settled : goal.returns-in-Ok-clause-settled

@@ -1,7 +1,5 @@
 -- A report has what was found of each device and account.
-use Rattle.std.proofs.Common.{refl, ◌∙◌, map}
-use Rattle.mdb_follow.specs.declared.account_name.TheConstants.AccountName.{ALL}
-use Rattle.mdb_follow.specs.Cells.{account_by, cell_in}
+use Rattle.mdb_follow.proofs.Words.{◌∙◌, map, ALL, account_by, cell_in}
 use Rattle.mdb_follow.proofs.Told.{reports-are}
 use Rattle.mdb_follow.proofs.report.Report.of.Goals as goal
 

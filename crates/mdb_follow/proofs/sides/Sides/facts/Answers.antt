@@ -1,9 +1,6 @@
 -- What is found of each device is what its side has.
-use Rattle.std.proofs.Common.{refl, ◌∙◌}
-use Rattle.mdb_msgs.specs.declared.command.Device.{Device}
+use Rattle.mdb_follow.proofs.Words.{refl, ◌∙◌, Device, First, Second, side_in}
 use Rattle.mdb_msgs.specs.declared.command.Device.TheVariants as devices
-use Rattle.mdb_msgs.specs.declared.command.ReaderUnit.TheVariants.{First, Second}
-use Rattle.mdb_follow.specs.Sides.{side_in}
 use Rattle.mdb_follow.proofs.ByDevice.{each}
 use Rattle.mdb_follow.proofs.Sided.{decimals-are}
 use Rattle.mdb_follow.proofs.sides.Sides.facts.Goals as goal

@@ -1,6 +1,5 @@
 -- The side of an act's one device goes on, or those of all do by a break, or none.
-use Rattle.std.proofs.Common.{inl, inr}
-use Rattle.std.proofs.lemmas.Result.{IfErr-weaker, IfOk-weaker, on_err_weaker}
+use Rattle.mdb_follow.proofs.Words.{inl, inr, IfErr-weaker, IfOk-weaker, on_err_weaker}
 use Rattle.mdb_follow.proofs.Sided.{all-follow, break-stops-none, none-follows}
 use Rattle.mdb_follow.proofs.sides.Sides.lead.Goals as goal
 

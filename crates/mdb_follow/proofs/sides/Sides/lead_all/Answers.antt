@@ -1,7 +1,5 @@
 -- Each side goes on over a break, one by one.
-use Rattle.std.proofs.Common.{◌^◌}
-use Rattle.mdb_follow.specs.Sides.{SideOf, side_in}
-use Rattle.mdb_follow.specs.inner.SideSteps.{FollowsOf}
+use Rattle.mdb_follow.proofs.Words.{◌^◌, SideOf, side_in, FollowsOf}
 use Rattle.mdb_follow.proofs.ByDevice.{front-all, front-more}
 use Rattle.mdb_follow.proofs.Following.{if-err-is}
 use Rattle.mdb_follow.proofs.Sided.{front-fits, front-stops}

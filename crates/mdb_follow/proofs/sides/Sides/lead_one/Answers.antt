@@ -1,7 +1,6 @@
 -- The side of the device goes on in its place, or it has no step and nothing changes.
-use Rattle.std.proofs.Common.{ap, arith, refl, ◌∙◌}
+use Rattle.mdb_follow.proofs.Words.{ap, arith, refl, ◌∙◌, First, Second}
 use Rattle.mdb_msgs.specs.declared.command.Device.TheVariants as devices
-use Rattle.mdb_msgs.specs.declared.command.ReaderUnit.TheVariants.{First, Second}
 use Rattle.mdb_follow.proofs.Sided.{one-led}
 use Rattle.mdb_follow.proofs.sides.Sides.lead_one.Goals as goal
 

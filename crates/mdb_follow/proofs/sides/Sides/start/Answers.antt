@@ -1,6 +1,5 @@
 -- The sides of all devices begin within 0 and stand for no act.
-use Rattle.std.proofs.Common.{arith, refl}
-use Rattle.mdb_msgs.specs.declared.command.ReaderUnit.TheVariants.{First, Second}
+use Rattle.mdb_follow.proofs.Words.{arith, refl, First, Second}
 use Rattle.mdb_follow.proofs.ByDevice.{each}
 use Rattle.mdb_follow.proofs.OwnKnown.{none_unvalued}
 use Rattle.mdb_follow.proofs.sides.Sides.start.Goals as goal

@@ -1,7 +1,5 @@
 -- What is kept of the device that was asked is put in its place.
-use Rattle.std.proofs.Common.{arith}
-use Rattle.mdb_follow.specs.Silences.{with_ask}
-use Rattle.mdb_follow.specs.SilenceSteps.{ask_in}
+use Rattle.mdb_follow.proofs.Words.{arith, with_ask, ask_in}
 use Rattle.mdb_follow.proofs.Kept.{one-goes-on}
 use Rattle.mdb_follow.proofs.silence.Silences.ask.Goals as goal
 

@@ -1,6 +1,5 @@
 -- What is kept of the device that answered is put in its place.
-use Rattle.std.proofs.Common.{arith}
-use Rattle.mdb_follow.specs.SilenceSteps.{ended}
+use Rattle.mdb_follow.proofs.Words.{arith, ended}
 use Rattle.mdb_follow.proofs.Kept.{at-most-more, one-goes-on}
 use Rattle.mdb_follow.proofs.silence.Silences.end.Goals as goal
 

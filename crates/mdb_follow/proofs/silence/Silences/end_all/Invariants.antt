@@ -1,6 +1,4 @@
-use Rattle.mdb_follow.specs.declared.silence.Silence.{Silence}
-use Rattle.mdb_follow.specs.SilencesKept.{silence_in}
-use Rattle.mdb_follow.specs.SilenceSteps.{SilenceGoesOn, ended}
+use Rattle.mdb_follow.proofs.Words.{Silence, silence_in, SilenceGoesOn, ended}
 use Rattle.mdb_follow.proofs.ByDevice.{Front}
 use Rattle.mdb_follow.proofs.silence.Silences.end_all.Given as goal
 

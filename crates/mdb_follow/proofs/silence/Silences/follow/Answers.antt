@@ -1,6 +1,5 @@
 -- The device that an answer names has answered.
-use Rattle.std.proofs.Common.{inl, inr}
-use Rattle.mdb_follow.specs.SilenceSteps.{ended}
+use Rattle.mdb_follow.proofs.Words.{inl, inr, ended}
 use Rattle.mdb_follow.proofs.Kept.{all-go-on}
 use Rattle.mdb_follow.proofs.silence.Silences.follow.Goals as goal
 

@@ -1,6 +1,4 @@
-use Rattle.std.proofs.Common.{◌≡◌, ◌≤◌, length, take}
-use Rattle.std.specs.List.{flat_map}
-use Rattle.mdb_msgs.specs.Bill.{bill_msg_bytes}
+use Rattle.mdb_msgs.proofs.Words.{◌≡◌, ◌≤◌, length, take, flat_map, bill_msg_bytes}
 use Rattle.mdb_msgs.proofs.reply.bill.bytes_of.Given as goal
 
 abbrev pub invariant-loop-message : goal.invariant-loop-message

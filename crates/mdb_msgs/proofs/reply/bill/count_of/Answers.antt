@@ -1,9 +1,7 @@
 -- Each message of the validator has one byte.
-use Rattle.std.proofs.Common.{◌≡◌, List, [], ◌∷◌, length, refl, arith, length-append}
-use Rattle.std.specs.List.{flat_map}
-use Rattle.mdb_msgs.specs.declared.reply.bill.BillMsg.{BillMsg}
+use Rattle.mdb_msgs.proofs.Words.{◌≡◌, length, flat_map, BillMsg, bill_msg_bytes}
+use Rattle.std.proofs.Common.{List, [], ◌∷◌, refl, arith, length-append}
 use Rattle.mdb_msgs.specs.declared.reply.bill.BillMsg.TheVariants.{Reset}
-use Rattle.mdb_msgs.specs.Bill.{bill_msg_bytes}
 use Rattle.mdb_msgs.proofs.reply.bill.count_of.Goals as goal
 
 one_byte : (message : BillMsg) → length (bill_msg_bytes message) ≡ 1

@@ -1,6 +1,5 @@
 use Rattle.std.proofs.Common.{arith, suc, drop}
-use Rattle.std.proofs.lemmas.Result.{err_from_is_err_and}
-use Rattle.mdb_msgs.specs.Bill.{NoBillMsg}
+use Rattle.mdb_msgs.proofs.Words.{err_from_is_err_and, NoBillMsg}
 use Rattle.mdb_msgs.proofs.ListReading.{stops_at}
 use Rattle.mdb_msgs.proofs.reply.bill.read_messages.Goals as goal
 

@@ -1,6 +1,4 @@
-use Rattle.std.proofs.Common.{◌≡◌, ◌*◌, ◌≤◌, length, take}
-use Rattle.std.specs.List.{flat_map}
-use Rattle.mdb_msgs.specs.Changer.{changer_msg_bytes}
+use Rattle.mdb_msgs.proofs.Words.{◌≡◌, ◌*◌, ◌≤◌, length, take, flat_map, changer_msg_bytes}
 use Rattle.mdb_msgs.proofs.reply.changer.count_of.Given as goal
 
 abbrev pub invariant-loop-message : goal.invariant-loop-message

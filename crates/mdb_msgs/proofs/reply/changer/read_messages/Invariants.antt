@@ -1,5 +1,4 @@
-use Rattle.std.proofs.Common.{length}
-use Rattle.mdb_msgs.specs.Changer.{changer_msg_bytes, IsChangerMsg}
+use Rattle.mdb_msgs.proofs.Words.{length, changer_msg_bytes, IsChangerMsg}
 use Rattle.mdb_msgs.proofs.ListReading.{Going}
 use Rattle.mdb_msgs.proofs.reply.changer.read_messages.Given as goal
 

@@ -1,5 +1,4 @@
-use Rattle.std.proofs.Common.{◌≡◌, take}
-use Rattle.mdb_msgs.specs.Reader.{own_ids}
+use Rattle.mdb_msgs.proofs.Words.{◌≡◌, take, own_ids}
 use Rattle.mdb_msgs.proofs.reply.reader.own_ids.Given as goal
 
 abbrev pub invariant-loop-message : goal.invariant-loop-message

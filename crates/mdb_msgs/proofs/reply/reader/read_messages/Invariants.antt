@@ -1,6 +1,5 @@
-use Rattle.std.proofs.Common.{◌≡◌, length}
-use Rattle.std.specs.List.{list_any}
-use Rattle.mdb_msgs.specs.Reader.{ReaderMessages, has_long, own_ids}
+use Rattle.mdb_msgs.proofs.Words.{◌≡◌, length, list_any, own_ids}
+use Rattle.mdb_msgs.specs.Reader.{ReaderMessages, has_long}
 use Rattle.mdb_msgs.proofs.ReaderReading.{Taken}
 use Rattle.mdb_msgs.proofs.reply.reader.read_messages.Given as goal
 

@@ -1,7 +1,4 @@
 -- A tail is listed, or has no place.
-use Rattle.std.proofs.Common.{Option, subst, sym}
-use Rattle.mdb_bus.specs.declared.act.Act.{Act}
-use Rattle.mdb_page.specs.Acts.{ShowsAct}
 use Rattle.mdb_page.proofs.Entries.{put_at, put_not}
 use Rattle.mdb_page.proofs.Turns.{tail_is_none}
 use Rattle.mdb_page.proofs.acts.ActListing.cut.Goals as goal

@@ -1,6 +1,4 @@
-use Rattle.std.proofs.Common.{subst, sym}
 use Rattle.mdb_follow.specs.Follower.{rows_of}
-use Rattle.mdb_page.specs.inner.Rising.{IsNear}
 use Rattle.mdb_page.proofs.Rising.{near}
 use Rattle.mdb_page.proofs.rises.RiseListing.take_row.Goals as goal
 
@@ -11,6 +9,6 @@ take-requires-clause-next c =
 
 pub returns-then-ended-clause-near : goal.returns-then-ended-clause-near
 returns-then-ended-clause-near c =
-    subst IsNear (sym c.take.ensures.last)
+    rw c.take.ensures.last
     (near (rows_of c.args.follower.now) c.report_before.result c.requires.rows
     c.report_before.ensures.within)

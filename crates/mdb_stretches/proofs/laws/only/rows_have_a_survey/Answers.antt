@@ -1,3 +1,4 @@
+-- One row more is surveyed.
 use Rattle.mdb_stretches.proofs.OneSurvey.{surveyed_more}
 use Rattle.mdb_stretches.proofs.laws.only.rows_have_a_survey.Goals as goal
 

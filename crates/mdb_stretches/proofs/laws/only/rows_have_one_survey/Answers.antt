@@ -1,3 +1,4 @@
+-- A survey is one by the laws of act lists and runs.
 use Rattle.mdb_stretches.proofs.OneSurvey.{one_survey}
 use Rattle.mdb_stretches.proofs.laws.only.rows_have_one_survey.Goals as goal
 

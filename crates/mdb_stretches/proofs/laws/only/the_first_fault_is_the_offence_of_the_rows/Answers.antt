@@ -1,3 +1,4 @@
+-- The first fault is the offence of the rows, and there is one where they have it.
 use Rattle.mdb_stretches.proofs.OneSurvey.{fault_is, offence_is}
 use Rattle.mdb_stretches.proofs.laws.only.the_first_fault_is_the_offence_of_the_rows.Goals as goal
 

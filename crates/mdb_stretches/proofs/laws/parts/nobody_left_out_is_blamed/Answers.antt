@@ -1,3 +1,4 @@
+-- Each fault is blamed on a device that is followed.
 use Rattle.mdb_stretches.proofs.Parts.{nobody_blamed}
 use Rattle.mdb_stretches.proofs.laws.parts.nobody_left_out_is_blamed.Goals as goal
 

@@ -1,6 +1,5 @@
 -- The stretch that runs at the end, and the summary.
 use Rattle.std.proofs.Common.{arith, ap, sym, ◌∙◌}
-use Rattle.mdb_follow.specs.Follower as follow
 use Rattle.mdb_stretches.specs.declared.stretch.Stretch.{Stretch}
 use Rattle.mdb_stretches.specs.declared.totals.Totals.{Totals}
 use Rattle.mdb_stretches.specs.Totals.{totals_of, with_report}

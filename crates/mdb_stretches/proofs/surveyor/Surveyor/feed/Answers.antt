@@ -1,3 +1,4 @@
+-- A row that is taken ends nothing, and one that halts ends the stretch.
 use Rattle.mdb_stretches.proofs.surveyor.Surveyor.feed.Goals as goal
 
 pub returns-else-take-clause-ended : goal.returns-else-take-clause-ended

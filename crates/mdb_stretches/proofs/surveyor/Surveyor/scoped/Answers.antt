@@ -1,3 +1,4 @@
+-- A new surveyor stands for no rows.
 use Rattle.std.proofs.Common.{refl, ◌∙◌, []}
 use Rattle.mdb_stretches.specs.Stretches.{first_place}
 use Rattle.mdb_stretches.proofs.Standing.{told_nothing}

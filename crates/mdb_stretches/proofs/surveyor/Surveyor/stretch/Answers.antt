@@ -1,3 +1,4 @@
+-- The stretch that runs has the report on its rows.
 use Rattle.std.proofs.Common.{arith}
 use Rattle.mdb_stretches.proofs.Standing.{runs}
 use Rattle.mdb_stretches.proofs.surveyor.Surveyor.stretch.Goals as goal

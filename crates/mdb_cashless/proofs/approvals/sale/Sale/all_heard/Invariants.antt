@@ -1,5 +1,4 @@
-use Rattle.std.proofs.Common.{◌≡◌}
-use Rattle.mdb_cashless.specs.ExtendedFacts.{sale_all_heard}
+use Rattle.mdb_cashless.proofs.Words.{◌≡◌, sale_all_heard}
 use Rattle.mdb_cashless.proofs.approvals.sale.Sale.all_heard.Given as goal
 
 abbrev pub invariant-loop-message : goal.invariant-loop-message

@@ -1,5 +1,4 @@
-use Rattle.std.proofs.Common.{◌∙◌, refl, sym}
-use Rattle.mdb_cashless.specs.ReaderValues.{told_in}
+use Rattle.mdb_cashless.proofs.Words.{◌∙◌, refl, sym, told_in}
 use Rattle.mdb_cashless.proofs.FactsTold.{replied}
 use Rattle.mdb_cashless.proofs.reader.facts.ReaderFacts.reply.Goals as goal
 

@@ -1,6 +1,4 @@
-use Rattle.std.proofs.Common.{◌∙◌, ap}
-use Rattle.mdb_cashless.specs.ReaderValues.{known_with}
-use Rattle.mdb_cashless.specs.shared.ReaderWays.{goes_on}
+use Rattle.mdb_cashless.proofs.Words.{◌∙◌, ap, known_with, goes_on}
 use Rattle.mdb_cashless.proofs.reader.known.ReaderKnown.learn.Goals as goal
 
 pub returns : goal.returns

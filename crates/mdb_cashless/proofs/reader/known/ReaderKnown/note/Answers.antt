@@ -1,5 +1,4 @@
-use Rattle.std.proofs.Common.{◌∙◌, ap}
-use Rattle.mdb_cashless.specs.ReaderValues.{told_in, told_with}
+use Rattle.mdb_cashless.proofs.Words.{◌∙◌, ap, told_in, told_with}
 use Rattle.mdb_cashless.proofs.KnownAfter.{known_after}
 use Rattle.mdb_cashless.proofs.reader.known.ReaderKnown.note.Goals as goal
 

@@ -1,6 +1,4 @@
-use Rattle.std.proofs.Common.{◌≡◌, ◌≤◌, ◌++◌, length}
-use Rattle.arrayvec.specs.ArrayVec.{array_vec_len}
-use Rattle.mdb_cashless.specs.inner.ReaderSaid.{IsSaid}
+use Rattle.mdb_cashless.proofs.Words.{◌≡◌, ◌≤◌, ◌++◌, length, array_vec_len, IsSaid}
 use Rattle.mdb_cashless.proofs.reader.messages.Said.read.Given as goal
 
 abbrev pub invariant-loop-message : goal.invariant-loop-message

@@ -1,8 +1,6 @@
 -- The paths of a device are led, those of the others stay.
-use Rattle.mdb_follow.proofs.ByDevice.{each}
-use Rattle.std.proofs.Common.{ap, refl, rules, ◌∙◌}
+use Rattle.mdb_explained_runs.proofs.Words.{each, ap, refl, rules, ◌∙◌, First, Second}
 use Rattle.mdb_msgs.specs.declared.command.Device.TheVariants as devices
-use Rattle.mdb_msgs.specs.declared.command.ReaderUnit.TheVariants.{First, Second}
 use Rattle.mdb_explained_runs.proofs.AllPaths.{one-leads, one-none}
 use Rattle.mdb_explained_runs.proofs.explain.all_paths.AllPaths.lead_one.Goals as goal
 

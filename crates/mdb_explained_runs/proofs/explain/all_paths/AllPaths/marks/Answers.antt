@@ -1,7 +1,6 @@
 -- The chain of a best way has the marks of that way.
-use Rattle.mdb_explained_runs.specs.inner.Chains.{Denotes}
+use Rattle.mdb_explained_runs.proofs.Words.{Denotes, if-ok}
 use Rattle.mdb_explained_runs.proofs.AllPaths.{best-chain, best-listed, best-marks}
-use Rattle.mdb_follow.proofs.Following.{if-ok}
 use Rattle.mdb_explained_runs.proofs.explain.all_paths.AllPaths.marks.Goals as goal
 
 pub read-requires : goal.read-requires

@@ -1,6 +1,5 @@
 -- A further link is a chain with one mark more.
-use Rattle.std.proofs.Common.{arith, ◌≡◌, length}
-use Rattle.mdb_explained_runs.specs.declared.explain.chains.Link.{Link}
+use Rattle.mdb_explained_runs.proofs.Words.{arith, ◌≡◌, length, Link}
 use Rattle.mdb_explained_runs.proofs.Chains.{grown, kept}
 use Rattle.mdb_explained_runs.proofs.explain.chains.Chains.push.Goals as goal
 

@@ -1,6 +1,5 @@
 -- A chain is read from its last mark to its first.
-use Rattle.std.proofs.Common.{arith, refl, ◌-◌}
-use Rattle.std.proofs.lemmas.Option.{slice_get_read}
+use Rattle.mdb_explained_runs.proofs.Words.{arith, refl, ◌-◌, slice_get_read}
 use Rattle.mdb_explained_runs.proofs.Chains.{begins, is_read, read-within, reads_on}
 use Rattle.mdb_explained_runs.proofs.explain.chains.Chains.read.Goals as goal
 

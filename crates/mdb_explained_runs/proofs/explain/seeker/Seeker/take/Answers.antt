@@ -1,6 +1,5 @@
 -- A seeker stands for one row more.
-use Rattle.std.proofs.Common.{arith, refl}
-use Rattle.mdb_bus.specs.ActLists.{acts_of}
+use Rattle.mdb_explained_runs.proofs.Words.{arith, refl, acts_of}
 use Rattle.mdb_bus.specs.Bus.{scope_of}
 use Rattle.mdb_explained_runs.proofs.Seeking.{seeks-on, still-paths, stuck, went-paths, went-within, within-more}
 use Rattle.mdb_explained_runs.proofs.explain.seeker.Seeker.take.Goals as goal

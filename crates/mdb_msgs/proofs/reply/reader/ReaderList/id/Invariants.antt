@@ -1,6 +1,4 @@
-use Rattle.std.proofs.Common.{◌≡◌, length, replicate}
-use Rattle.mdb_msgs.specs.ReaderBytes.{messages_of}
-use Rattle.mdb_msgs.specs.inner.ReaderSteps.{StandAsMessages}
+use Rattle.mdb_msgs.proofs.Words.{◌≡◌, length, replicate, messages_of, StandAsMessages}
 use Rattle.mdb_msgs.proofs.reply.reader.ReaderList.id.Given as goal
 
 abbrev pub invariant-loop-message : goal.invariant-loop-message

@@ -1,8 +1,4 @@
-use Rattle.std.proofs.Common.{◌≡◌, length}
-use Rattle.std.specs.List.{list_any}
-use Rattle.mdb_msgs.specs.Reader.{is_kept}
-use Rattle.mdb_msgs.specs.ReaderBytes.{messages_of}
-use Rattle.mdb_msgs.specs.inner.ReaderSteps.{StandAsMessages}
+use Rattle.mdb_msgs.proofs.Words.{◌≡◌, length, list_any, is_kept, messages_of, StandAsMessages}
 use Rattle.mdb_msgs.proofs.reply.reader.ReaderList.tells_of_sales.Given as goal
 
 abbrev pub invariant-loop-message : goal.invariant-loop-message
