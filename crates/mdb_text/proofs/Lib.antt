@@ -1,2 +1,1 @@
 pub mod Texts
-mod Words

@@ -1,10 +1,11 @@
 -- Texts that are written in parts.
-use Rattle.mdb_text.proofs.Words.{[], refl, ◌++◌, codes, get_or, take, flat_map, Appends}
-use Rattle.std.proofs.Common.{Bool, true, false, sym, ◌≡◌, ℕ, List, append_assoc, Option, Result, Ok, Err, length, ◌+◌, ◌<◌, ◌≤◌}
+use Rattle.std.proofs.Common.{[], Bool, true, false, refl, sym, ◌≡◌, ℕ, List, ◌++◌, append_assoc, codes, Option, Result, Ok, Err, get_or, length, ◌+◌, ◌<◌, ◌≤◌, take}
 use Rattle.std.proofs.KnownBytes.{Appends-trans}
 use Rattle.std.proofs.lemmas.List.{flat_map_more, take_all, take_more}
 use Rattle.std.specs.Fmt.{decimal}
+use Rattle.std.specs.List.{flat_map}
 use Rattle.std.specs.Prelude.{OnOk}
+use Rattle.std.specs.Io.KnownBytes.{Appends}
 use Rattle.mdb_msgs.specs.declared.device_set.DeviceSet.{DeviceSet}
 use Rattle.mdb_msgs.specs.declared.device_set.TheConstants.DeviceSet.{NONE}
 use Rattle.mdb_bus.specs.declared.untimely.Untimely.{Untimely}

@@ -1,4 +1,8 @@
-use Rattle.mdb_text.proofs.Words.{take, Appends, flat_map, account_of, account_line}
+use Rattle.std.proofs.Common.{take}
+use Rattle.std.specs.Io.KnownBytes.{Appends}
+use Rattle.std.specs.List.{flat_map}
+use Rattle.mdb_follow.specs.AccountNames.{account_of}
+use Rattle.mdb_text.specs.Text.{account_line}
 use Rattle.mdb_text.proofs.text.write_accounts.Given as goal
 
 -- the accounts so far have their lines

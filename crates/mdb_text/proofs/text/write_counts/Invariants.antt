@@ -1,4 +1,8 @@
-use Rattle.mdb_text.proofs.Words.{◌++◌, get_or, take, Appends, flat_map, device_place, count_text}
+use Rattle.std.proofs.Common.{◌++◌, get_or, take}
+use Rattle.std.specs.Io.KnownBytes.{Appends}
+use Rattle.std.specs.List.{flat_map}
+use Rattle.mdb_follow.specs.ReportedDevices.{device_place}
+use Rattle.mdb_text.specs.Text.{count_text}
 use Rattle.mdb_text.proofs.text.write_counts.Given as goal
 
 -- the devices so far have their counts

@@ -1,5 +1,8 @@
-use Rattle.mdb_text.proofs.Words.{◌++◌, codes, take, Appends, flat_map, device_decimals}
-use Rattle.mdb_text.proofs.Words.{places_text}
+use Rattle.std.proofs.Common.{◌++◌, codes, take}
+use Rattle.std.specs.Io.KnownBytes.{Appends}
+use Rattle.std.specs.List.{flat_map}
+use Rattle.mdb_follow.specs.Report.{device_decimals}
+use Rattle.mdb_text.specs.Text.{places_text}
 use Rattle.mdb_text.proofs.text.write_decimals.Given as goal
 
 -- the devices so far have their parts
