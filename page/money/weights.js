@@ -79,4 +79,4 @@ export const isEasilyOpen = (it, name, a) => isOpen(a) && enoughFor(it, name) <=
 /** @type {(it: Answer, name: string, d: number) => string} */
 export const firmWords = (it, name, d) =>
     `${ACCOUNTS[name].title}: ${money(endsOf(it, name, "device").first.value, d)}, unless ${
-        enoughFor(it, name)} acknowledgements or more were lost.`;
+        enoughFor(it, name)} or more acknowledgements were lost, restarts unseen or approvals told again.`;
