@@ -62,6 +62,6 @@ pub use Rattle.mdb_bus.specs.declared.scope.Scope.{Scope}
 pub use Rattle.mdb_bus.specs.inner.Reading.{varies}
 pub use Rattle.mdb_bus.specs.shared.Grammar.{Grammar}
 pub use Rattle.mdb_bus.specs.shared.RulePlaces.{IsFirstByPlace, place_of}
-pub use Rattle.mdb_bus.specs.shared.Step.{EachStep, SomeStep, Step, word_in}
+pub use Rattle.mdb_bus.specs.shared.Step.{EachStep, SomeStep, Step}
 pub use Rattle.mdb_bus.specs.shared.Steps.{HasAdvanced, IsAt, IsEnded, IsJudged, IsReadAt, IsSound}
 pub use Rattle.mdb_bus.specs.shared.Steps.{Leads, act_after, asked_after, pieces_after}

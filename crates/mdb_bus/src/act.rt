@@ -27,7 +27,8 @@ pub enum Act {
     Repeat(Command, Reply),
     /// Traffic that isn't followed: the first bytes of a foreign block, or a word after one.
     Foreign,
-    /// A break: the controller held its line low for this many microseconds, at least 100,000.
+    /// A break: the controller held its line low for this many microseconds, at least 100,000,
+    /// by the extended profile at least 95,000.
     Break(u64),
 }
 

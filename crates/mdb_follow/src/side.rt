@@ -44,7 +44,7 @@ pub(crate) fn start<P: Pair, const N: usize>(begins: &Beginning) -> Side<P::Fact
 /// # Errors
 ///
 /// The rule of the device, where no way leads over the act. Then nothing changes.
-// Not inlined: all four together are too large for that, and then what chooses the side is neither.
+// Not inlined: a caller that holds the four sides is too large to be inlined itself.
 #[inline(never)]
 pub(crate) fn lead<P: Pair, const N: usize>(
     side: &mut Side<P::Facts, N>,

@@ -1,5 +1,5 @@
 -- How the rows of a text are followed, and what they do to the ranges is listed.
-use Rattle.std.proofs.Common.{◌≡◌, ◌≢◌, ◌*◌, ◌^◌, ◌≤◌, ◌-ℤ◌, ℕ, Bool, true, false, List, [], ◌∷◌, ◌++◌, append-nil, flat_map, refl, sym, subst, ap, ◌∙◌, arith, Option, None, Some}
+use Rattle.std.proofs.Common.{◌≡◌, ◌≢◌, ◌*◌, ◌^◌, ◌≤◌, ◌-ℤ◌, ℕ, Bool, true, false, List, [], ◌∷◌, ◌++◌, append-nil, flat_map, refl, sym, subst, ap, ◌∙◌, arith, None}
 use Rattle.std.proofs.lemmas.Bool.Decides.{Decides-int_eq}
 use Rattle.std.proofs.lemmas.Int.{ints}
 use Rattle.mdb_words.specs.declared.event.Event.{Event}

@@ -133,8 +133,8 @@ fn is_better(value: i64, its: i64, end: &PageEnd, other: &PageEnd) -> bool {
     value < its || value == its && end.is_lighter_than(other)
 }
 
-/// How much one amount is more than another.
-fn less(one: u64, other: u64) -> i64 {
+/// By how much one amount is more than another.
+fn excess(one: u64, other: u64) -> i64 {
     signed(one).saturating_sub(signed(other))
 }
 
@@ -150,12 +150,12 @@ fn signed(amount: u64) -> i64 {
 fn added(gains: &Gains) -> [i64; SUMS] {
     let (device, controller) = (&gains.device, &gains.controller);
     [
-        less(device[0], 0),
-        less(controller[0], 0),
-        less(device[0], controller[0]),
-        less(device[1], 0),
-        less(controller[1], 0),
-        less(device[1], controller[1]),
+        excess(device[0], 0),
+        excess(controller[0], 0),
+        excess(device[0], controller[0]),
+        excess(device[1], 0),
+        excess(controller[1], 0),
+        excess(device[1], controller[1]),
     ]
 }
 

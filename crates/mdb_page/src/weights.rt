@@ -26,7 +26,8 @@ use mdb_machine::Pair;
 /// then of the second.
 ///
 /// It returns what `mdb_page_check` does, except 6, and 5 for any other device. With 1 to 5 `ends`
-/// stays as it was. `told` has the number of rows that were read, or of the row that ended it.
+/// stays as it was (this profile; tested). `told` has the number of rows that were read, or of the
+/// row that ended it.
 #[unsafe(no_mangle)]
 pub extern "C" fn mdb_page_weights(
     options: &PageOptions,
