@@ -1,3 +1,4 @@
+pub mod Words
 pub mod MarkFacts
 pub mod MarkGives
 pub mod StepFacts

@@ -1,17 +1,7 @@
 -- What a reader of lines takes and gives, where the bytes below it are known.
-use Rattle.std.proofs.Common.{◌≡◌, ◌≤◌, ◌<◌, ◌+◌, ◌-◌, ℕ, Bool, true, false, List, [], ◌∷◌, ◌++◌}
-use Rattle.std.proofs.Common.{take, drop, length, Option, Some, None, refl, sym, ap, arith, ◌∙◌}
-use Rattle.std.proofs.Common.{append_assoc, length-take-le, drop-drop, take-append-drop, take-take}
-use Rattle.std.specs.Prelude.{IfSome, ◌==◌, option_map, slice_set}
-use Rattle.std.specs.Io.KnownBytes.{Consumes, IsAtEnd, Keeps, prepend_known}
-use Rattle.std.proofs.lemmas.Bool.Decides.{nat_tests}
+use Rattle.mdb_records.proofs.Words.{◌≡◌, ◌≤◌, ◌<◌, ◌+◌, ◌-◌, ℕ, Bool, true, false, List, [], ◌∷◌, ◌++◌, take, drop, length, Option, Some, None, refl, sym, ap, arith, ◌∙◌, append_assoc, length-take-le, drop-drop, take-append-drop, take-take, IfSome, ◌==◌, option_map, slice_set, Consumes, IsAtEnd, Keeps, prepend_known, nat_tests, drop-take, take-append-le, next_record, default_config, strip_bom, TakesLine, end_of_last, BeginsLow, HasFront}
 use Rattle.std.proofs.Math.Seq.{take-append-add}
-use Rattle.std.proofs.lemmas.List.{drop-take, take-append-le}
-use Rattle.csv.specs.Machine.{next_record}
-use Rattle.csv.specs.Reading.{default_config, strip_bom}
 use Rattle.csv.specs.declared.parser.State.TheVariants as st
-use Rattle.mdb_records.specs.Lines.{TakesLine, end_of_last}
-use Rattle.mdb_records.specs.Plain.{BeginsLow, HasFront}
 use Rattle.mdb_records.specs.declared.plain.Front.TheVariants as front
 use Rattle.mdb_records.proofs.RowFacts.{after-line}
 

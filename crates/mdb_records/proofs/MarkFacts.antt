@@ -1,10 +1,6 @@
 -- How a limited reader's reads follow the text with the mark.
-use Rattle.std.proofs.Common.{◌≡◌, ◌≤◌, ◌<◌, ◌+◌, ◌-◌, ℕ, zero, suc, List, [], ◌∷◌, ◌++◌, take}
-use Rattle.std.proofs.Common.{length, Option, Some, None, false, refl, sym, ap, arith, ◌∙◌, get_or}
-use Rattle.std.proofs.lemmas.List.{length-take, take-append-le}
-use Rattle.std.specs.Prelude.{is_some}
-use Rattle.std.specs.Io.KnownBytes.{Consumes, IsAtEnd, Keeps, prepend_known}
-use Rattle.mdb_records.specs.Mark.{given_of, mark, marked}
+use Rattle.mdb_records.proofs.Words.{◌≡◌, ◌≤◌, ◌<◌, ◌+◌, ◌-◌, ℕ, zero, suc, List, [], ◌∷◌, ◌++◌, take, length, Option, Some, None, false, refl, sym, ap, arith, ◌∙◌, get_or, take-append-le, is_some, Consumes, IsAtEnd, Keeps, prepend_known, given_of, mark, marked}
+use Rattle.std.proofs.lemmas.List.{length-take}
 
 -- there is no mark at the end
 marked-nil : (left : ℕ) → marked left [] ≡ []

@@ -1,11 +1,5 @@
 -- What the limit makes of a text at whose start a byte order mark may stand.
-use Rattle.std.proofs.Common.{◌<◌, length, ◌≡◌, ◌≤◌, ◌⊎◌, inl, inr, ℕ, zero, suc, Bool, List, []}
-use Rattle.std.proofs.Common.{◌∷◌, ◌++◌, true, false, refl, ap, arith, eqb-true}
-use Rattle.std.specs.Prelude.{All, if◌then◌else◌, ◌&&◌}
-use Rattle.std.proofs.lemmas.List.Elements.{All-cons, All-nil}
-use Rattle.csv.specs.Reading.{is_bom, strip_bom}
-use Rattle.mdb_records.specs.Mark.{mark, marked}
-use Rattle.mdb_records.specs.ToCome.{Gives, HasMark}
+use Rattle.mdb_records.proofs.Words.{◌<◌, length, ◌≡◌, ◌≤◌, ◌⊎◌, inl, inr, ℕ, zero, suc, Bool, List, [], ◌∷◌, ◌++◌, true, false, refl, ap, arith, eqb-true, All, if◌then◌else◌, ◌&&◌, All-cons, All-nil, is_bom, strip_bom, mark, marked, Gives, HasMark}
 
 -- one more byte before the mark
 pub gives-cons : (b : ℕ) (text given : List ℕ) → (given ≡ text) ⊎ HasMark text given

@@ -1,18 +1,8 @@
 -- What csv reads from a text with the mark: the records before the mark, or a record that holds it.
-use Rattle.std.proofs.Common.{◌≡◌, ◌≤◌, ◌<◌, ◌⊎◌, inl, inr, ℕ, Bool, List, [], ◌∷◌, ◌++◌, Option}
-use Rattle.std.proofs.Common.{Some, None, true, false, refl, sym, ap, subst, arith, ◌∙◌}
-use Rattle.std.specs.Prelude.{⊤, All, if◌then◌else◌}
-use Rattle.std.proofs.lemmas.List.Elements.{All-head, All-tail}
-use Rattle.csv.specs.Machine.{Read, ends_at_end, field_after, fields_after, is_end, next_record}
-use Rattle.csv.specs.Machine.{step}
-use Rattle.csv.specs.Reading.{default_config}
+use Rattle.mdb_records.proofs.Words.{◌≡◌, ◌≤◌, ◌<◌, ◌⊎◌, inl, inr, ℕ, Bool, List, [], ◌∷◌, ◌++◌, Option, Some, None, true, false, refl, sym, ap, subst, arith, ◌∙◌, All, ⊤, if◌then◌else◌, All-head, All-tail, Read, ends_at_end, field_after, fields_after, is_end, next_record, step, default_config, State, Action, mark}
 use Rattle.csv.specs.declared.parser.Config.{Config}
-use Rattle.csv.specs.declared.parser.State.{State}
-use Rattle.csv.specs.declared.parser.Action.{Action}
 use Rattle.csv.specs.declared.parser.Action.TheVariants as act
-use Rattle.mdb_records.specs.Mark.{mark}
-use Rattle.mdb_records.proofs.StepFacts.{after_copy, inside-after_copy, inside-ends, is_inside}
-use Rattle.mdb_records.proofs.StepFacts.{is_plain, plain-after_copy, step-copy, step-steps}
+use Rattle.mdb_records.proofs.StepFacts.{after_copy, inside-after_copy, inside-ends, is_inside, is_plain, plain-after_copy, step-copy, step-steps}
 
 -- each number is a byte
 unfoldable pub IsBytes : List ℕ → Type 0

@@ -1,12 +1,5 @@
 -- The parts of a text, one more, and the one at a place.
-use Rattle.std.proofs.Common.{◌≡◌, ◌≤◌, ◌<◌, ◌+◌, ◌-◌, ℕ, zero, suc, List, [], ◌∷◌, ◌++◌, take}
-use Rattle.std.proofs.Common.{drop, get_or, length, None, Some, refl, ap, arith}
-use Rattle.std.specs.Prelude.{IsSome}
-use Rattle.csv.specs.Records.{field_at}
-use Rattle.mdb_records.specs.Parts.{AreWithin, parted, start_at}
-use Rattle.mdb_records.specs.SetUp.{reader_in}
-use Rattle.mdb_records.specs.Stage.{ends_on, line_on}
-use Rattle.mdb_records.specs.declared.stage.Stage.{Stage}
+use Rattle.mdb_records.proofs.Words.{◌≡◌, ◌≤◌, ◌<◌, ◌+◌, ◌-◌, ℕ, zero, suc, List, [], ◌∷◌, ◌++◌, take, drop, get_or, length, None, Some, refl, ap, arith, IsSome, field_at, AreWithin, parted, start_at, reader_in, ends_on, line_on, Stage}
 use Rattle.mdb_records.specs.declared.stage.Stage.TheVariants.{Between, Csv, Lines}
 
 -- where the part after those begins that end at these places

@@ -1,17 +1,7 @@
 -- How csv's machine reads a line with no quote.
-use Rattle.std.proofs.Common.{◌≡◌, ◌≤◌, ◌<◌, ◌+◌, ◌-◌, ℕ, zero, suc, Bool, true, false, List, []}
-use Rattle.std.proofs.Common.{◌∷◌, ◌++◌, take, drop, get_or, length, length-drop, length-take, Some}
-use Rattle.std.proofs.Common.{refl, ap, arith, ◌∙◌, append_assoc}
-use Rattle.std.specs.Prelude.{All, ◌==◌, ◌||◌}
-use Rattle.std.proofs.lemmas.List.{drop_more, get_or-drop, take_more}
-use Rattle.std.proofs.lemmas.List.Elements.{All-append, All-cons, All-head, All-nil, All-tail}
-use Rattle.csv.specs.Machine.{Runs, next_record, step}
-use Rattle.csv.specs.Reading.{default_config}
-use Rattle.csv.specs.declared.parser.State.{State}
+use Rattle.mdb_records.proofs.Words.{◌≡◌, ◌≤◌, ◌<◌, ◌+◌, ◌-◌, ℕ, zero, suc, Bool, true, false, List, [], ◌∷◌, ◌++◌, take, drop, get_or, length, length-drop, length-take, Some, refl, ap, arith, ◌∙◌, append_assoc, All, ◌==◌, ◌||◌, drop_more, get_or-drop, take_more, All-append, All-cons, All-head, All-nil, All-tail, Runs, next_record, step, default_config, State, part-rest, run-copies, is_special}
 use Rattle.csv.specs.declared.parser.State.TheVariants as st
 use Rattle.csv.specs.declared.parser.Action.TheVariants as act
-use Rattle.csv.proofs.ReadFacts.{part-rest, run-copies}
-use Rattle.mdb_records.specs.Plain.{is_special}
 use Rattle.mdb_records.proofs.StepFacts.{after_copy, is_plain, step-other}
 
 -- of two tests that fail together each fails

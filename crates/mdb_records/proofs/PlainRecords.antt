@@ -1,19 +1,10 @@
 -- Records of three plain fields, which are written without quotes, one line each: what is read of
 -- their text.
-use Rattle.std.proofs.Common.{arith, refl, ap, ◌∙◌, ◌≡◌, ◌+◌, ◌<◌, ◌≤◌, ℕ, zero, suc, false, List}
-use Rattle.std.proofs.Common.{[], ◌∷◌, ◌++◌, length, length-append, append_assoc, map, All, ne_eqb}
-use Rattle.std.proofs.Common.{flat_map}
+use Rattle.mdb_records.proofs.Words.{arith, refl, ap, ◌∙◌, ◌≡◌, ◌+◌, ◌<◌, ◌≤◌, ℕ, zero, suc, false, List, [], ◌∷◌, ◌++◌, length, length-append, append_assoc, map, All, ne_eqb, flat_map, ⊤, append-nil, All-head, All-tail, next_record, default_config, records, records_from, strip_bom, joined_by_commas}
 use Rattle.std.specs.List.{list_any}
-use Rattle.std.specs.Prelude.{⊤}
-use Rattle.std.proofs.lemmas.List.{append-nil}
-use Rattle.std.proofs.lemmas.List.Elements.{All-head, All-tail}
-use Rattle.csv.specs.Machine.{next_record}
-use Rattle.csv.specs.Reading.{default_config, records, records_from, strip_bom}
-use Rattle.csv.specs.Writing.{default_writer, field_text, fields_text, is_blank, needs_byte}
-use Rattle.csv.specs.Writing.{read_back, row_text}
+use Rattle.csv.specs.Writing.{default_writer, field_text, fields_text, is_blank, needs_byte, read_back, row_text}
 use Rattle.csv.specs.declared.parser.State.TheVariants as st
 use Rattle.csv.proofs.RoundTrip.{read-write, rows_text}
-use Rattle.mdb_words.specs.RowsWritten.{joined_by_commas}
 
 -- the line of a record
 abbrev record_line : List (List ℕ) → List ℕ

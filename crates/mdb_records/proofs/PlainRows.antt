@@ -1,7 +1,5 @@
 -- The fields of rows as they are written: plain ones, which tell those rows.
-use Rattle.std.proofs.Common.{arith, refl, ◌/◌, ◌%◌, ◌^◌, ◌<◌, ℕ, true, List, [], ◌∷◌, All}
-use Rattle.std.proofs.lemmas.Bool.Decides.{nat_tests}
-use Rattle.std.proofs.lemmas.List.Elements.{All-nil, All-cons, All-weaker}
+use Rattle.mdb_records.proofs.Words.{arith, refl, ◌/◌, ◌%◌, ◌^◌, ◌<◌, ℕ, true, List, [], ◌∷◌, All, nat_tests, All-nil, All-cons, All-weaker, hex_word, row_fields}
 use Rattle.std.specs.Char.{IsAsciiDigit}
 use Rattle.std.specs.Fmt.{decimal, digit_glyph}
 use Rattle.mdb_words.specs.declared.event.Event.{Event}
@@ -9,7 +7,6 @@ use Rattle.mdb_words.specs.declared.event.Event.TheVariants.{Word, Break}
 use Rattle.mdb_words.specs.declared.word.Line.{Line}
 use Rattle.mdb_words.specs.declared.word.Line.TheVariants.{Controller, Peripheral}
 use Rattle.mdb_words.specs.Digits.{IsDecimal}
-use Rattle.mdb_words.specs.RowsWritten.{hex_word, row_fields}
 use Rattle.mdb_words.specs.Row.{IsRow, break_letter, letter_of}
 use Rattle.mdb_records.proofs.PlainRecords.{IsPlain, IsPlainByte}
 use Rattle.mdb_words.proofs.Numerals.{IsDecimal-decimal, IsDecimal-lt, IsHexWord-hex_word}

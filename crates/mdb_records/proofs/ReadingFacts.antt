@@ -1,37 +1,16 @@
 -- One read of a reader of records, as a step along the records to come.
-use Rattle.std.proofs.Common.{◌≡◌, ◌<◌, ◌≤◌, ◌+◌, ◌-◌, ℕ, zero, suc, Bool, List, [], ◌∷◌, ◌++◌, ◌⊎◌}
-use Rattle.std.proofs.Common.{ap, length, take, drop, Option, Some, None, true, false, inl, inr}
-use Rattle.std.proofs.Common.{refl, ◌∙◌}
-use Rattle.std.specs.Prelude.{All, Err, IfOk, IfSome, Ok, Result, is_none, option_map}
-use Rattle.std.proofs.lemmas.List.Elements.{All-head, All-tail}
+use Rattle.mdb_records.proofs.Words.{◌≡◌, ◌<◌, ◌≤◌, ◌+◌, ◌-◌, ℕ, zero, suc, Bool, List, [], ◌∷◌, ◌++◌, ◌⊎◌, ap, length, take, drop, Option, Some, None, true, false, inl, inr, refl, ◌∙◌, All, Ok, Err, IfOk, IfSome, Result, is_none, option_map, All-head, All-tail, Keeps, Read, ends_at_end, next_record, AreRecords, ReadRecord, Reached, Ready, default_config, reader_headers, reader_state, records, strip_bom, took_first, Row, cut_from, fields_of, text_of, rows-end, rows-more, State, parted, ReadsWhatStands, given_of, mark, marked, TakesLine, Tells, line, lines_given, lines_remaining, ReadsNext, StandsAfter, StandsAt, fields_at, Advances, HasMark, IsOverLimit, IsUncut, ToCome, current_fields, Stage}
 use Rattle.std.proofs.lemmas.Bool.{cases_Bool}
-use Rattle.std.specs.Io.KnownBytes.{Keeps}
-use Rattle.csv.specs.Machine.{Read, ends_at_end, next_record}
-use Rattle.csv.specs.Reading.{AreRecords, ReadRecord, Reached, Ready, default_config}
-use Rattle.csv.specs.Reading.{reader_headers, reader_state, records, strip_bom, took_first}
 use Rattle.csv.specs.Records as csv
-use Rattle.csv.specs.Records.{Row, cut_from, fields_of, text_of}
-use Rattle.csv.proofs.ReadFacts.{rows-end, rows-more}
-use Rattle.csv.specs.declared.parser.State.{State}
 use Rattle.csv.specs.declared.parser.State.TheVariants as st
 use Rattle.csv.specs.declared.reader.Headers.{Headers}
 use Rattle.csv.specs.declared.reader.Reader.{Reader}
-use Rattle.mdb_records.specs.Parts.{parted}
-use Rattle.mdb_records.specs.SetUp.{ReadsWhatStands}
-use Rattle.mdb_records.specs.Mark.{given_of, mark, marked}
-use Rattle.mdb_records.specs.Lines.{TakesLine, Tells, line, lines_given, lines_remaining}
-use Rattle.mdb_records.specs.Stage.{ReadsNext, StandsAfter, StandsAt, fields_at}
-use Rattle.mdb_records.specs.ToCome.{Advances, HasMark, IsOverLimit, IsUncut, ToCome}
-use Rattle.mdb_records.specs.ToCome.{current_fields}
 use Rattle.mdb_records.specs.declared.Records.{Records}
 use Rattle.mdb_records.specs.declared.lines.Lines.{Lines}
-use Rattle.mdb_records.specs.declared.stage.Stage.{Stage}
 use Rattle.mdb_records.specs.declared.stage.Stage.TheVariants as stage
-use Rattle.mdb_records.proofs.MarkGives.{gives-cons, gives-stripped, marked-within, stripped-over}
-use Rattle.mdb_records.proofs.MarkGives.{whole}
+use Rattle.mdb_records.proofs.MarkGives.{gives-cons, gives-stripped, marked-within, stripped-over, whole}
 use Rattle.mdb_records.proofs.MarkedRecords.{AreBytes, IsBytes, marked-none, marked-some}
-use Rattle.mdb_records.proofs.RowFacts.{are-records, are-records-after_line, between-after}
-use Rattle.mdb_records.proofs.RowFacts.{gives-none, gives-some}
+use Rattle.mdb_records.proofs.RowFacts.{are-records, are-records-after_line, between-after, gives-none, gives-some}
 use Rattle.mdb_records.proofs.StepFacts.{plain-between}
 
 -- a list of bytes, part by part

@@ -1,13 +1,6 @@
 -- The records that are still to come, one after the other.
-use Rattle.std.proofs.Common.{◌≡◌, ◌≤◌, ◌<◌, ◌+◌, ◌⊎◌, inl, inr, ℕ, zero, suc, List, [], ◌∷◌, ◌++◌}
-use Rattle.std.proofs.Common.{length, Option, Some, None, true, false, refl, ap, subst, arith, ◌∙◌}
-use Rattle.csv.specs.Machine.{Read, ends_at_end, is_end, next_record}
-use Rattle.csv.specs.Machine.{step}
-use Rattle.csv.specs.Reading.{AreRecords, Reached, default_config, records, records_from}
-use Rattle.csv.specs.Reading.{records_next}
-use Rattle.csv.specs.declared.parser.State.{State}
+use Rattle.mdb_records.proofs.Words.{◌≡◌, ◌≤◌, ◌<◌, ◌+◌, ◌⊎◌, inl, inr, ℕ, zero, suc, List, [], ◌∷◌, ◌++◌, length, Option, Some, None, true, false, refl, ap, subst, arith, ◌∙◌, Read, ends_at_end, is_end, next_record, step, AreRecords, Reached, default_config, records, records_from, records_next, State, Gives, HasMark}
 use Rattle.csv.specs.declared.parser.State.TheVariants as st
-use Rattle.mdb_records.specs.ToCome.{Gives, HasMark}
 use Rattle.mdb_records.proofs.MarkedRecords.{AreBytes, chosen, cut-some, marked-none, marked-some}
 use Rattle.mdb_records.proofs.StepFacts.{plain-between, step-steps, is_plain}
 

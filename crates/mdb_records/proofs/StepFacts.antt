@@ -1,12 +1,6 @@
 -- What one byte does to csv's machine under the default settings.
-use Rattle.std.proofs.Common.{◌≡◌, ◌≤◌, ◌<◌, ℕ, Bool, true, false, refl, arith}
-use Rattle.std.specs.Prelude.{◌==◌, ◌||◌, if◌then◌else◌}
-use Rattle.std.proofs.lemmas.Bool.Decides.{nat_tests}
-use Rattle.csv.specs.Machine.{after_end, ends_at_end, in_field, is_end, step}
-use Rattle.csv.specs.Reading.{default_config}
-use Rattle.csv.specs.declared.parser.State.{State}
+use Rattle.mdb_records.proofs.Words.{◌≡◌, ◌≤◌, ◌<◌, ℕ, Bool, true, false, refl, arith, ◌==◌, ◌||◌, if◌then◌else◌, nat_tests, after_end, ends_at_end, in_field, is_end, step, default_config, State, Action}
 use Rattle.csv.specs.declared.parser.State.TheVariants as st
-use Rattle.csv.specs.declared.parser.Action.{Action}
 use Rattle.csv.specs.declared.parser.Action.TheVariants as act
 use Rattle.csv.specs.declared.parser.Terminator.TheVariants as term
 

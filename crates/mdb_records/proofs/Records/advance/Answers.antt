@@ -1,9 +1,8 @@
 -- The next record is told by a reader of lines, or read by csv from where that stands.
-use Rattle.std.proofs.Common.{refl}
+use Rattle.mdb_records.proofs.Words.{refl}
 use Rattle.mdb_records.proofs.Records.advance.Goals as goal
 use Rattle.mdb_records.proofs.Records.advance.Goals.{in-Lines+in-Ok-None, in_default-stage}
-use Rattle.mdb_records.proofs.ReadingFacts.{IfOk-map, line-goes-on, line-over, lines-stand}
-use Rattle.mdb_records.proofs.ReadingFacts.{same-over, same-to-come}
+use Rattle.mdb_records.proofs.ReadingFacts.{IfOk-map, line-goes-on, line-over, lines-stand, same-over, same-to-come}
 
 pub returns-in-Ok-Some-clause-next : goal.returns-in-Ok-Some-clause-next
 returns-in-Ok-Some-clause-next g c = rw c.in-Ok-Some.found-is (λ rows h.

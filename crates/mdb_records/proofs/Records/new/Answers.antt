@@ -1,8 +1,4 @@
-use Rattle.std.proofs.Common.{◌≡◌, None, refl}
-use Rattle.std.specs.Prelude.{option_map}
-use Rattle.csv.specs.Reading.{strip_bom}
-use Rattle.mdb_records.specs.Lines.{lines_given}
-use Rattle.mdb_records.specs.Mark.{given_of}
+use Rattle.mdb_records.proofs.Words.{◌≡◌, None, refl, option_map, strip_bom, lines_given, given_of}
 use Rattle.mdb_records.proofs.LineFacts.{gives-below}
 use Rattle.mdb_records.proofs.ReadingFacts.{new-over, new-to-come, new-within}
 use Rattle.mdb_records.proofs.Records.new.Goals as goal

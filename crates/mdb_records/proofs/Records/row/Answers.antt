@@ -1,4 +1,4 @@
-use Rattle.std.proofs.Common.{refl}
+use Rattle.mdb_records.proofs.Words.{refl}
 use Rattle.mdb_records.proofs.ReadingFacts.{fields-by-csv}
 use Rattle.mdb_records.proofs.Records.row.Goals as goal
 use Rattle.mdb_records.proofs.Records.row.Goals.{in-Lines, in_default}

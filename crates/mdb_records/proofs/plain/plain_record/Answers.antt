@@ -1,7 +1,5 @@
-use Rattle.std.proofs.Common.{◌≡◌, ◌<◌, ◌+◌, [], ◌∷◌, ◌++◌, refl, length, arith}
-use Rattle.mdb_records.specs.Parts.{parted}
-use Rattle.mdb_records.proofs.PartFacts.{Rise, next-after, next_start, parted-more, rise-later}
-use Rattle.mdb_records.proofs.PartFacts.{rise-more, rise-within}
+use Rattle.mdb_records.proofs.Words.{◌≡◌, ◌<◌, ◌+◌, [], ◌∷◌, ◌++◌, refl, length, arith, parted}
+use Rattle.mdb_records.proofs.PartFacts.{Rise, next-after, next_start, parted-more, rise-later, rise-more, rise-within}
 use Rattle.mdb_records.proofs.PlainFacts.{none-own, own-front, own-more, reads-field, reads-line}
 use Rattle.mdb_records.proofs.plain.plain_record.Goals as goal
 use Rattle.mdb_records.proofs.plain.plain_record.Goals.{in-Own, in-Comma+in_ok-add_end-in-Comma}

@@ -1,6 +1,4 @@
-use Rattle.std.specs.Prelude.{◌≡◌, ◌≤◌, ◌-◌, All, false, length, take, drop}
-use Rattle.mdb_records.specs.Parts.{parted}
-use Rattle.mdb_records.specs.Plain.{is_special}
+use Rattle.mdb_records.proofs.Words.{parted, is_special, ◌≡◌, ◌≤◌, ◌-◌, All, false, length, take, drop}
 use Rattle.mdb_records.proofs.PartFacts.{Rise, next_start}
 use Rattle.mdb_records.proofs.PlainFacts.{ReadsOnAt}
 use Rattle.mdb_records.proofs.plain.plain_record.Given as goal

@@ -1,5 +1,4 @@
-use Rattle.std.proofs.Common.{◌≡◌, ◌<◌, refl, arith}
-use Rattle.mdb_records.specs.Parts.{start_at}
+use Rattle.mdb_records.proofs.Words.{◌≡◌, ◌<◌, refl, arith, start_at}
 use Rattle.mdb_records.proofs.PartFacts.{none-at, part-at, start-after}
 use Rattle.mdb_records.proofs.record.part.Goals as goal
 use Rattle.mdb_records.proofs.record.part.Goals.{else-place-eq0, then-place-eq0}

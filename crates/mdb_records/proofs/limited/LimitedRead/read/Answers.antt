@@ -1,5 +1,4 @@
-use Rattle.std.proofs.Common.{◌≡◌, ◌<◌, ℕ, length, sym, ◌∙◌, arith, length-append, length-drop}
-use Rattle.std.proofs.lemmas.Bool.Decides.{nat_tests}
+use Rattle.mdb_records.proofs.Words.{◌≡◌, ◌<◌, ℕ, length, sym, ◌∙◌, arith, length-append, length-drop, nat_tests}
 use Rattle.mdb_records.proofs.limited.LimitedRead.read.Goals as goal
 use Rattle.mdb_records.proofs.MarkFacts.{end-at-limit, past-limit, under-limit}
 

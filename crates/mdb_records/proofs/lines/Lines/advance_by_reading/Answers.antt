@@ -1,5 +1,4 @@
-use Rattle.std.proofs.Common.{◌≡◌, ◌-◌, ◌∙◌, sym}
-use Rattle.mdb_records.specs.Lines.{limited_remaining}
+use Rattle.mdb_records.proofs.Words.{◌≡◌, ◌-◌, ◌∙◌, sym, limited_remaining}
 use Rattle.mdb_records.proofs.LineFacts.{ends-text, keeps-on}
 use Rattle.mdb_records.proofs.lines.Lines.advance_by_reading.Goals as goal
 

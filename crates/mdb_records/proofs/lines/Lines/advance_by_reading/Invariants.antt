@@ -1,6 +1,4 @@
-use Rattle.std.specs.Prelude.{◌≡◌, []}
-use Rattle.std.specs.Io.KnownBytes.{Keeps}
-use Rattle.mdb_records.specs.Lines.{lines_given}
+use Rattle.mdb_records.proofs.Words.{Keeps, lines_given, ◌≡◌, []}
 use Rattle.mdb_records.proofs.lines.Lines.advance_by_reading.Given as goal
 
 -- nothing was taken so far, and no part of a line was found

@@ -1,6 +1,5 @@
-use Rattle.std.proofs.Common.{◌≡◌, ◌+◌, ◌-◌, take, arith}
+use Rattle.mdb_records.proofs.Words.{◌≡◌, ◌+◌, ◌-◌, take, arith, limited_remaining, unread}
 use borrow.Rule.Slice.PartMut.{post_of}
-use Rattle.mdb_records.specs.Lines.{limited_remaining, unread}
 use Rattle.mdb_records.proofs.LineFacts.{filled-keeps, filled-unread}
 use Rattle.mdb_records.proofs.lines.Lines.fill.Goals as goal
 

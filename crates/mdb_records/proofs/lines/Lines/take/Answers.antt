@@ -1,11 +1,8 @@
-use Rattle.std.proofs.Common.{◌≡◌, ◌≤◌, ◌-◌, false, arith, drop, length-take, Ok, ap}
-use Rattle.mdb_records.specs.Lines.{limited_remaining, unread}
-use Rattle.mdb_records.specs.Plain.{BeginsLow}
+use Rattle.mdb_records.proofs.Words.{◌≡◌, ◌≤◌, ◌-◌, false, arith, drop, length-take, Ok, ap, limited_remaining, unread, BeginsLow}
 use Rattle.mdb_records.proofs.LineFacts.{takes-line, unread-dropped}
 use Rattle.mdb_records.proofs.PartFacts.{within-more}
 use Rattle.mdb_records.proofs.lines.Lines.take.Goals as goal
-use Rattle.mdb_records.proofs.lines.Lines.take.Goals.{else-not-self-via-then-not-self+else-begins_high}
-use Rattle.mdb_records.proofs.lines.Lines.take.Goals.{else-not-self-via-else-not-self}
+use Rattle.mdb_records.proofs.lines.Lines.take.Goals.{else-not-self-via-then-not-self+else-begins_high, else-not-self-via-else-not-self}
 
 pub returns-in-Ok-Line-clause-steps : goal.returns-in-Ok-Line-clause-steps
 returns-in-Ok-Line-clause-steps g c =

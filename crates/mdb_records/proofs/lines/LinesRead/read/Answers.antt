@@ -1,8 +1,5 @@
-use Rattle.std.proofs.Common.{◌≡◌, ◌<◌, ◌≤◌, ◌-◌, length, arith, rules}
-use Rattle.std.proofs.lemmas.Bool.Decides.{nat_tests}
-use Rattle.mdb_records.specs.Lines.{limited_remaining, unread}
-use Rattle.mdb_records.proofs.LineFacts.{copied-front, gives-below, gives-end, gives-unread}
-use Rattle.mdb_records.proofs.LineFacts.{unread-dropped}
+use Rattle.mdb_records.proofs.Words.{◌≡◌, ◌<◌, ◌≤◌, ◌-◌, length, arith, rules, nat_tests, limited_remaining, unread}
+use Rattle.mdb_records.proofs.LineFacts.{copied-front, gives-below, gives-end, gives-unread, unread-dropped}
 use Rattle.mdb_records.proofs.lines.LinesRead.read.Goals as goal
 
 pub returns-then-self-clause-bytes : goal.returns-then-self-clause-bytes

@@ -1,4 +1,4 @@
-use Rattle.std.proofs.Common.{sym}
+use Rattle.mdb_records.proofs.Words.{sym}
 use Rattle.mdb_records.proofs.PartFacts.{length-parted}
 use Rattle.mdb_records.proofs.record.Record.len.Goals as goal
 

@@ -1,6 +1,4 @@
-use Rattle.std.proofs.Common.{ap}
-use Rattle.csv.specs.Records.{fields_of}
-use Rattle.mdb_records.specs.SetUp.{reader_in}
+use Rattle.mdb_records.proofs.Words.{ap, fields_of, reader_in}
 use Rattle.mdb_records.proofs.ReadingFacts.{csv-reads, set-up-ready}
 use Rattle.mdb_records.proofs.stage.Stage.read_by_csv.Goals as goal
 
