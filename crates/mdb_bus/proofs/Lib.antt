@@ -1,5 +1,6 @@
 pub mod Backward
 pub mod BaseAlone
+pub mod Breaks
 pub mod Commands
 pub mod Decided
 pub mod EachSteps

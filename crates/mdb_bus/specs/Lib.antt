@@ -1,6 +1,7 @@
 pub mod Acts
 pub mod ActLists
 pub mod Bus
+pub mod ClosedPieces
 pub mod ExtendedCounts
 pub mod ExtendedFormats
 pub mod ExtendedHaste
