@@ -1,9 +1,5 @@
 -- The tables of digits: each entry by its rule.
-use Rattle.std.proofs.Common.{◌≡◌, ℕ, zero, suc, ◌+◌, ◌-◌, ◌*◌, ◌/◌, ◌%◌, ◌^◌, ◌<◌, ◌≤◌, List, [], Bool, true, ◌&&◌, nat_eq, nat_lt, cond, get_or, refl, inl, inr, arith}
-use Rattle.std.proofs.lemmas.Bool.{cases_eq}
-use Rattle.std.proofs.lemmas.Bool.Decides.{nat_tests}
-use Rattle.std.specs.Char.{digit_value}
-use Rattle.mdb_words.specs.inner.Counts.{IsCount}
+use Rattle.mdb_words.proofs.Words.{◌≡◌, ℕ, zero, suc, ◌+◌, ◌-◌, ◌*◌, ◌/◌, ◌%◌, ◌^◌, ◌<◌, ◌≤◌, List, [], Bool, true, ◌&&◌, nat_eq, nat_lt, cond, get_or, refl, inl, inr, arith, cases_eq, nat_tests, digit_value, IsCount}
 use Rattle.mdb_words.specs.declared.tables.TheConstants.{DECIMAL, HEX, POWERS}
 
 -- a digit's entry, where its value is below the base, else an entry for none

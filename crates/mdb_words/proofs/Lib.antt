@@ -1,3 +1,4 @@
+pub mod Words
 pub mod Entries
 pub mod Numerals
 pub mod Rows

@@ -1,23 +1,13 @@
 -- Fields of digits: std's words of digits are those of `specs/Digits.antt`.
-use Rattle.std.proofs.Common.{◌≡◌, ℕ, zero, suc, ◌+◌, ◌-◌, ◌*◌, ◌/◌, ◌%◌, ◌^◌, ◌<◌, ◌≤◌, true, Option, None, Some, List, [], ◌∷◌, ◌++◌, append_assoc, length, get_or, map, take, drop, length-drop, length-append, All, refl, sym, ap, subst, inl, inr, ◌∙◌, arith}
+use Rattle.mdb_words.proofs.Words.{◌≡◌, ℕ, zero, suc, ◌+◌, ◌-◌, ◌*◌, ◌/◌, ◌%◌, ◌^◌, ◌<◌, ◌≤◌, true, Option, None, Some, List, [], ◌∷◌, ◌++◌, append_assoc, length, get_or, map, take, drop, length-drop, length-append, All, refl, sym, ap, subst, inl, inr, ◌∙◌, arith, cases_lt, nat_tests, decimal_is_IsNumeral, decimal_digit, decimal_step, length-decimal-le, All-nil, All-cons, All-head, All-tail, IsAsciiDigit, IsAsciiHexdigit, digit_value, decimal, digit_glyph, SomeIff, IfSome, IfNone, IsDecimal, IsHexWord, positional, IsCount, IsCounted, hex_word}
 use Rattle.std.proofs.Math.Nat.{pow-zero, pow-succ', pow-le-pow_right}
 use Rattle.std.proofs.Math.ListN.{length-map}
-use Rattle.std.proofs.lemmas.Bool.{cases_lt}
-use Rattle.std.proofs.lemmas.Bool.Decides.{nat_tests}
 use Rattle.std.proofs.lemmas.Int.Digits.{digits_value-lt}
-use Rattle.std.proofs.lemmas.Fmt.{decimal_is_IsNumeral, decimal_digit, decimal_step, length-decimal-le}
 use Rattle.std.proofs.lemmas.List.{take-append-drop, take_all}
-use Rattle.std.proofs.lemmas.List.Elements.{All-nil, All-cons, All-head, All-tail}
 use Rattle.std.proofs.lemmas.Str.{digit_value_digit}
 use Rattle.std.proofs.lemmas.Str.Parse.{digit_from_value}
-use Rattle.std.specs.Char.{IsAsciiDigit, IsAsciiHexdigit, digit_value}
-use Rattle.std.specs.Fmt.{decimal, digit_glyph}
 use Rattle.std.specs.Prelude.{⊤}
-use Rattle.std.specs.Option.{SomeIff, IfSome, IfNone}
 use Rattle.std.specs.Str.Parse.{AllDigits, digits_value, digits_value_after}
-use Rattle.mdb_words.specs.Digits.{IsDecimal, IsHexWord, positional}
-use Rattle.mdb_words.specs.inner.Counts.{IsCount, IsCounted}
-use Rattle.mdb_words.specs.RowsWritten.{hex_word}
 
 -- numbers of digits in a base
 

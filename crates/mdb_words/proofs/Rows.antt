@@ -1,16 +1,10 @@
 -- What reading and writing rows answer: one event or one refusal, and the row as it is written.
-use Rattle.std.proofs.Common.{◌≡◌, ◌≢◌, ℕ, ◌/◌, ◌%◌, ◌^◌, true, All, ◌<◌, ◌≤◌, List, [], ◌∷◌, length, get_or, map, inl, inr, refl, ap, arith, Option, None, Some, IfSome, IfNone, Result, Ok, Err, IfErr}
+use Rattle.mdb_words.proofs.Words.{◌≡◌, ◌≢◌, ℕ, ◌/◌, ◌%◌, ◌^◌, true, All, ◌<◌, ◌≤◌, List, [], ◌∷◌, length, get_or, map, inl, inr, refl, ap, arith, Option, None, Some, Result, Ok, Err, IfErr, ok_or, nat_tests, All-nil, All-cons, All-weaker, IsAsciiDigit, decimal, digit_glyph, IsDecimal, hex_word, IsFieldByte, row_fields}
+use Rattle.std.proofs.Common.{IfSome, IfNone}
 use Rattle.std.specs.Borrow.{Bor}
-use Rattle.std.specs.Option.{ok_or}
-use Rattle.std.proofs.lemmas.Bool.Decides.{nat_tests}
 use Rattle.std.proofs.lemmas.Grind.{common_steps}
-use Rattle.std.proofs.lemmas.List.Elements.{All-nil, All-cons, All-weaker}
-use Rattle.std.specs.Char.{IsAsciiDigit}
-use Rattle.std.specs.Fmt.{decimal, digit_glyph}
 use Rattle.mdb_words.proofs.Numerals.{IsDecimal-decimal, IsHexWord-hex_word, decimal_digits}
 use Rattle.mdb_words.specs.Event.{start_of}
-use Rattle.mdb_words.specs.Digits.{IsDecimal}
-use Rattle.mdb_words.specs.RowsWritten.{hex_word, IsFieldByte, row_fields}
 use Rattle.mdb_words.specs.Row.{IsRow, break_letter, letter_of}
 use Rattle.mdb_words.specs.Refusals.{IsLetter, IsRefusal, Tells}
 use Rattle.mdb_words.specs.declared.event.Event.{Event}

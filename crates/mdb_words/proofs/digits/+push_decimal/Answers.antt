@@ -1,4 +1,4 @@
-use Rattle.std.proofs.Common.{ap, ◌∙◌, arith}
+use Rattle.mdb_words.proofs.Words.{ap, ◌∙◌, arith}
 use Rattle.mdb_words.proofs.Numerals.{decimal_append, decimal_append_digit, decimal_append_digit_room, decimal_append_room, decimal_longer}
 use Rattle.mdb_words.proofs.digits.+push_decimal.Goals as goal
 use Rattle.mdb_words.proofs.digits.+push_decimal.Goals.{then-number-ge10, else-number-ge10}

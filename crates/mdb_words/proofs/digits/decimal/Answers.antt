@@ -1,4 +1,4 @@
-use Rattle.std.proofs.Common.{arith}
+use Rattle.mdb_words.proofs.Words.{arith}
 use Rattle.mdb_words.proofs.Entries.{decimal_at, decimal_most}
 use Rattle.mdb_words.proofs.digits.decimal.Goals as goal
 

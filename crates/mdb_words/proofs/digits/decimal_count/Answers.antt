@@ -1,5 +1,5 @@
 -- What the bytes of a field count together is told by what each counts at its place.
-use Rattle.std.proofs.Common.{[], ◌∷◌, arith}
+use Rattle.mdb_words.proofs.Words.{[], ◌∷◌, arith}
 use Rattle.mdb_words.proofs.Numerals.{counted_at}
 use Rattle.mdb_words.proofs.digits.decimal_count.Goals as goal
 

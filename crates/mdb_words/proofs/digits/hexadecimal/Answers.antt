@@ -1,4 +1,4 @@
-use Rattle.std.proofs.Common.{arith}
+use Rattle.mdb_words.proofs.Words.{arith}
 use Rattle.mdb_words.proofs.Entries.{hex_at, hex_most}
 use Rattle.mdb_words.proofs.digits.hexadecimal.Goals as goal
 

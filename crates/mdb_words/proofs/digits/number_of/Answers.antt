@@ -1,5 +1,5 @@
 -- The number of up to 15 digits is put together from two of up to 8.
-use Rattle.std.proofs.Common.{◌∙◌, ap, length, arith}
+use Rattle.mdb_words.proofs.Words.{◌∙◌, ap, length, arith}
 use Rattle.mdb_words.proofs.Entries.{power_at}
 use Rattle.mdb_words.proofs.Numerals.{IsSoFar, eight_so_far, goes_on, small_number, none_so_far}
 use Rattle.mdb_words.proofs.digits.number_of.Goals.{Joined-digits-lt8, then-digits-lt8, else-digits-lt8+in_ok-number_of_few}

@@ -1,5 +1,4 @@
-use Rattle.std.proofs.Common.{◌≤◌, length, arith}
-use Rattle.std.proofs.lemmas.Bool.Decides.{nat_tests}
+use Rattle.mdb_words.proofs.Words.{◌≤◌, length, arith, nat_tests}
 use Rattle.mdb_words.proofs.Numerals.{decimal_some, decimal_none}
 use Rattle.mdb_words.proofs.digits.read_decimal.Goals as goal
 

@@ -1,4 +1,4 @@
-use Rattle.std.proofs.Common.{arith}
+use Rattle.mdb_words.proofs.Words.{arith}
 use Rattle.mdb_words.proofs.Numerals.{hex_none, hex_some}
 use Rattle.mdb_words.proofs.digits.read_hex_word.Goals as goal
 

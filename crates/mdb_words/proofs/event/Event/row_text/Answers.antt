@@ -1,8 +1,5 @@
 -- A row is written as the event says, and has room.
-use Rattle.std.proofs.Common.{◌≡◌, ◌≤◌, length, length-append, ap, arith}
-use Rattle.std.proofs.lemmas.Fmt.{length-decimal-le}
-use Rattle.std.specs.Fmt.{decimal}
-use Rattle.mdb_words.specs.RowsWritten.{hex_word}
+use Rattle.mdb_words.proofs.Words.{◌≡◌, ◌≤◌, length, length-append, ap, arith, length-decimal-le, decimal, hex_word}
 use Rattle.mdb_words.proofs.Numerals.{length_start}
 use Rattle.mdb_words.proofs.Rows.{break_written, word_written}
 use Rattle.mdb_words.proofs.event.Event.row_text.Goals as goal
