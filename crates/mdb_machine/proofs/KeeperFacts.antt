@@ -1,13 +1,6 @@
-use Rattle.std.proofs.Common.{◌≡◌, ◌∙◌, ℕ, false, [], refl, ap, sym, bit_or}
-use Rattle.mdb_msgs.specs.declared.reply.Reply.{Reply}
-use Rattle.mdb_bus.specs.declared.scope.Profile.{Profile}
-use Rattle.mdb_machine.specs.declared.past.Effect.{Effect}
+use Rattle.mdb_machine.proofs.Words.{◌≡◌, ◌∙◌, ℕ, false, [], refl, ap, sym, bit_or, Reply, Profile, Effect, Facts, Tables, enabled_after, facts_in, facts_taken, facts_told, PastFacts, or_else, resets, effect_answered, past_after, past_in}
 use Rattle.mdb_machine.specs.declared.past.Effect.TheVariants as effects
 use Rattle.mdb_machine.specs.declared.keeper.KeeperFacts.{KeeperFacts}
-use Rattle.mdb_machine.specs.Keeper.{Facts, Tables}
-use Rattle.mdb_machine.specs.KeeperValues.{enabled_after, facts_in, facts_taken, facts_told}
-use Rattle.mdb_machine.specs.Past.{PastFacts, or_else, resets}
-use Rattle.mdb_machine.specs.PastValues.{effect_answered, past_after, past_in}
 use Rattle.mdb_machine.proofs.Masks.{enabled_more, in_mask}
 use Rattle.mdb_machine.proofs.PowerOn.{same_facts}
 

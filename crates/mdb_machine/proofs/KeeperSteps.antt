@@ -1,23 +1,6 @@
 -- The steps of a device that keeps messages, as the code finds them.
-use Rattle.std.proofs.Common.{◌≡◌, ◌∙◌, ◌↔◌, ◌&&◌, ◌==◌, not, ℕ, Bool, true, false, List, [], ◌∷◌, Option, None, Some, refl, ap, sym, subst, length, map, arith, if◌then◌else◌}
-use Rattle.std.specs.Bool.{OnFalse}
-use Rattle.std.proofs.lemmas.Bool.{eqb-true}
-use Rattle.mdb_msgs.specs.declared.command.Command.{Command}
-use Rattle.mdb_msgs.specs.declared.reply.Reply.{Reply}
-use Rattle.mdb_bus.specs.declared.act.Act.{Act}
+use Rattle.mdb_machine.proofs.Words.{◌≡◌, ◌∙◌, ◌↔◌, ◌&&◌, ◌==◌, not, ℕ, Bool, true, false, List, [], ◌∷◌, Option, None, Some, refl, ap, sym, subst, length, map, arith, if◌then◌else◌, OnFalse, eqb-true, Command, Reply, Act, Choice, Plain, Lost, Restart, Again, Gains, Part, CanStand, Stays, controller_gains, device_gains, no_gains, Facts, Tables, Conduct, KeeperStep, ReplyStep, VmcAckStep, worth, MayBeRead, HasNews, has_reset, held, holds_acked, holds_after, holds_read, kept_of, IsSummary, IsOnly, IsOnlyStep, ForOwn}
 use Rattle.mdb_bus.specs.declared.act.Act.TheVariants as acts
-use Rattle.mdb_machine.specs.declared.choice.Choice.{Choice}
-use Rattle.mdb_machine.specs.declared.choice.Choice.TheVariants.{Plain, Lost, Restart, Again}
-use Rattle.mdb_machine.specs.declared.gains.Gains.{Gains}
-use Rattle.mdb_machine.specs.declared.kept.Part.{Part}
-use Rattle.mdb_machine.specs.Choices.{CanStand}
-use Rattle.mdb_machine.specs.Gains.{Stays, controller_gains, device_gains, no_gains}
-use Rattle.mdb_machine.specs.Keeper.{Facts, Tables}
-use Rattle.mdb_machine.specs.KeeperSteps.{Conduct, KeeperStep, ReplyStep, VmcAckStep, worth}
-use Rattle.mdb_machine.specs.Kept.{MayBeRead, HasNews, has_reset, held, holds_acked, holds_after, holds_read, kept_of}
-use Rattle.mdb_machine.specs.PastValues.{IsSummary}
-use Rattle.mdb_machine.specs.Pair.{IsOnly, IsOnlyStep}
-use Rattle.mdb_machine.specs.Steps.{ForOwn}
 use Rattle.mdb_machine.proofs.KeptLists.{HasNewsOnly, free_acked, only_news}
 
 -- the state in which a reply with these messages leaves what its device holds

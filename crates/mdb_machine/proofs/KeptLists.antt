@@ -1,14 +1,6 @@
-use Rattle.std.proofs.Common.{◌≡◌, ◌||◌, ◌&&◌, not, Bool, List, [], ◌∷◌, ◌++◌, Option, Some, None, IfNone, refl, ap, sym, subst, ◌∙◌, map, true, false}
-use Rattle.std.specs.Bool.{OnFalse}
-use Rattle.std.specs.List.{list_any}
-use Rattle.std.proofs.lemmas.List.Elements.{filter_map-append}
+use Rattle.mdb_machine.proofs.Words.{◌≡◌, ◌||◌, ◌&&◌, not, Bool, List, [], ◌∷◌, ◌++◌, Option, Some, None, IfNone, refl, ap, sym, subst, ◌∙◌, map, true, false, OnFalse, list_any, filter_map-append, Part, Choice, Lost, Restart, IsNew, MayBeRead, HasNews, has_reset, holds_acked, is_reset, keeps_early, kept_by, kept_of, IsSummary}
 use Rattle.std.proofs.lemmas.List.Folds.{list_any-append}
-use Rattle.mdb_machine.specs.declared.kept.Part.{Part}
 use Rattle.mdb_machine.specs.declared.kept.Part.TheVariants as part
-use Rattle.mdb_machine.specs.declared.choice.Choice.{Choice}
-use Rattle.mdb_machine.specs.declared.choice.Choice.TheVariants.{Lost, Restart}
-use Rattle.mdb_machine.specs.Kept.{IsNew, MayBeRead, HasNews, has_reset, holds_acked, is_reset, keeps_early, kept_by, kept_of}
-use Rattle.mdb_machine.specs.PastValues.{IsSummary}
 
 -- the kept list of a reply with one message more
 pub kept_of-more : {M : Type 0} (parts : List (Part M)) (p : Part M)

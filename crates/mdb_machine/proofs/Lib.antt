@@ -1,3 +1,4 @@
+pub mod Words
 pub mod KeeperFacts
 pub mod KeeperSteps
 pub mod KeptLists

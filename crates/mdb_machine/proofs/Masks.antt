@@ -1,13 +1,8 @@
-use Rattle.std.proofs.Common.{◌≡◌, ℕ, zero, suc, ◌<◌, ◌≤◌, ◌/◌, ◌%◌, ◌^◌, ◌==◌, ◌||◌, ◌∙◌, inl, inr, Bool, false, ltb, arith, ap, sym, refl, bit_or, max}
+use Rattle.mdb_machine.proofs.Words.{◌≡◌, ℕ, zero, suc, ◌<◌, ◌≤◌, ◌/◌, ◌%◌, ◌^◌, ◌==◌, ◌||◌, ◌∙◌, inl, inr, Bool, false, ltb, arith, ap, sym, refl, bit_or, max, cases_lt, le-ltb, lt-ltb, fun_ext, bit_at, Profile, enabled_after}
 use Rattle.std.proofs.Math.Pow.{pow_mono}
-use Rattle.std.proofs.lemmas.Bool.{cases_lt, le-ltb, lt-ltb}
 use Rattle.std.proofs.lemmas.Nat.{div_below}
 use Rattle.std.proofs.lemmas.Nat.Bits.{bit_at-lt, bit_at_ones, bit_at_ones_above, bit_at_or}
-use Rattle.std.proofs.Math.Path.{fun_ext}
-use Rattle.std.specs.Int.{bit_at}
-use Rattle.mdb_bus.specs.declared.scope.Profile.{Profile}
 use Rattle.mdb_machine.specs.declared.past.Effect.TheVariants as effects
-use Rattle.mdb_machine.specs.KeeperValues.{enabled_after}
 
 -- a mask of 16 bits has no bit after them
 pub past_mask : (mask coin : ℕ) → mask < 65536 → 16 ≤ coin → bit_at mask coin ≡ 0

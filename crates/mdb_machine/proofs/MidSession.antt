@@ -1,30 +1,10 @@
 -- The ways that an act of a device that keeps messages may go in a recording that begins in
 -- mid-session.
-use Rattle.std.proofs.Common.{◌≡◌, ◌≢◌, ◌↔◌, inl, inr, ℕ, ◌≤◌, Bool, true, false, List, [], ◌∷◌, ◌++◌, Option, Some, None, refl, ap, sym, subst, ◌∙◌, arith, drop, take, length, option_and_then, option_map, sum_by}
-use Rattle.std.proofs.Math.Seq.{drop-append_seam}
-use Rattle.std.proofs.lemmas.List.{length-append, length-take-le, take-append-drop}
-use Rattle.std.proofs.lemmas.List.Elements.{All-from_recursion, recursion_from_All}
-use Rattle.std.specs.List.{list_any}
-use Rattle.mdb_msgs.specs.declared.setups.Setups.{Setups}
-use Rattle.mdb_bus.specs.declared.act.Act.{Act}
+use Rattle.mdb_machine.proofs.Words.{◌≡◌, ◌≢◌, ◌↔◌, inl, inr, ℕ, ◌≤◌, Bool, true, false, List, [], ◌∷◌, ◌++◌, Option, Some, None, refl, ap, sym, subst, ◌∙◌, arith, drop, take, length, option_and_then, option_map, sum_by, drop-append_seam, length-append, length-take-le, take-append-drop, All-from_recursion, recursion_from_All, list_any, Setups, Act, Joined, Profile, Choice, Plain, Gains, Part, Stays, device_gains, AllowsFacts, Facts, Tables, asked_by, effect_of, known_of, parts_by, facts_of, Conduct, KeeperStep, ReplyStep, StepKnowing, worth, IsNew, held, holds_after, holds_read, keeps_early, kept_of, Allows, AllowsKept, known_by, last_list, last_told, powers_on, unless_empty, MayGuess, Overlooks, guessing, step_guessing}
 use Rattle.mdb_bus.specs.declared.act.Act.TheVariants as acts
-use Rattle.mdb_bus.specs.declared.scope.Beginning.TheVariants.{Joined}
-use Rattle.mdb_bus.specs.declared.scope.Profile.{Profile}
-use Rattle.mdb_machine.specs.declared.choice.Choice.{Choice}
-use Rattle.mdb_machine.specs.declared.choice.Choice.TheVariants.{Plain}
-use Rattle.mdb_machine.specs.declared.gains.Gains.{Gains}
-use Rattle.mdb_machine.specs.declared.kept.Part.{Part}
 use Rattle.mdb_machine.specs.declared.kept.Part.TheVariants as part
-use Rattle.mdb_machine.specs.Gains.{Stays, device_gains}
-use Rattle.mdb_machine.specs.Keeper.{AllowsFacts, Facts, Tables, asked_by, effect_of, known_of, parts_by}
-use Rattle.mdb_machine.specs.KeeperValues.{facts_of}
-use Rattle.mdb_machine.specs.KeeperSteps.{Conduct, KeeperStep, ReplyStep, StepKnowing, worth}
-use Rattle.mdb_machine.specs.Kept.{IsNew, held, holds_after, holds_read, keeps_early, kept_of}
-use Rattle.mdb_machine.specs.Known.{Allows, AllowsKept, known_by}
 use Rattle.mdb_machine.specs.MidSession.{AsksNone, IsSettled, TellsHeldFirst, TellsNone, facts_recorded}
-use Rattle.mdb_machine.specs.Past.{last_list, last_told, powers_on, unless_empty}
 use Rattle.mdb_machine.specs.shared.ToldWays.{allows_told, asked_so, empty_unless, kept_so, kept_told, none_told, not_not, told_by_none}
-use Rattle.mdb_machine.specs.shared.Guesses.{MayGuess, Overlooks, guessing, step_guessing}
 use Rattle.mdb_machine.proofs.Knowing.{and_back, as_guessing}
 
 -- what acts of a recording tell, and the facts that may be after them

@@ -1,18 +1,5 @@
 -- From power-on all is known of a device that keeps messages.
-use Rattle.std.proofs.Common.{◌≡◌, ◌∙◌, ◌↔◌, ◌&&◌, ◌||◌, not, Bool, true, false, List, [], Option, Some, None, option_map, ltb, refl, ap, sym, subst, unwrap_or}
-use Rattle.std.proofs.Math.Path.{fun_ext}
-use Rattle.mdb_bus.specs.declared.act.Act.{Act}
-use Rattle.mdb_bus.specs.declared.scope.Beginning.TheVariants.{PowerOn}
-use Rattle.mdb_bus.specs.declared.scope.Profile.{Profile}
-use Rattle.mdb_machine.specs.declared.choice.Choice.{Choice}
-use Rattle.mdb_machine.specs.declared.gains.Gains.{Gains}
-use Rattle.mdb_machine.specs.Enabled.{enabled_of, known_enabled}
-use Rattle.mdb_machine.specs.Keeper.{AllowsFacts, Facts, Tables, asked_by, effect_of, known_of, parts_by, setup_by}
-use Rattle.mdb_machine.specs.KeeperValues.{facts_of}
-use Rattle.mdb_machine.specs.KeeperSteps.{Conduct, KeeperStep, StepKnowing}
-use Rattle.mdb_machine.specs.Known.{Allows, AllowsKept, known_by}
-use Rattle.mdb_machine.specs.Past.{last_list, last_told, or_else, past_of}
-use Rattle.mdb_machine.specs.shared.PastWays.{same_past}
+use Rattle.mdb_machine.proofs.Words.{◌≡◌, ◌∙◌, ◌↔◌, ◌&&◌, ◌||◌, not, Bool, true, false, List, [], Option, Some, None, option_map, ltb, refl, ap, sym, subst, unwrap_or, fun_ext, Act, PowerOn, Profile, Choice, Gains, enabled_of, known_enabled, AllowsFacts, Facts, Tables, asked_by, effect_of, known_of, parts_by, setup_by, facts_of, Conduct, KeeperStep, StepKnowing, Allows, AllowsKept, known_by, last_list, last_told, or_else, past_of, same_past}
 
 -- the facts are the same where their fields are
 pub same_facts : {Setup Asked M : Type 0} {one other : Facts Setup Asked M}

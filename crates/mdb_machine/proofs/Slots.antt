@@ -1,9 +1,6 @@
 -- What stands by slot.
-use Rattle.std.proofs.Common.{◌≡◌, ℕ, zero, suc, ◌<◌, ◌^◌, List, [], ◌∷◌, get_or, slice_index, refl, arith}
-use Rattle.std.specs.List.{AllByRecursion}
+use Rattle.mdb_machine.proofs.Words.{◌≡◌, ℕ, zero, suc, ◌<◌, ◌^◌, List, [], ◌∷◌, get_or, slice_index, refl, arith, AllByRecursion, by_slot, AreSmall}
 use Rattle.mdb_machine.specs.declared.gains.TheConstants.{SLOTS}
-use Rattle.mdb_machine.specs.Gains.{by_slot}
-use Rattle.mdb_machine.specs.SmallGains.{AreSmall}
 
 -- what is listed by slot is there for each slot
 pub at_slot : {X : Type 0} (of : ℕ → X) (slot : ℕ) (d : X) → slot < SLOTS

@@ -1,10 +1,5 @@
 -- Steps with the codes of the states after them.
-use Rattle.std.proofs.Common.{◌≡◌, ◌↔◌, inl, inr, ℕ, ◌<◌, ◌++◌, List, [], ◌∷◌, ap, sym, subst, ◌∙◌}
-use Rattle.std.specs.List.{Contains}
-use Rattle.std.proofs.lemmas.List.Elements.{Contains-append_left, Contains-push, Contains-push_cases}
-use Rattle.mdb_machine.specs.declared.gains.Gains.{Gains}
-use Rattle.mdb_machine.specs.SmallGains.{IsSmall}
-use Rattle.mdb_machine.specs.Pair.{IsStep}
+use Rattle.mdb_machine.proofs.Words.{◌≡◌, ◌↔◌, inl, inr, ℕ, ◌<◌, ◌++◌, List, [], ◌∷◌, ap, sym, subst, ◌∙◌, Contains, Contains-append_left, Contains-push, Contains-push_cases, Gains, IsSmall, IsStep}
 
 -- these are the steps, with the codes of the states after them
 abbrev pub AreCoded : {State : Type 0} → (State → ℕ) → List (State × Gains) → List (ℕ × Gains)

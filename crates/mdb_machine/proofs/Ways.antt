@@ -1,19 +1,8 @@
 -- The steps that an act may be, by the choices that can stand on it.
-use Rattle.std.proofs.Common.{ap, not, ◌≡◌, ◌≢◌, ◌↔◌, ◌⊎◌, inl, inr, ℕ, Bool, true, false, IsTrue, List, Option, Some, None, IfSome, refl, sym, subst, ◌∙◌}
-use Rattle.std.specs.Bool.{OnFalse}
-use Rattle.std.proofs.lemmas.Option.{none-some, same_Some}
-use Rattle.std.specs.List.{Contains}
+use Rattle.mdb_machine.proofs.Words.{ap, not, ◌≡◌, ◌≢◌, ◌↔◌, ◌⊎◌, inl, inr, ℕ, Bool, true, false, IsTrue, List, Option, Some, None, IfSome, refl, sym, subst, ◌∙◌, OnFalse, none-some, same_Some, Contains, Act, Beginning, Choice, Plain, Lost, Restart, Again, Gains, CanStand, CanStandFor, IsActOf, IsChosenStep, IsMachineOf, IsMove, IsOfAnother, IsOnlyStep, IsOtherMove, IsStep, Stays}
 use Rattle.mdb_msgs.specs.declared.command.Device.{Device}
-use Rattle.mdb_bus.specs.declared.act.Act.{Act}
 use Rattle.mdb_bus.specs.declared.act.Act.TheVariants as acts
-use Rattle.mdb_bus.specs.declared.scope.Beginning.{Beginning}
-use Rattle.mdb_machine.specs.declared.choice.Choice.{Choice}
-use Rattle.mdb_machine.specs.declared.choice.Choice.TheVariants.{Plain, Lost, Restart, Again}
-use Rattle.mdb_machine.specs.declared.gains.Gains.{Gains}
-use Rattle.mdb_machine.specs.Choices.{CanStand}
 use Rattle.mdb_machine.specs.Machine.{Machine}
-use Rattle.mdb_machine.specs.Pair.{CanStandFor, IsActOf, IsChosenStep, IsMachineOf, IsMove, IsOfAnother, IsOnlyStep, IsOtherMove, IsStep}
-use Rattle.mdb_machine.specs.Gains.{Stays}
 
 -- a choice is the plain one, or another
 pub plain_or_not : (choice : Choice) → (choice ≡ Plain) ⊎ (choice ≢ Plain)

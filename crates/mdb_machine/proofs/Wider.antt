@@ -1,24 +1,9 @@
 -- That a device that keeps messages may do by the extended profile what it may do by the base one:
 -- the types that are enabled by this are enabled by that too. Lists of acts stand newest first.
-use Rattle.std.proofs.Common.{◌≡◌, ◌∙◌, ℕ, Bool, true, false, not, ◌&&◌, ◌||◌, List, [], ◌∷◌, Option, Some, None, refl, ap, sym, subst, ltb, option_map, if◌then◌else◌}
-use Rattle.std.specs.List.{list_any}
-use Rattle.mdb_msgs.specs.declared.command.Command.{Command}
-use Rattle.mdb_msgs.specs.declared.setups.Setups.{Setups}
-use Rattle.mdb_bus.specs.declared.act.Act.{Act}
+use Rattle.mdb_machine.proofs.Words.{◌≡◌, ◌∙◌, ℕ, Bool, true, false, not, ◌&&◌, ◌||◌, List, [], ◌∷◌, Option, Some, None, refl, ap, sym, subst, ltb, option_map, if◌then◌else◌, list_any, Command, Setups, Act, PowerOn, Joined, Choice, Gains, Part, Effect, disables, enabled_of, enables, known_enabled, Facts, KnownFacts, Tables, asked_by, effect_of, known_of, parts_by, AckStep, Conduct, KeeperStep, ReplyStep, StepKnowing, VmcAckStep, Allows, known_by, AllowsPast, acts_from, effect_by, last_list, last_told, powers_on, same_known_past}
 use Rattle.mdb_bus.specs.declared.act.Act.TheVariants as acts
-use Rattle.mdb_bus.specs.declared.scope.Beginning.TheVariants.{PowerOn, Joined}
 use Rattle.mdb_bus.specs.declared.scope.Profile.TheVariants.{Base, Extended}
-use Rattle.mdb_machine.specs.declared.choice.Choice.{Choice}
-use Rattle.mdb_machine.specs.declared.gains.Gains.{Gains}
-use Rattle.mdb_machine.specs.declared.kept.Part.{Part}
-use Rattle.mdb_machine.specs.declared.past.Effect.{Effect}
-use Rattle.mdb_machine.specs.Enabled.{disables, enabled_of, enables, known_enabled}
-use Rattle.mdb_machine.specs.Keeper.{Facts, KnownFacts, Tables, asked_by, effect_of, known_of, parts_by}
-use Rattle.mdb_machine.specs.KeeperSteps.{AckStep, Conduct, KeeperStep, ReplyStep, StepKnowing, VmcAckStep}
-use Rattle.mdb_machine.specs.Known.{Allows, known_by}
-use Rattle.mdb_machine.specs.Past.{AllowsPast, acts_from, effect_by, last_list, last_told, powers_on}
 use Rattle.mdb_machine.specs.shared.KeeperPlain.{as_for_own}
-use Rattle.mdb_machine.specs.shared.PastWays.{same_known_past}
 
 -- the same facts, where these types are enabled
 abbrev pub enabling : {Setup Asked M : Type 0} → Facts Setup Asked M → (ℕ → Bool)

@@ -1,6 +1,4 @@
-use Rattle.std.proofs.Common.{◌≡◌}
-use Rattle.std.specs.List.{list_any}
-use Rattle.mdb_machine.specs.Choices.{is_approval}
+use Rattle.mdb_machine.proofs.Words.{◌≡◌, list_any, is_approval}
 use Rattle.mdb_machine.proofs.choice.tell_approval.Given as goal
 
 abbrev pub invariant-loop-message : goal.invariant-loop-message

@@ -1,7 +1,4 @@
-use Rattle.std.proofs.Common.{Bool, Some, sym, subst, ◌∙◌}
-use Rattle.mdb_machine.specs.KeeperSteps.{AckStep}
-use Rattle.mdb_machine.specs.KeeperValues.{facts_in}
-use Rattle.mdb_machine.specs.Pair.{IsOnlyStep}
+use Rattle.mdb_machine.proofs.Words.{Bool, Some, sym, subst, ◌∙◌, AckStep, facts_in, IsOnlyStep}
 use Rattle.mdb_machine.proofs.conduct.ack.Goals as goal
 
 pub returns-then-not-is_poll-clause-step : goal.returns-then-not-is_poll-clause-step

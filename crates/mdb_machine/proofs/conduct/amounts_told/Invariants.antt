@@ -1,5 +1,4 @@
-use Rattle.std.proofs.Common.{◌≡◌, ◌≤◌, sum_by, take}
-use Rattle.mdb_machine.specs.Unvalued.{one_if}
+use Rattle.mdb_machine.proofs.Words.{◌≡◌, ◌≤◌, sum_by, take, one_if}
 use Rattle.mdb_machine.proofs.conduct.amounts_told.Given as goal
 
 abbrev pub invariant-loop-message : goal.invariant-loop-message

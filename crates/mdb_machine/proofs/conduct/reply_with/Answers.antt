@@ -1,6 +1,4 @@
-use Rattle.std.proofs.Common.{ap, ◌∙◌}
-use Rattle.mdb_machine.specs.Gains.{device_gains, in_slots}
-use Rattle.mdb_machine.specs.KeeperValues.{facts_in}
+use Rattle.mdb_machine.proofs.Words.{ap, ◌∙◌, device_gains, in_slots, facts_in}
 use Rattle.mdb_machine.proofs.KeeperSteps.{holding, telling, told, impossible, untold}
 use Rattle.mdb_machine.proofs.Sizes.{summary_fits}
 use Rattle.mdb_machine.proofs.conduct.reply_with.Goals as goal

@@ -1,8 +1,4 @@
-use Rattle.std.proofs.Common.{Some, sym, subst, ◌∙◌}
-use Rattle.mdb_bus.specs.declared.act.Act.{Act}
-use Rattle.mdb_machine.specs.KeeperSteps.{AckStep, KeeperStep, ReplyStep, VmcAckStep}
-use Rattle.mdb_machine.specs.KeeperValues.{facts_in}
-use Rattle.mdb_machine.specs.Pair.{IsOnlyStep}
+use Rattle.mdb_machine.proofs.Words.{Some, sym, subst, ◌∙◌, Act, AckStep, KeeperStep, ReplyStep, VmcAckStep, facts_in, IsOnlyStep}
 use Rattle.mdb_machine.proofs.KeeperSteps.{by_own, no_part}
 use Rattle.mdb_machine.proofs.conduct.step.Goals as goal
 

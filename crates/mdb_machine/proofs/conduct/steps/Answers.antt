@@ -1,4 +1,4 @@
-use Rattle.std.proofs.Common.{sym, ◌∙◌}
+use Rattle.mdb_machine.proofs.Words.{sym, ◌∙◌}
 use Rattle.mdb_machine.proofs.Knowing.{only_open, settled_steps, small_more, small_none}
 use Rattle.mdb_machine.proofs.conduct.steps.Goals as goal
 

@@ -1,5 +1,5 @@
+use Rattle.mdb_machine.proofs.Words.{facts_in}
 use Rattle.mdb_machine.proofs.Knowing.{asked_steps, small_more, small_none}
-use Rattle.mdb_machine.specs.KeeperValues.{facts_in}
 use Rattle.mdb_machine.proofs.conduct.steps_asking.Goals as goal
 
 pub returns-clause-steps : goal.returns-clause-steps

@@ -1,5 +1,4 @@
-use Rattle.std.proofs.Common.{◌≡◌, ◌+◌, ap, arith, refl, length, take}
-use Rattle.mdb_machine.specs.KeeperValues.{facts_in}
+use Rattle.mdb_machine.proofs.Words.{◌≡◌, ◌+◌, ap, arith, refl, length, take, facts_in}
 use Rattle.mdb_machine.proofs.Knowing.{as_facts, replying_steps, small_more, small_none, tried_first, tried_more}
 use Rattle.mdb_machine.proofs.conduct.steps_replying.Goals as goal
 

@@ -1,8 +1,4 @@
-use Rattle.std.proofs.Common.{◌≤◌, ◌+◌}
-use Rattle.std.specs.List.{Contains}
-use Rattle.arrayvec.specs.ArrayVec.{array_vec_len}
-use Rattle.mdb_machine.specs.declared.gains.Gains.{Gains}
-use Rattle.mdb_machine.specs.SmallGains.{IsSmall}
+use Rattle.mdb_machine.proofs.Words.{◌≤◌, ◌+◌, Contains, array_vec_len, Gains, IsSmall}
 use Rattle.mdb_machine.proofs.Knowing.{TriedTo}
 use Rattle.mdb_machine.proofs.conduct.steps_replying.Given as goal
 

@@ -1,5 +1,5 @@
+use Rattle.mdb_machine.proofs.Words.{ap, sym, ◌∙◌}
 use Rattle.mdb_machine.proofs.Knowing.{all_unvalued}
-use Rattle.std.proofs.Common.{ap, sym, ◌∙◌}
 use Rattle.mdb_machine.proofs.conduct.unvalued_by.Goals as goal
 
 pub returns-else-is_some-clause-adds : goal.returns-else-is_some-clause-adds

@@ -1,4 +1,4 @@
-use Rattle.std.proofs.Common.{sym, ◌∙◌, refl}
+use Rattle.mdb_machine.proofs.Words.{sym, ◌∙◌, refl}
 use Rattle.mdb_machine.proofs.KeeperSteps.{acknowledged}
 use Rattle.mdb_machine.proofs.Sizes.{summary_fits}
 use Rattle.mdb_machine.proofs.conduct.vmc_ack.Goals as goal

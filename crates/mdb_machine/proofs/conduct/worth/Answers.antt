@@ -1,8 +1,5 @@
-use Rattle.std.proofs.Common.{◌≡◌, ◌+◌, ◌*◌, ◌≤◌, ℕ, List, take, arith, ap, sym, ◌∙◌, subst}
-use Rattle.std.specs.List.{AllByRecursion}
+use Rattle.mdb_machine.proofs.Words.{◌≡◌, ◌+◌, ◌*◌, ◌≤◌, ℕ, List, take, arith, ap, sym, ◌∙◌, subst, AllByRecursion, worth, facts_in}
 use Rattle.std.proofs.lemmas.List.Sums.{sum_by_more}
-use Rattle.mdb_machine.specs.KeeperSteps.{worth}
-use Rattle.mdb_machine.specs.KeeperValues.{facts_in}
 use Rattle.mdb_machine.proofs.Slots.{two_by_slot}
 use Rattle.mdb_machine.proofs.conduct.worth.Goals as goal
 

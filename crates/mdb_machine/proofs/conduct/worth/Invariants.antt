@@ -1,8 +1,4 @@
-use Rattle.std.proofs.Common.{◌≡◌, ◌*◌, ◌≤◌, take}
-use Rattle.std.specs.List.{AllByRecursion}
-use Rattle.mdb_machine.specs.Gains.{by_slot}
-use Rattle.mdb_machine.specs.KeeperSteps.{worth}
-use Rattle.mdb_machine.specs.KeeperValues.{facts_in}
+use Rattle.mdb_machine.proofs.Words.{◌≡◌, ◌*◌, ◌≤◌, take, AllByRecursion, by_slot, worth, facts_in}
 use Rattle.mdb_machine.proofs.conduct.worth.Given as goal
 
 abbrev pub invariant-loop-message : goal.invariant-loop-message

@@ -1,4 +1,4 @@
-use Rattle.std.proofs.Common.{◌<◌, ◌^◌, subst, sym}
+use Rattle.mdb_machine.proofs.Words.{◌<◌, ◌^◌, subst, sym}
 use Rattle.mdb_machine.proofs.Slots.{small_at}
 use Rattle.mdb_machine.proofs.gains.by_slot.Goals as goal
 

@@ -1,4 +1,4 @@
-use Rattle.std.proofs.Common.{◌≡◌, take}
+use Rattle.mdb_machine.proofs.Words.{◌≡◌, take}
 use Rattle.mdb_machine.proofs.kept.are_same.Given as goal
 
 abbrev pub invariant-loop-i : goal.invariant-loop-i

@@ -1,7 +1,4 @@
-use Rattle.std.proofs.Common.{◌≡◌, ◌+◌, ◌++◌, [], ◌∷◌, ◌∙◌, List, ap, sym, subst, map, take, arith}
-use Rattle.std.proofs.lemmas.List.{map_more}
-use Rattle.mdb_machine.specs.declared.kept.Part.{Part}
-use Rattle.mdb_machine.specs.PastValues.{IsSummary}
+use Rattle.mdb_machine.proofs.Words.{◌≡◌, ◌+◌, ◌++◌, [], ◌∷◌, ◌∙◌, List, ap, sym, subst, map, take, arith, map_more, Part, IsSummary}
 use Rattle.mdb_machine.proofs.kept.summary_of.Goals as goal
 
 pub loop-message-preserved : goal.loop-message-preserved

@@ -1,6 +1,4 @@
-use Rattle.std.proofs.Common.{◌≤◌, map, take}
-use Rattle.arrayvec.specs.ArrayVec.{array_vec_len}
-use Rattle.mdb_machine.specs.PastValues.{IsSummary}
+use Rattle.mdb_machine.proofs.Words.{◌≤◌, map, take, array_vec_len, IsSummary}
 use Rattle.mdb_machine.proofs.kept.summary_of.Given as goal
 
 abbrev pub invariant-loop-message : goal.invariant-loop-message

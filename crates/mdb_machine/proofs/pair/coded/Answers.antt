@@ -1,6 +1,4 @@
-use Rattle.std.proofs.Common.{◌≡◌, ◌++◌, ◌∷◌, [], ◌∙◌, ap, arith, length, subst, sym, take}
-use Rattle.std.proofs.Math.Seq.{take-length}
-use Rattle.std.proofs.lemmas.List.{take_more}
+use Rattle.mdb_machine.proofs.Words.{◌≡◌, ◌++◌, ◌∷◌, [], ◌∙◌, ap, arith, length, subst, sym, take, take-length, take_more}
 use Rattle.mdb_machine.proofs.StepCodes.{AreCoded, coded_more}
 use Rattle.mdb_machine.proofs.pair.coded.Goals as goal
 

@@ -1,5 +1,4 @@
-use Rattle.std.proofs.Common.{◌≤◌, take}
-use Rattle.arrayvec.specs.ArrayVec.{array_vec_len}
+use Rattle.mdb_machine.proofs.Words.{◌≤◌, take, array_vec_len}
 use Rattle.mdb_machine.proofs.StepCodes.{AreCoded}
 use Rattle.mdb_machine.proofs.pair.coded.Given as goal
 

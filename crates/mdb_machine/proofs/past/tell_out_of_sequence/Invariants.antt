@@ -1,6 +1,4 @@
-use Rattle.std.proofs.Common.{◌≡◌}
-use Rattle.std.specs.List.{list_any}
-use Rattle.mdb_machine.specs.Past.{is_out_of_sequence}
+use Rattle.mdb_machine.proofs.Words.{◌≡◌, list_any, is_out_of_sequence}
 use Rattle.mdb_machine.proofs.past.tell_out_of_sequence.Given as goal
 
 abbrev pub invariant-loop-message : goal.invariant-loop-message

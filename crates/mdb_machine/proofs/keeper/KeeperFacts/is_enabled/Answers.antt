@@ -1,6 +1,4 @@
-use Rattle.std.proofs.Common.{◌≡◌, ◌==◌, ◌<◌, ◌≤◌, false, sym, ap, ◌∙◌, arith}
-use Rattle.std.proofs.lemmas.Bool.{le-ltb}
-use Rattle.std.specs.Int.{bit_at}
+use Rattle.mdb_machine.proofs.Words.{◌≡◌, ◌==◌, ◌<◌, ◌≤◌, false, sym, ap, ◌∙◌, arith, le-ltb, bit_at}
 use Rattle.mdb_machine.proofs.Masks.{past_mask}
 use Rattle.mdb_machine.proofs.keeper.KeeperFacts.is_enabled.Goals as goal
 

@@ -1,6 +1,4 @@
-use Rattle.std.proofs.Common.{ap}
-use Rattle.mdb_machine.specs.KeeperValues.{facts_in}
-use Rattle.mdb_machine.specs.PastValues.{past_in}
+use Rattle.mdb_machine.proofs.Words.{ap, facts_in, past_in}
 use Rattle.mdb_machine.proofs.KeeperFacts.{replied}
 use Rattle.mdb_machine.proofs.keeper.KeeperFacts.note_reply.Goals as goal
 

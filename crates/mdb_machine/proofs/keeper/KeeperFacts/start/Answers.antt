@@ -1,7 +1,4 @@
-use Rattle.std.proofs.Common.{◌≡◌, [], subst, sym}
-use Rattle.mdb_bus.specs.declared.scope.Beginning.{Beginning}
-use Rattle.mdb_machine.specs.Enabled.{known_enabled}
-use Rattle.mdb_machine.specs.Keeper.{effect_of}
+use Rattle.mdb_machine.proofs.Words.{◌≡◌, [], subst, sym, Beginning, known_enabled, effect_of}
 use Rattle.mdb_machine.proofs.Masks.{all_types, in_mask}
 use Rattle.mdb_machine.proofs.keeper.KeeperFacts.start.Goals as goal
 

@@ -1,4 +1,4 @@
-use Rattle.std.proofs.Common.{refl, bit_or}
+use Rattle.mdb_machine.proofs.Words.{refl, bit_or}
 use Rattle.mdb_machine.proofs.KeeperFacts.{took_mask}
 use Rattle.mdb_machine.proofs.keeper.KeeperFacts.take.Goals as goal
 

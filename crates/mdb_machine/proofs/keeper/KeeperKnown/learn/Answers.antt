@@ -1,6 +1,4 @@
-use Rattle.std.proofs.Common.{ap, ◌∙◌}
-use Rattle.mdb_machine.specs.KeeperValues.{known_with}
-use Rattle.mdb_machine.specs.shared.KeeperWays.{known_more_of}
+use Rattle.mdb_machine.proofs.Words.{ap, ◌∙◌, known_with, known_more_of}
 use Rattle.mdb_machine.proofs.keeper.KeeperKnown.learn.Goals as goal
 
 pub returns : goal.returns

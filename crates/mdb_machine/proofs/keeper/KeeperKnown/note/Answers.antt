@@ -1,4 +1,4 @@
-use Rattle.std.proofs.Common.{refl}
+use Rattle.mdb_machine.proofs.Words.{refl}
 use Rattle.mdb_machine.proofs.Knowing.{noted}
 use Rattle.mdb_machine.proofs.keeper.KeeperKnown.note.Goals as goal
 

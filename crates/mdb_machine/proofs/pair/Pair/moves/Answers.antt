@@ -1,5 +1,4 @@
-use Rattle.std.proofs.Common.{◌<◌}
-use Rattle.mdb_machine.specs.SmallGains.{IsSmall}
+use Rattle.mdb_machine.proofs.Words.{◌<◌, IsSmall}
 use Rattle.mdb_machine.proofs.Ways.{both_moves, small_moves}
 use Rattle.mdb_machine.proofs.pair.Pair.moves.Goals as goal
 

@@ -1,6 +1,4 @@
-use Rattle.std.proofs.Common.{IsTrue, ◌↔◌, refl, subst}
-use Rattle.mdb_machine.specs.Pair.{CanStandFor}
-use Rattle.mdb_machine.specs.Gains.{no_gains}
+use Rattle.mdb_machine.proofs.Words.{IsTrue, ◌↔◌, refl, subst, CanStandFor, no_gains}
 use Rattle.mdb_machine.proofs.Ways.{chosen_some, not_its_own}
 use Rattle.mdb_machine.proofs.pair.Pair.step.Goals as goal
 
