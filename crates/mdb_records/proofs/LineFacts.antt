@@ -6,7 +6,7 @@ use Rattle.mdb_records.specs.declared.plain.Front.TheVariants as front
 use Rattle.mdb_records.proofs.RowFacts.{after-line}
 
 -- no byte order mark begins with a byte of ASCII
-strip-low : (c : ℕ) (text : List ℕ) → c < 128 → strip_bom (c ∷ text) ≡ c ∷ text
+pub strip-low : (c : ℕ) (text : List ℕ) → c < 128 → strip_bom (c ∷ text) ≡ c ∷ text
 unfolding strip_bom
 strip-low c [] h = refl
 strip-low c (a ∷ []) h = refl
@@ -16,11 +16,6 @@ strip-low c (a ∷ b ∷ text) h = let no : (c == 0xEF) ≡ false = grind (arith
 strip-line : (text : List ℕ) → strip_bom (10 ∷ text) ≡ 10 ∷ text
 strip-line text = strip-low 10 text (omega arith)
 
--- no line is at the front of no text
-no-front : (count : ℕ) (fields : List (List ℕ)) → HasFront [] (front.Line count) fields → ⊥
-unfolding next_record
-no-front count fields h = let none = h.1 [] in cc
-
 -- a line at the front of what is unread is taken
 pub takes-line : (begun : Bool) (text : List ℕ) (count : ℕ) (fields : List (List ℕ))
     (known : Option (List ℕ))
@@ -29,6 +24,7 @@ pub takes-line : (begun : Bool) (text : List ℕ) (count : ℕ) (fields : List (
     (option_map strip_bom (prepend_known (end_of_last begun) (prepend_known text known)))
     (option_map strip_bom
     (prepend_known (end_of_last true) (prepend_known (drop count text) known))) fields
+unfolding next_record
 takes-line begun text count fields None low h = tt
 takes-line true text count fields (Some later) low h = (
   drop count text ++ later,
@@ -36,7 +32,7 @@ takes-line true text count fields (Some later) low h = (
   ap (next_record default_config st.StartRecord [] []) (strip-line (text ++ later))
       ∙ after-line (text ++ later) ∙ h.1 later,
 )
-takes-line false [] count fields (Some later) low h = absurd (no-front count fields h)
+takes-line false [] count fields (Some later) low h = let none = h.1 [] in absurd cc
 takes-line false (c ∷ text) count fields (Some later) low h = (
   drop count (c ∷ text) ++ later,
   strip-line _,
@@ -85,13 +81,6 @@ copied-front at filled count buffer got rest low long e =
     ∙ ap (take count) (e ∙ ap (λ n. take n (drop at buffer)) same)
     ∙ take-take count count (drop at buffer) (omega arith)
     ∙ sym (take-take count (filled - at) (drop at buffer) low)
-
--- what two readings in turn keep
-pub keeps-on : (a b c : Option (List ℕ)) → Keeps a b → Keeps b c → Keeps a c
-keeps-on None b c h k = tt
-keeps-on (Some x) None c h k = absurd h
-keeps-on (Some x) (Some y) None h k = absurd k
-keeps-on (Some x) (Some y) (Some z) h k = k ∙ h
 
 -- no record comes at the end of a text, be it after a line
 pub ends-text : (begun : Bool) (before : Option (List ℕ)) (known : Option (List ℕ)) → IsAtEnd known

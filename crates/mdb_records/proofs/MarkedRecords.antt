@@ -1,37 +1,20 @@
 -- What csv reads from a text with the mark: the records before the mark, or a record that holds it.
-use Rattle.mdb_records.proofs.Words.{◌≡◌, ◌≤◌, ◌<◌, ◌⊎◌, inl, inr, ℕ, Bool, List, [], ◌∷◌, ◌++◌, Option, Some, None, true, false, refl, sym, ap, subst, arith, ◌∙◌, All, ⊤, if◌then◌else◌, All-head, All-tail, Read, ends_at_end, field_after, fields_after, is_end, next_record, step, default_config, State, Action, mark}
+use Rattle.mdb_records.proofs.Words.{◌≡◌, ◌≤◌, ◌<◌, ◌⊎◌, inl, inr, ℕ, Bool, List, [], ◌∷◌, ◌++◌, Option, Some, None, true, false, refl, sym, ap, arith, ◌∙◌, All, if◌then◌else◌, All-head, All-tail, Read, ends_at_end, field_after, fields_after, is_end, next_record, step, default_config, State, Action, mark, All-pop}
 use Rattle.csv.specs.declared.parser.Config.{Config}
 use Rattle.csv.specs.declared.parser.Action.TheVariants as act
 use Rattle.mdb_records.proofs.StepFacts.{after_copy, inside-after_copy, inside-ends, is_inside, is_plain, plain-after_copy, step-copy, step-steps}
 
 -- each number is a byte
-unfoldable pub IsBytes : List ℕ → Type 0
-IsBytes [] = ⊤
-IsBytes (b ∷ bytes) = (b < 256) × IsBytes bytes
+abbrev pub IsBytes : List ℕ → Type 0
+IsBytes bytes = All (λ b. b < 256) bytes
 
 -- each field is of bytes
-unfoldable pub AreBytes : List (List ℕ) → Type 0
-AreBytes [] = ⊤
-AreBytes (field ∷ fields) = IsBytes field × AreBytes fields
+abbrev pub AreBytes : List (List ℕ) → Type 0
+AreBytes fields = All (λ field. All (λ b. b < 256) field) fields
 
--- the parts of a field of bytes
-IsBytes-append : (xs ys : List ℕ) → IsBytes (xs ++ ys) → IsBytes xs × IsBytes ys
-unfolding IsBytes
-IsBytes-append [] ys h = (tt, h)
-IsBytes-append (x ∷ xs) ys h = let rest = IsBytes-append xs ys h.1 in ((h.0, rest.0), rest.1)
-
--- the parts of a record of bytes
-AreBytes-append : (fields : List (List ℕ)) (field : List ℕ) → AreBytes (fields ++ field ∷ [])
-    → AreBytes fields × IsBytes field
-unfolding AreBytes
-AreBytes-append [] field h = (tt, h.0)
-AreBytes-append (f ∷ fields) field h =
-    let rest = AreBytes-append fields field h.1 in ((h.0, rest.0), rest.1)
-
--- a number past 255 is no byte
-mark-no-byte : (c : ℕ) → 256 ≤ c → IsBytes (c ∷ []) → ⊥
-unfolding IsBytes
-mark-no-byte c h b = let below : c < 256 = b.0 in absurd (omega arith)
+-- the last of such items, and those before it
+pop : {X : Type 0} (P : X → Type 0) (xs : List X) (x : X) → All P (xs ++ x ∷ []) → All P xs × P x
+pop P xs x h = All-pop P (xs ++ x ∷ []) xs (Some x) refl h
 
 -- which of two it was that was read
 pub chosen : (test : Bool) (x : Read) (other : Option Read) (p : Read)
@@ -52,16 +35,16 @@ bytes-at-end : (a : Action) (fields : List (List ℕ)) (field : List ℕ) → is
 bytes-at-end act.Skip fields field e h = cc
 bytes-at-end act.Copy fields field e h = cc
 bytes-at-end act.EndField fields field e h = cc
-bytes-at-end act.EndRecord fields field e h = AreBytes-append fields field h
+bytes-at-end act.EndRecord fields field e h = pop (All (λ b. b < 256)) fields field h
 
 -- the fields before any other byte
 bytes-before : (a : Action) (c : ℕ) (fields : List (List ℕ)) (field : List ℕ)
     → AreBytes (fields_after a fields field) × IsBytes (field_after a c field)
     → AreBytes fields × IsBytes field
 bytes-before act.Skip c fields field h = h
-bytes-before act.Copy c fields field h = (h.0, (IsBytes-append field (c ∷ []) h.1).0)
-bytes-before act.EndField c fields field h = AreBytes-append fields field h.0
-bytes-before act.EndRecord c fields field h = AreBytes-append fields field h.0
+bytes-before act.Copy c fields field h = (h.0, (pop (λ b. b < 256) field c h.1).0)
+bytes-before act.EndField c fields field h = pop (All (λ b. b < 256)) fields field h.0
+bytes-before act.EndRecord c fields field h = pop (All (λ b. b < 256)) fields field h.0
 
 -- what is in a record stays in it, so where the record is of bytes its beginning was too
 record-bytes : (cfg : Config) (s : State) (fields : List (List ℕ)) (field xs : List ℕ) (p : Read)
@@ -70,13 +53,12 @@ record-bytes : (cfg : Config) (s : State) (fields : List (List ℕ)) (field xs :
 unfolding next_record
 record-bytes cfg s fields field [] p e h =
     elim (chosen (ends_at_end s) _ _ p e) [
-      | inl q ↦ AreBytes-append fields field (subst (λ (r : Read). AreBytes r.0) (sym q.1) h)
+      | inl q ↦ pop (All (λ b. b < 256)) fields field (rw (← q.1) at h)
       | inr q ↦ cc
     ]
 record-bytes cfg s fields field (c ∷ xs) p e h =
     elim (chosen (is_end (step cfg s c).1) _ _ p e) [
-      | inl q ↦ bytes-at-end (step cfg s c).1 fields field q.0
-          (subst (λ (r : Read). AreBytes r.0) (sym q.1) h)
+      | inl q ↦ bytes-at-end (step cfg s c).1 fields field q.0 (rw (← q.1) at h)
       | inr q ↦ bytes-before (step cfg s c).1 c fields field
           (record-bytes cfg (step cfg s c).0 _ _ xs p q.1 h)
     ]
@@ -96,7 +78,8 @@ mark-spoils : (s : State) (fields : List (List ℕ)) (field after : List ℕ) (p
 mark-spoils s fields field after p plain e h =
     let copied = sym (next-copy s fields field mark after (omega arith) plain) ∙ e in
     let all = record-bytes default_config _ _ _ after p copied h in
-    mark-no-byte mark (omega arith) (IsBytes-append field (mark ∷ []) all.1).1
+    let below : mark < 256 = (pop (λ b. b < 256) field mark all.1).1 in
+    absurd (omega arith)
 
 -- a record that has begun is given
 begun-given : (s : State) (fields : List (List ℕ)) (field xs : List ℕ) → is_inside s ≡ true

@@ -49,64 +49,11 @@ part-at start (e ∷ ends) text (suc zero) h = part-at (e + 1) ends text zero (o
 part-at start (e ∷ ends) text (suc (suc place)) h =
     part-at (e + 1) ends text (suc place) (omega arith)
 
--- places in order from a start on, with room for the byte between two parts, all before a stop
-unfoldable pub Rise : ℕ → List ℕ → ℕ → Type 0
-Rise start [] stop = start ≤ stop
-Rise start (end ∷ ends) stop = (start ≤ end) × Rise (end + 1) ends stop
-
--- places that rise begin before their stop
-rise-starts : (start : ℕ) (ends : List ℕ) (stop : ℕ) → Rise start ends stop → start ≤ stop
-unfolding Rise
-rise-starts start [] stop h = h
-rise-starts start (e ∷ ends) stop h =
-    let rest = rise-starts (e + 1) ends stop h.1 in omega (arith, h.0)
-
--- each of them stands before their stop
-rise-stops : (start : ℕ) (ends : List ℕ) (stop : ℕ) (place : ℕ) → Rise start ends stop
-    → place < length ends → get_or ends place 0 < stop
-unfolding Rise
-rise-stops start [] stop place h inside = absurd (omega arith)
-rise-stops start (e ∷ ends) stop zero h inside =
-    let rest = rise-starts (e + 1) ends stop h.1 in omega arith
-rise-stops start (e ∷ ends) stop (suc place) h inside =
-    rise-stops (e + 1) ends stop place h.1 (omega arith)
-
--- and no part of them ends before it begins
-rise-parts : (start : ℕ) (ends : List ℕ) (stop : ℕ) (place : ℕ) → Rise start ends stop
-    → place < length ends → start_at start ends place ≤ get_or ends place 0
-unfolding Rise
-rise-parts start [] stop place h inside = absurd (omega arith)
-rise-parts start (e ∷ ends) stop zero h inside = h.0
-rise-parts start (e ∷ ends) stop (suc zero) h inside =
-    rise-parts (e + 1) ends stop zero h.1 (omega arith)
-rise-parts start (e ∷ ends) stop (suc (suc place)) h inside =
-    rise-parts (e + 1) ends stop (suc place) h.1 (omega arith)
-
--- they rise up to a later stop too
-pub rise-later : (start : ℕ) (ends : List ℕ) (stop later : ℕ) → Rise start ends stop → stop ≤ later
-    → Rise start ends later
-unfolding Rise
-rise-later start [] stop later h below = omega (arith, h)
-rise-later start (e ∷ ends) stop later h below =
-    (h.0, rise-later (e + 1) ends stop later h.1 below)
-
--- and with their stop
-pub rise-more : (start : ℕ) (ends : List ℕ) (stop : ℕ) → Rise start ends stop
-    → Rise start (ends ++ stop ∷ []) (stop + 1)
-unfolding Rise
-rise-more start [] stop h = (h, omega arith)
-rise-more start (e ∷ ends) stop h = (h.0, rise-more (e + 1) ends stop h.1)
-
 -- where it begins, if it isn't the first
 pub start-after : (ends : List ℕ) (place : ℕ) → 0 < place
     → start_at 0 ends place ≡ get_or ends (place - 1) 0 + 1
 start-after ends zero h = absurd (omega arith)
 start-after ends (suc place) h = let same : suc place - 1 ≡ place = omega arith in rw same refl
-
--- the parts lie within what comes before the stop
-pub rise-within : (ends : List ℕ) (stop : ℕ) → Rise 0 ends stop → AreWithin ends stop
-rise-within ends stop h place inside =
-    (rise-parts 0 ends stop place h inside, rise-stops 0 ends stop place h inside)
 
 -- no parts lie within anything
 pub none_within : (size : ℕ) → AreWithin [] size
@@ -117,6 +64,34 @@ pub within-more : (ends : List ℕ) (size more : ℕ) → AreWithin ends size �
     → AreWithin ends more
 within-more ends size more h below place inside =
     let at = h place inside in (at.0, omega (arith, at.1))
+
+-- the parts from a start on lie within so many bytes
+abbrev pub LiesWithin : ℕ → List ℕ → ℕ → Type 0
+LiesWithin start ends size = (place : ℕ) → place < length ends
+    → (start_at start ends place ≤ get_or ends place 0) × (get_or ends place 0 < size)
+
+-- and so they do with one part more
+pub within-push : (start : ℕ) (ends : List ℕ) (end : ℕ) → LiesWithin start ends end
+    → next_start start ends ≤ end → LiesWithin start (ends ++ end ∷ []) (end + 1)
+unfolding next_start
+within-push start [] end h low zero inside = (low, omega arith)
+within-push start [] end h low (suc place) inside = absurd (omega arith)
+within-push start (e ∷ ends) end h low zero inside =
+    let at = h zero (omega arith) in (at.0, omega (arith, at.1))
+within-push start (e ∷ ends) end h low (suc place) inside =
+    let rest = within-push (e + 1) ends end (behind e ends end h) low place (omega arith) in
+    (begins place rest.0, rest.1)
+  where
+    behind : (e : ℕ) (ends : List ℕ) (end : ℕ) → LiesWithin start (e ∷ ends) end
+        → LiesWithin (e + 1) ends end
+    behind e ends end h zero inside = h 1 (omega arith)
+    behind e ends end h (suc place) inside = h (suc (suc place)) (omega arith)
+
+    begins : (place : ℕ) → start_at (e + 1) (ends ++ end ∷ []) place
+        ≤ get_or (ends ++ end ∷ []) place 0
+        → start_at start (e ∷ (ends ++ end ∷ [])) (suc place) ≤ get_or (ends ++ end ∷ []) place 0
+    begins zero h = h
+    begins (suc place) h = h
 
 -- where csv reads, no line was taken
 pub csv-within : {R : Type 0} (stage : Stage R) (ends : List ℕ) → IsSome (reader_in stage)

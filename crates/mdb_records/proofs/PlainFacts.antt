@@ -89,7 +89,7 @@ module _ (fields : List (List ℕ)) where
       copies (suc n) = refl
 
   -- a field that a comma ends
-  comma-read : (n : ℕ) (run rest : List ℕ) → All IsOwn run
+  pub comma-read : (n : ℕ) (run rest : List ℕ) → All IsOwn run
       → next_record default_config (state_before n) fields [] (run ++ 44 ∷ rest)
       ≡ next_record default_config st.StartField (fields ++ run ∷ []) [] rest
   unfolding next_record
@@ -98,7 +98,7 @@ module _ (fields : List (List ℕ)) where
   comma-read (suc n) [] rest h = refl
 
   -- a field that ends with its line, which is more than an end
-  line-read : (n : ℕ) (run rest : List ℕ) → 0 < n + length run → All IsOwn run
+  pub line-read : (n : ℕ) (run rest : List ℕ) → 0 < n + length run → All IsOwn run
       → next_record default_config (state_before n) fields [] (run ++ 10 ∷ rest)
       ≡ Some (fields ++ run ∷ [], st.StartRecord, rest)
   unfolding next_record

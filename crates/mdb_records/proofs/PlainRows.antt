@@ -1,5 +1,6 @@
 -- The fields of rows as they are written: plain ones, which tell those rows.
-use Rattle.mdb_records.proofs.Words.{arith, refl, ◌/◌, ◌%◌, ◌^◌, ◌<◌, ℕ, true, List, [], ◌∷◌, All, nat_tests, All-nil, All-cons, All-weaker, hex_word, row_fields}
+use Rattle.mdb_words.proofs.Rows.{hex_bytes}
+use Rattle.mdb_records.proofs.Words.{arith, refl, ◌^◌, ◌<◌, ℕ, true, List, [], ◌∷◌, All, nat_tests, All-nil, All-cons, All-weaker, hex_word, row_fields}
 use Rattle.std.specs.Char.{IsAsciiDigit}
 use Rattle.std.specs.Fmt.{decimal, digit_glyph}
 use Rattle.mdb_words.specs.declared.event.Event.{Event}
@@ -19,16 +20,6 @@ decimal_plain most n is = All-weaker IsAsciiDigit IsPlainByte digit_plain (decim
 
 glyph_plain : (d : ℕ) → d < 16 → IsPlainByte (digit_glyph true d)
 glyph_plain d h = grind (arith, nat_tests)
-
-three : {A : Type 0} (P : A → Type 0) (a b c : A) → P a → P b → P c → All P (a ∷ b ∷ c ∷ [])
-three P a b c p q r =
-    All-cons P a (b ∷ c ∷ []) p (All-cons P b (c ∷ []) q (All-cons P c [] r (All-nil P)))
-
-word_plain : (word : ℕ) → word < 512 → All IsPlainByte (hex_word word)
-word_plain word small =
-    three IsPlainByte (digit_glyph true (word / 256)) (digit_glyph true (word / 16 % 16))
-    (digit_glyph true (word % 16)) (glyph_plain _ (omega arith)) (glyph_plain _ (omega arith))
-    (glyph_plain _ (omega arith))
 
 pub one_plain : (c : ℕ) → IsPlainByte c → All IsPlainByte (c ∷ [])
 one_plain c plain = All-cons IsPlainByte c [] plain (All-nil IsPlainByte)
@@ -63,7 +54,7 @@ word_written at line word early small =
     IsDecimal-decimal 15 at (omega arith) early (omega arith) in (
       (decimal at, hex_word word, refl, start, IsHexWord-hex_word word small),
       plain_of 15 at (letter_of line) (hex_word word) start (letter_plain line)
-          (word_plain word small),
+          (hex_bytes IsPlainByte glyph_plain word small),
     )
 
 pub break_written : (at span : ℕ) → at < 10 ^ 15 → span < 10 ^ 9 → IsWritten (Break at span)

@@ -1,5 +1,5 @@
 -- One read of a reader of records, as a step along the records to come.
-use Rattle.mdb_records.proofs.Words.{◌≡◌, ◌<◌, ◌≤◌, ◌+◌, ◌-◌, ℕ, zero, suc, Bool, List, [], ◌∷◌, ◌++◌, ◌⊎◌, ap, length, take, drop, Option, Some, None, true, false, inl, inr, refl, ◌∙◌, All, Ok, Err, IfOk, IfSome, Result, is_none, option_map, All-head, All-tail, Keeps, Read, ends_at_end, next_record, AreRecords, ReadRecord, Reached, Ready, default_config, reader_headers, reader_state, records, strip_bom, took_first, Row, cut_from, fields_of, text_of, rows-end, rows-more, State, parted, ReadsWhatStands, given_of, mark, marked, TakesLine, Tells, line, lines_given, lines_remaining, ReadsNext, StandsAfter, StandsAt, fields_at, Advances, HasMark, IsOverLimit, IsUncut, ToCome, current_fields, Stage}
+use Rattle.mdb_records.proofs.Words.{◌≡◌, ◌<◌, ◌≤◌, ◌+◌, ◌-◌, ℕ, Bool, List, [], ◌∷◌, ◌++◌, ◌⊎◌, ap, length, take, drop, Option, Some, None, true, false, inl, inr, refl, ◌∙◌, All, Ok, Err, IfOk, IfSome, Result, is_none, option_map, Keeps, Read, ends_at_end, next_record, AreRecords, ReadRecord, Reached, Ready, default_config, reader_headers, reader_state, records, strip_bom, took_first, Row, cut_from, fields_of, text_of, rows-end, rows-more, State, parted, ReadsWhatStands, given_of, mark, marked, TakesLine, Tells, line, lines_given, lines_remaining, ReadsNext, StandsAfter, StandsAt, fields_at, Advances, HasMark, IsOverLimit, IsUncut, ToCome, current_fields, Stage, All-take, All-drop, All-cons, All-nil}
 use Rattle.std.proofs.lemmas.Bool.{cases_Bool}
 use Rattle.csv.specs.Records as csv
 use Rattle.csv.specs.declared.parser.State.TheVariants as st
@@ -10,55 +10,36 @@ use Rattle.mdb_records.specs.declared.lines.Lines.{Lines}
 use Rattle.mdb_records.specs.declared.stage.Stage.TheVariants as stage
 use Rattle.mdb_records.proofs.MarkGives.{gives-cons, gives-stripped, marked-within, stripped-over, whole}
 use Rattle.mdb_records.proofs.MarkedRecords.{AreBytes, IsBytes, marked-none, marked-some}
-use Rattle.mdb_records.proofs.RowFacts.{are-records, are-records-after_line, between-after, gives-none, gives-some}
+use Rattle.mdb_records.proofs.RowFacts.{are-records, are-records-after_line, record-ends, gives-none, gives-some}
 use Rattle.mdb_records.proofs.StepFacts.{plain-between}
 
--- a list of bytes, part by part
-IsBytes-from_All : (bytes : List ℕ) → All (λ b. b < 256) bytes → IsBytes bytes
-unfolding IsBytes
-IsBytes-from_All [] h = tt
-IsBytes-from_All (b ∷ bytes) h =
-    (All-head (λ b. b < 256) b bytes h, IsBytes-from_All bytes (All-tail (λ b. b < 256) b bytes h))
-
--- its first ones
-IsBytes-take : (n : ℕ) (bytes : List ℕ) → IsBytes bytes → IsBytes (take n bytes)
-unfolding IsBytes
-IsBytes-take zero bytes h = tt
-IsBytes-take (suc n) [] h = tt
-IsBytes-take (suc n) (b ∷ bytes) h = (h.0, IsBytes-take n bytes h.1)
-
--- its last ones
-IsBytes-drop : (n : ℕ) (bytes : List ℕ) → IsBytes bytes → IsBytes (drop n bytes)
-unfolding IsBytes
-IsBytes-drop zero bytes h = h
-IsBytes-drop (suc n) [] h = tt
-IsBytes-drop (suc n) (b ∷ bytes) h = IsBytes-drop n bytes h.1
+-- a part of bytes, before others
+part-more : (start end : ℕ) (bytes : List ℕ) (parts : List (List ℕ)) → IsBytes bytes
+    → AreBytes parts → AreBytes (take (end - start) (drop start bytes) ∷ parts)
+part-more start end bytes parts h more =
+    All-cons (All (λ b. b < 256)) _ parts (All-take (λ b. b < 256) (end - start) _
+    (All-drop (λ b. b < 256) start bytes h)) more
 
 -- the fields of a record are cut from its bytes
 AreBytes-cut_from : (start : ℕ) (ends bytes : List ℕ) → IsBytes bytes
     → AreBytes (cut_from start ends bytes)
-unfolding AreBytes cut_from
-AreBytes-cut_from start [] bytes h = tt
-AreBytes-cut_from start (end ∷ ends) bytes h = (
-  IsBytes-take (end - start) (drop start bytes) (IsBytes-drop start bytes h),
-  AreBytes-cut_from end ends bytes h,
-)
+unfolding cut_from
+AreBytes-cut_from start [] bytes h = All-nil (All (λ b. b < 256))
+AreBytes-cut_from start (end ∷ ends) bytes h =
+    part-more start end bytes _ h (AreBytes-cut_from end ends bytes h)
 
 -- so are the parts of a line
 AreBytes-parted : (start : ℕ) (ends bytes : List ℕ) → IsBytes bytes
     → AreBytes (parted start ends bytes)
-unfolding AreBytes parted
-AreBytes-parted start [] bytes h = tt
-AreBytes-parted start (end ∷ ends) bytes h = (
-  IsBytes-take (end - start) (drop start bytes) (IsBytes-drop start bytes h),
-  AreBytes-parted (end + 1) ends bytes h,
-)
+unfolding parted
+AreBytes-parted start [] bytes h = All-nil (All (λ b. b < 256))
+AreBytes-parted start (end ∷ ends) bytes h =
+    part-more start end bytes _ h (AreBytes-parted (end + 1) ends bytes h)
 
 -- the fields of a record whose bytes were seen
 pub AreBytes-fields : (row : Row) (bytes : List ℕ) → bytes ≡ text_of row → All (λ b. b < 256) bytes
     → AreBytes (fields_of row)
-AreBytes-fields row bytes e h =
-    AreBytes-cut_from 0 row.ends row.bytes (rw e at (IsBytes-from_All bytes h))
+AreBytes-fields row bytes e h = AreBytes-cut_from 0 row.ends row.bytes (rw e at h)
 
 -- one record that was reached is the next one
 only-record : (s : State) (given : List ℕ) (fields : List (List ℕ)) (after : State) (left : List ℕ)
@@ -68,40 +49,29 @@ unfolding Reached
 only-record s given fields after left h = rw (h.2, ← h.3.0, ← h.3.1) h.1
 
 -- a line that was taken of what is known
-line-taken : (before after : Option (List ℕ)) (given : List ℕ) (fields : List (List ℕ))
-    → before ≡ Some given → TakesLine before after fields
+line-taken : (given : List ℕ) (after : Option (List ℕ)) (fields : List (List ℕ))
+    → TakesLine (Some given) after fields
     → (rest : List ℕ) × (after ≡ Some (10 ∷ rest))
     × (next_record default_config st.StartRecord [] [] given
     ≡ Some (fields, st.StartRecord, rest))
-line-taken None after given fields e h = cc
-line-taken (Some x) None given fields e h = absurd h
-line-taken (Some x) (Some y) given fields e h =
-    let same : x ≡ given = cc in
-    (h.0, ap Some h.1, rw same at h.2)
-
--- of what is known nothing comes
-none-known : (before : Option (List ℕ)) (given : List ℕ) → before ≡ Some given
-    → IfSome before (λ text. next_record default_config st.StartRecord [] [] text ≡ None)
-    → next_record default_config st.StartRecord [] [] given ≡ None
-none-known None given e h = cc
-none-known (Some x) given e h = let same : x ≡ given = cc in rw same at h
+line-taken given None fields h = absurd h
+line-taken given (Some y) fields h = (h.0, ap Some h.1, h.2)
 
 -- bytes that are kept are known as before
-kept-known : (before after : Option (List ℕ)) (given : List ℕ) → Keeps before after
-    → before ≡ Some given → after ≡ Some given
-kept-known None after given h e = cc
-kept-known (Some x) None given h e = absurd h
-kept-known (Some x) (Some y) given h e = ap Some h ∙ e
+kept-known : (given : List ℕ) (after : Option (List ℕ)) → Keeps (Some given) after
+    → after ≡ Some given
+kept-known given None h = absurd h
+kept-known given (Some y) h = ap Some h
 
 module _ {R : Type 0} (remaining : R → Option (List ℕ)) where
-  module _ (value : Records R) (lines : Lines R) (limit : ℕ) where
+  module _ (value : Records R) (lines : Lines R) (limit : ℕ)
+      (first : value.stage ≡ stage.Lines lines) where
     -- the records of the whole text are to come from a new reader
     pub new-to-come : (known : Option (List ℕ)) → value.fault ≡ None
-        → value.stage ≡ stage.Lines lines
         → lines_given remaining lines ≡ option_map strip_bom (given_of known limit None)
         → IfSome known (λ text. ToCome remaining value (records default_config (strip_bom text)))
-    new-to-come None going first source = tt
-    new-to-come (Some text) going first source = record {
+    new-to-come None going source = tt
+    new-to-come (Some text) going source = record {
       text = strip_bom text;
       given = strip_bom (marked limit text);
       state = st.StartRecord;
@@ -113,11 +83,11 @@ module _ {R : Type 0} (remaining : R → Option (List ℕ)) where
     }
 
     -- a new reader of a text that is longer than the limit
-    pub new-over : (known : Option (List ℕ)) → value.fault ≡ None → value.stage ≡ stage.Lines lines
+    pub new-over : (known : Option (List ℕ)) → value.fault ≡ None
         → lines_given remaining lines ≡ option_map strip_bom (given_of known limit None)
         → IfSome known (λ text. limit < length text → IsOverLimit remaining value)
-    new-over None going first source = tt
-    new-over (Some text) going first source = λ long.
+    new-over None going source = tt
+    new-over (Some text) going source = λ long.
         let m = stripped-over limit text long in record {
           before = m.0;
           after = m.1;
@@ -128,11 +98,11 @@ module _ {R : Type 0} (remaining : R → Option (List ℕ)) where
         }
 
     -- a new reader of a text within the limit
-    pub new-within : (known : Option (List ℕ)) → value.stage ≡ stage.Lines lines
+    pub new-within : (known : Option (List ℕ))
         → lines_given remaining lines ≡ option_map strip_bom (given_of known limit None)
         → IfSome known (λ text. length text ≤ limit → IsUncut remaining value (strip_bom text))
-    new-within None first source = tt
-    new-within (Some text) first source = λ fits. record {
+    new-within None source = tt
+    new-within (Some text) source = λ fits. record {
       state = st.StartRecord;
       stands = rw first
           (refl, source ∙ ap (λ t. Some (strip_bom t)) (marked-within limit text fits));
@@ -160,11 +130,9 @@ module _ {R : Type 0} (remaining : R → Option (List ℕ)) where
       → Tells (Some found) (lines_given remaining old) (lines_given remaining new) fields
       → ReadsNext remaining (stage.Lines old) (stage.Lines new) found fields
   line-reads old new true fields h = λ state given stands.
-      let taken = line-taken (lines_given remaining old) (lines_given remaining new) given fields
-      stands.1 h in
+      let taken = line-taken given (lines_given remaining new) fields (rw stands.1 at h) in
       (st.StartRecord, taken.0, rw stands.0 taken.2, inr (refl, (refl, taken.1)))
-  line-reads old new false fields h =
-      λ state given stands. rw stands.0 (none-known (lines_given remaining old) given stands.1 h)
+  line-reads old new false fields h = λ state given stands. rw stands.0 (rw stands.1 at h)
 
   module _ (old new : Records R) where
     -- the records to come after one
@@ -244,7 +212,7 @@ module _ {R : Type 0} (remaining : R → Option (List ℕ)) where
         let left = marked-some h.state [] [] h.before h.after found plain read.2 bytes in (
           refl,
           over-after read.0 left.0 h.after read.1 going
-              (between-after h.state [] [] given found plain read.2) left.1 read.3,
+              (record-ends h.state [] [] given found plain read.2).between left.1 read.3,
         )
     over-goes-on false reads going bytes h =
         absurd (marked-none h.state [] [] h.before h.after (plain-between h.state h.between)
@@ -261,8 +229,7 @@ module _ {R : Type 0} (remaining : R → Option (List ℕ)) where
           (line-reads before after found (parted 0 new.ends.items (line after)) told)
 
       line-bytes : AreBytes (current_fields new)
-      line-bytes =
-          rw last (AreBytes-parted 0 new.ends.items _ (IsBytes-from_All (line after) bytes))
+      line-bytes = rw last (AreBytes-parted 0 new.ends.items _ bytes)
 
       -- its read goes on along the records to come
       pub line-goes-on : (rows : List (List (List ℕ))) → ToCome remaining old rows
@@ -308,7 +275,7 @@ module _ {R : Type 0} (remaining : R → Option (List ℕ)) where
       → StandsAt remaining old state given → StandsAt remaining (stage.Lines after) state given
   lines-stand old before after state given first kept h =
       let stands : StandsAt remaining (stage.Lines before) state given = rw first at h in
-      (stands.0, kept-known _ _ given kept stands.1)
+      (stands.0, kept-known given _ (rw stands.1 at kept))
 
 -- whoever reads but a reader of lines has csv's fields
 pub fields-by-csv : {R : Type 0} (value : Stage R) (ends : List ℕ) (row : Row)

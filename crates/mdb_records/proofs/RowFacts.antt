@@ -4,46 +4,31 @@ use Rattle.csv.specs.declared.parser.State.TheVariants as st
 use Rattle.mdb_records.proofs.MarkedRecords.{AreBytes, chosen, cut-some, marked-none, marked-some}
 use Rattle.mdb_records.proofs.StepFacts.{plain-between, step-steps, is_plain}
 
--- after a record no other has begun
-pub between-after : (s : State) (fields : List (List ℕ)) (field xs : List ℕ) (p : Read)
-    → is_plain s ≡ true
-    → next_record default_config s fields field xs ≡ Some p → ends_at_end p.1 ≡ false
+-- after a record no other has begun, and its bytes are gone: one at least where it began there
+pub record Ends (s : State) (xs : List ℕ) (p : Read) : Type 0 where
+  pub between : ends_at_end p.1 ≡ false
+  pub no_more : length p.2 ≤ length xs
+  pub fewer : ends_at_end s ≡ false → length p.2 < length xs
+
+pub record-ends : (s : State) (fields : List (List ℕ)) (field xs : List ℕ) (p : Read)
+    → is_plain s ≡ true → next_record default_config s fields field xs ≡ Some p → Ends s xs p
 unfolding next_record
-between-after s fields field [] p plain e =
+record-ends s fields field [] p plain e =
     elim (chosen (ends_at_end s) _ _ p e) [
-      | inl q ↦ subst (λ (r : Read). ends_at_end r.1 ≡ false) q.1 refl
+      | inl q ↦ rw (← q.1) record { between = refl; no_more = omega arith; fewer = λ no. cc }
       | inr q ↦ cc
     ]
-between-after s fields field (c ∷ xs) p plain e =
+record-ends s fields field (c ∷ xs) p plain e =
+    let steps = step-steps s c plain in
     elim (chosen (is_end (step default_config s c).1) _ _ p e) [
-      | inl q ↦ subst (λ (r : Read). ends_at_end r.1 ≡ false) q.1 ((step-steps s c plain).2 q.0)
-      | inr q ↦ between-after (step default_config s c).0 _ _ xs p (step-steps s c plain).0 q.1
-    ]
-
--- a read takes no bytes back
-read-shorter : (s : State) (fields : List (List ℕ)) (field xs : List ℕ) (p : Read)
-    → next_record default_config s fields field xs ≡ Some p → length p.2 ≤ length xs
-unfolding next_record
-read-shorter s fields field [] p e =
-    elim (chosen (ends_at_end s) _ _ p e) [
-      | inl q ↦ subst (λ (r : Read). length r.2 ≤ 0) q.1 (omega arith)
-      | inr q ↦ cc
-    ]
-read-shorter s fields field (c ∷ xs) p e =
-    elim (chosen (is_end (step default_config s c).1) _ _ p e) [
-      | inl q ↦ subst (λ (r : Read). length r.2 ≤ length (c ∷ xs)) q.1 (omega arith)
-      | inr q ↦ omega (arith, read-shorter (step default_config s c).0 _ _ xs p q.1)
-    ]
-
--- a record takes a byte at least
-record-shorter : (s : State) (xs : List ℕ) (p : Read) → ends_at_end s ≡ false
-    → next_record default_config s [] [] xs ≡ Some p → length p.2 < length xs
-unfolding next_record
-record-shorter s [] p between e = cc
-record-shorter s (c ∷ xs) p between e =
-    elim (chosen (is_end (step default_config s c).1) _ _ p e) [
-      | inl q ↦ subst (λ (r : Read). length r.2 < length (c ∷ xs)) q.1 (omega arith)
-      | inr q ↦ omega (arith, read-shorter (step default_config s c).0 _ _ xs p q.1)
+      | inl q ↦ rw (← q.1)
+          record { between = steps.2 q.0; no_more = omega arith; fewer = λ no. omega arith }
+      | inr q ↦
+          let rest = record-ends (step default_config s c).0 _ _ xs p steps.0 q.1 in record {
+            between = rest.between;
+            no_more = omega (arith, rest.no_more);
+            fewer = λ no. omega (arith, rest.no_more);
+          }
     ]
 
 -- the records of a text, found one after the other
@@ -60,8 +45,8 @@ are-records_from (suc n) s xs between fits =
         → AreRecords default_config s xs (records_next (records_from default_config n) o)
     by None e more = (s, xs, (refl, refl), e)
     by (Some p) e more =
-        let rest = more p.1 p.2 (between-after s [] [] xs p (plain-between s between) e)
-        (omega (arith, record-shorter s xs p between e)) in
+        let ends = record-ends s [] [] xs p (plain-between s between) e in
+        let rest = more p.1 p.2 ends.between (omega (arith, ends.fewer between)) in
         (rest.0, rest.1, (p, e, refl, rest.2), rest.3)
 
 -- `records` gives all the records of a text
@@ -128,7 +113,7 @@ pub gives-some : (s : State) (text given : List ℕ) (p : Read) (rows : List (Li
     → Follows s text given p rows
 gives-some s text given p rows h between bytes e all =
     let plain = plain-between s between in
-    let after = between-after s [] [] given p plain e in
+    let after = (record-ends s [] [] given p plain e).between in
     elim h [
       | inl same ↦
           let step = first-record s text p rows (rw same at e) all in

@@ -8,10 +8,10 @@ pub use Rattle.csv.specs.Records.{fields_of, Row, text_of}
 unfoldable pub use Rattle.csv.specs.Records.{cut_from, field_at}
 pub use Rattle.csv.specs.declared.parser.Action.{Action}
 pub use Rattle.csv.specs.declared.parser.State.{State}
-pub use Rattle.std.proofs.Common.{[], All, ap, append_assoc, arith, Bool, drop, drop-drop, eqb-true, false, flat_map, get_or, inl, inr, length, length-append, length-drop, length-take, length-take-le, List, map, ne_eqb, None, Ok, Option, refl, rules, Some, subst, suc, sym, take, take-append-drop, take-take, true, zero, ℕ, ◌%◌, ◌++◌, ◌+◌, ◌-◌, ◌/◌, ◌<◌, ◌^◌, ◌∙◌, ◌∷◌, ◌≡◌, ◌≤◌, ◌⊎◌}
+pub use Rattle.std.proofs.Common.{[], All, ap, append_assoc, arith, Bool, drop, drop-drop, eqb-true, false, flat_map, get_or, inl, inr, length, length-append, length-drop, length-take, length-take-le, List, ne_eqb, None, Ok, Option, refl, rules, Some, subst, suc, sym, take, take-append-drop, take-take, true, zero, ℕ, ◌++◌, ◌+◌, ◌-◌, ◌<◌, ◌^◌, ◌∙◌, ◌∷◌, ◌≡◌, ◌≤◌, ◌⊎◌, add-one}
 pub use Rattle.std.proofs.lemmas.Bool.Decides.{nat_tests}
-pub use Rattle.std.proofs.lemmas.List.{append-nil, drop-take, drop_more, get_or-drop, take-append-le, take_more}
-pub use Rattle.std.proofs.lemmas.List.Elements.{All-append, All-cons, All-head, All-nil, All-tail, All-weaker}
+pub use Rattle.std.proofs.lemmas.List.{drop-take, drop_more, get_or-drop, take-append-le, take_more}
+pub use Rattle.std.proofs.lemmas.List.Elements.{All-append, All-cons, All-head, All-nil, All-tail, All-weaker, All-pop, All-take, All-drop}
 pub use Rattle.std.specs.Io.KnownBytes.{Consumes, IsAtEnd, Keeps, prepend_known}
 pub use Rattle.std.specs.Prelude.{Err, IfOk, IfSome, if◌then◌else◌, is_none, is_some, IsSome, option_map, Result, slice_set, ⊤, ◌&&◌, ◌==◌, ◌||◌}
 pub use Rattle.mdb_words.specs.RowsWritten.{hex_word, joined_by_commas, row_fields}

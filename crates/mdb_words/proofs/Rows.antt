@@ -92,7 +92,7 @@ letter_byte : (line : Line) → IsFieldByte (letter_of line)
 letter_byte Controller = inr (omega arith, omega arith)
 letter_byte Peripheral = inr (omega arith, omega arith)
 
-three_bytes : {A : Type 0} (P : A → Type 0) (a b c : A) → P a → P b → P c → All P (a ∷ b ∷ c ∷ [])
+pub three_bytes : {A : Type 0} (P : A → Type 0) (a b c : A) → P a → P b → P c → All P (a ∷ b ∷ c ∷ [])
 three_bytes P a b c p q r =
     All-cons P a (b ∷ c ∷ []) p (All-cons P b (c ∷ []) q (All-cons P c [] r (All-nil P)))
 
@@ -102,11 +102,12 @@ one_byte c h = All-cons IsFieldByte c [] h (All-nil IsFieldByte)
 glyph_byte : (d : ℕ) → d < 16 → IsFieldByte (digit_glyph true d)
 glyph_byte d h = grind (arith, nat_tests)
 
-hex_bytes : (word : ℕ) → word < 512 → All IsFieldByte (hex_word word)
-hex_bytes word small =
-    three_bytes IsFieldByte (digit_glyph true (word / 256)) (digit_glyph true (word / 16 % 16))
-    (digit_glyph true (word % 16)) (glyph_byte _ (omega arith)) (glyph_byte _ (omega arith))
-    (glyph_byte _ (omega arith))
+pub hex_bytes : (P : ℕ → Type 0) → ((d : ℕ) → d < 16 → P (digit_glyph true d)) → (word : ℕ)
+    → word < 512 → All P (hex_word word)
+hex_bytes P glyph word small =
+    three_bytes P (digit_glyph true (word / 256)) (digit_glyph true (word / 16 % 16))
+    (digit_glyph true (word % 16)) (glyph _ (omega arith)) (glyph _ (omega arith))
+    (glyph _ (omega arith))
 
 -- a written row is the event's, and no byte of a field parts or quotes
 abbrev pub IsWritten : Event → Type 0
@@ -124,7 +125,7 @@ written_word at line word early small = (
   ),
   three_bytes (All IsFieldByte) (decimal at) (letter_of line ∷ []) (hex_word word)
       (digit_byte at (omega arith)) (one_byte (letter_of line) (letter_byte line))
-      (hex_bytes word small),
+      (hex_bytes IsFieldByte glyph_byte word small),
 )
 
 written_break : (at span : ℕ) → at < 10 ^ 15 → span < 10 ^ 9 → IsWritten (Break at span)

@@ -20,15 +20,15 @@ given g c =
 
 pub returns-clause-records : goal.returns-clause-records
 returns-clause-records g c =
-    new-to-come g.R.Read.remaining _ c.new-2.result c.args.limit (g.R.Read.remaining c.args.reader)
-    refl refl (given g c)
+    new-to-come g.R.Read.remaining _ c.new-2.result c.args.limit refl
+    (g.R.Read.remaining c.args.reader) refl (given g c)
 
 pub returns-clause-over : goal.returns-clause-over
 returns-clause-over g c =
-    new-over g.R.Read.remaining _ c.new-2.result c.args.limit (g.R.Read.remaining c.args.reader)
-    refl refl (given g c)
+    new-over g.R.Read.remaining _ c.new-2.result c.args.limit refl
+    (g.R.Read.remaining c.args.reader) refl (given g c)
 
 pub returns-clause-within : goal.returns-clause-within
 returns-clause-within g c =
-    new-within g.R.Read.remaining _ c.new-2.result c.args.limit (g.R.Read.remaining c.args.reader)
-    refl (given g c)
+    new-within g.R.Read.remaining _ c.new-2.result c.args.limit refl
+    (g.R.Read.remaining c.args.reader) (given g c)

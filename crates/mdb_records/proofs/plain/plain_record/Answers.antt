@@ -1,11 +1,11 @@
-use Rattle.mdb_records.proofs.Words.{◌≡◌, ◌<◌, ◌+◌, [], ◌∷◌, ◌++◌, refl, length, arith, parted}
-use Rattle.mdb_records.proofs.PartFacts.{Rise, next-after, next_start, parted-more, rise-later, rise-more, rise-within}
+use Rattle.mdb_records.proofs.Words.{◌≡◌, ◌<◌, ◌+◌, refl, length, arith, parted}
+use Rattle.mdb_records.proofs.PartFacts.{next-after, next_start, none_within, parted-more, within-more, within-push}
 use Rattle.mdb_records.proofs.PlainFacts.{none-own, own-front, own-more, reads-field, reads-line}
 use Rattle.mdb_records.proofs.plain.plain_record.Goals as goal
 use Rattle.mdb_records.proofs.plain.plain_record.Goals.{in-Own, in-Comma+in_ok-add_end-in-Comma}
 
 pub bytes-init : goal.bytes-init
-unfolding next_start parted Rise
+unfolding next_start parted
 bytes-init c =
     let sure = c.sure_bytes-end.ensures in
     rw c.clear.ensures.items (
@@ -13,7 +13,7 @@ bytes-init c =
       sure.bounds,
       own-front c.sure_bytes-end.result c.args.text.now sure.plain,
       (λ later. refl),
-      omega arith,
+      none_within _,
     )
 
 pub returns-in-LineEnd : goal.returns-in-LineEnd
@@ -31,8 +31,8 @@ returns-in-LineEnd c =
       );
       within = λ count e.
           let same : c.bytes.end + 1 ≡ count = cc e in
-          rw (c.in_ok-add_end-in-LineEnd.ensures, ← same) (rise-within (ends ++ c.bytes.end ∷ [])
-          (c.bytes.end + 1) (rise-more 0 ends c.bytes.end inv.4));
+          rw (c.in_ok-add_end-in-LineEnd.ensures, ← same)
+          (within-push 0 ends c.bytes.end inv.4 inv.0);
     }
 
 pub bytes-preserved : goal.bytes-preserved
@@ -47,7 +47,7 @@ bytes-preserved c =
         omega (arith, inside),
         own-more text (next_start 0 ends) c.bytes.end inv.0 inside w.in-Own.ensures inv.2,
         inv.3,
-        rise-later 0 ends c.bytes.end (c.bytes.end + 1) inv.4 (omega arith),
+        within-more ends c.bytes.end (c.bytes.end + 1) inv.4 (omega arith),
       )
       | in-Comma+in_ok-add_end-in-Comma w ↦ rw (
         w.ends-is,
@@ -60,6 +60,6 @@ bytes-preserved c =
         none-own (c.bytes.end + 1) text,
         reads-field text (next_start 0 ends) c.bytes.end _ inv.0 inside w.in-Comma.ensures inv.2
             inv.3,
-        rise-more 0 ends c.bytes.end inv.4,
+        within-push 0 ends c.bytes.end inv.4 inv.0,
       )
     ]

@@ -1,5 +1,5 @@
-use Rattle.mdb_records.proofs.Words.{parted, is_special, ◌≡◌, ◌≤◌, ◌-◌, All, false, length, take, drop}
-use Rattle.mdb_records.proofs.PartFacts.{Rise, next_start}
+use Rattle.mdb_records.proofs.Words.{parted, is_special, ◌≡◌, ◌≤◌, ◌-◌, All, false, length, take, drop, AreWithin}
+use Rattle.mdb_records.proofs.PartFacts.{next_start}
 use Rattle.mdb_records.proofs.PlainFacts.{ReadsOnAt}
 use Rattle.mdb_records.proofs.plain.plain_record.Given as goal
 
@@ -9,7 +9,7 @@ invariant-bytes l = (next_start 0 l.ends.items ≤ l.end) × (l.end ≤ length l
     × All (λ c. is_special c ≡ false)
     (take (l.end - next_start 0 l.ends.items) (drop (next_start 0 l.ends.items) l.text))
     × ReadsOnAt l.text (next_start 0 l.ends.items) (parted 0 l.ends.items l.text)
-    × Rise 0 l.ends.items l.end
+    × AreWithin l.ends.items l.end
 
 abbrev pub decreases-bytes : goal.decreases-bytes
 decreases-bytes l = length l.text - l.end
