@@ -1,7 +1,5 @@
 -- The first byte of a command's block is to its device.
-use Rattle.mdb_msgs.proofs.Words.{◌≡◌, block_of, Command, First, Second, Spells, command_bytes}
-use Rattle.mdb_msgs.proofs.Words.{device_of, is_to_one_of}
-use Rattle.std.proofs.Common.{ap, refl, ◌∙◌, ℕ, List, slice_index}
+use Rattle.mdb_msgs.proofs.Words.{◌≡◌, block_of, Command, First, Second, Spells, command_bytes, device_of, is_to_one_of, ap, refl, ◌∙◌, ℕ, List, slice_index}
 use Rattle.mdb_msgs.specs.declared.command.Command.TheVariants.{Changer, Bill, Reader}
 use Rattle.mdb_msgs.specs.declared.command.BillCommand.TheVariants as bill
 use Rattle.mdb_msgs.specs.declared.command.ChangerCommand.TheVariants as changer

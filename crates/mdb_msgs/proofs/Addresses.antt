@@ -1,8 +1,5 @@
 -- Which device a block is for, told from its first byte.
-use Rattle.mdb_msgs.proofs.Words.{◌≡◌, ◌≤◌, length, nat_tests, block_of, Device, ReaderUnit, First}
-use Rattle.mdb_msgs.proofs.Words.{Second, MsgFault, IsCommandFault, IsRefused, reader_address}
-use Rattle.mdb_msgs.proofs.Words.{device_at, need, need_for, reader_need}
-use Rattle.std.proofs.Common.{ℕ, ◌+◌, ◌-◌, ◌/◌, ◌%◌, ◌<◌, List, [], ◌∷◌, slice_get, slice_index, sum, Option, Some, arith, ap, sym, ◌∙◌, length-append}
+use Rattle.mdb_msgs.proofs.Words.{◌≡◌, ◌≤◌, length, nat_tests, block_of, Device, ReaderUnit, First, Second, MsgFault, IsCommandFault, IsRefused, reader_address, device_at, need, need_for, reader_need, ℕ, ◌+◌, ◌-◌, ◌/◌, ◌%◌, ◌<◌, List, [], ◌∷◌, slice_get, slice_index, sum, Option, Some, arith, ap, sym, ◌∙◌, length-append}
 use Rattle.mdb_msgs.specs.declared.command.Device.TheVariants.{Changer, Bill, Reader}
 
 pub at_first : (first : ℕ) → 0x10 ≤ first → first ≤ 0x17 → device_at first ≡ Some (Reader First)

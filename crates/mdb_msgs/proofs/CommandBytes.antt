@@ -1,14 +1,10 @@
 -- That the bytes of a command's block are bytes.
-use Rattle.mdb_msgs.proofs.Words.{◌≤◌, AllByRecursion, recursion_from_All, All-from_recursion}
-use Rattle.mdb_msgs.proofs.Words.{All-append, block_of, Command, ChangerCommand, BillCommand, First}
-use Rattle.mdb_msgs.proofs.Words.{Second, IsByte, Spells, command_bytes}
-use Rattle.std.proofs.Common.{arith, ◌%◌, ℕ, List, [], ◌∷◌, ◌++◌, sum, All}
+use Rattle.mdb_msgs.proofs.Words.{◌≤◌, AllByRecursion, recursion_from_All, All-from_recursion, All-append, block_of, Command, ChangerCommand, BillCommand, First, Second, IsByte, Spells, command_bytes, arith, ◌%◌, ℕ, List, [], ◌∷◌, ◌++◌, sum, All, ReaderCommand, HasBillFields, HasChangerFields, HasReaderFields, bill_bytes, changer_bytes, reader_bytes}
 use Rattle.mdb_msgs.specs.declared.command.Command.TheVariants.{Changer, Bill, Reader}
 use Rattle.mdb_msgs.specs.declared.command.ChangerCommand.TheVariants as changer
 use Rattle.mdb_msgs.specs.declared.command.BillCommand.TheVariants as bill
-use Rattle.mdb_msgs.specs.declared.command.ReaderCommand.{ReaderCommand}
 use Rattle.mdb_msgs.specs.declared.command.ReaderCommand.TheVariants as reader
-use Rattle.mdb_msgs.specs.Commands.{HasBillFields, HasChangerFields, HasFields, HasReaderFields, bill_bytes, changer_bytes, reader_bytes}
+use Rattle.mdb_msgs.specs.Commands.{HasFields}
 
 -- the bytes of a command are bytes
 changer_low : (command : ChangerCommand) → HasChangerFields command

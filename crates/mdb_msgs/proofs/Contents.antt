@@ -1,16 +1,10 @@
 -- Bytes that are as long as they need to be are those of a command.
-use Rattle.mdb_msgs.proofs.Words
-use Words.{◌≡◌, ◌*◌, length, AllByRecursion, common_steps, All-from_recursion, recursion_from_All}
-use Words.{block_of, Command, ChangerCommand, BillCommand, Device, Exactly, IsByte, Spells}
-use Words.{reader_address, bill_need, changer_need, device_at, need_for, needed, reader_need}
-use Rattle.std.proofs.Common.{◌+◌, ◌%◌, ℕ, List, [], ◌∷◌, arith, refl, ap, ◌∙◌, All, slice_index, slice_get, drop, if◌then◌else◌, ◌==◌, Option, Some, None}
+use Rattle.mdb_msgs.proofs.Words.{◌≡◌, ◌*◌, length, AllByRecursion, common_steps, All-from_recursion, recursion_from_All, block_of, Command, ChangerCommand, BillCommand, Device, Exactly, IsByte, Spells, reader_address, bill_need, changer_need, device_at, need_for, needed, reader_need, ◌+◌, ◌%◌, ℕ, List, [], ◌∷◌, arith, refl, ap, ◌∙◌, All, slice_index, slice_get, drop, if◌then◌else◌, ◌==◌, Option, Some, None, ReaderCommand, HasBillFields, HasChangerFields, HasReaderFields, bill_bytes, changer_bytes, reader_bytes}
 use Rattle.mdb_msgs.specs.declared.command.Command.TheVariants.{Changer, Bill, Reader}
 use Rattle.mdb_msgs.specs.declared.command.ChangerCommand.TheVariants as changer
 use Rattle.mdb_msgs.specs.declared.command.BillCommand.TheVariants as bill
-use Rattle.mdb_msgs.specs.declared.command.ReaderCommand.{ReaderCommand}
 use Rattle.mdb_msgs.specs.declared.command.ReaderCommand.TheVariants as reader
 use Rattle.mdb_msgs.specs.declared.command.Device.TheVariants as device
-use Rattle.mdb_msgs.specs.Commands.{HasBillFields, HasChangerFields, HasReaderFields, bill_bytes, changer_bytes, reader_bytes}
 use Rattle.mdb_msgs.proofs.Addresses.{of_reader}
 
 -- the two-byte number at an index

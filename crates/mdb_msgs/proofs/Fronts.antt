@@ -1,9 +1,5 @@
 -- Which bytes are fronts of commands.
-use Rattle.mdb_msgs.proofs.Words.{◌≡◌, length, replicate, common_steps, All-append, All-replicate}
-use Rattle.mdb_msgs.proofs.Words.{Command, Device, Need, More, Exactly, IsByte, Spells, device_at}
-use Rattle.mdb_msgs.proofs.Words.{need, need_for, needed, IsOpen, IsShort, IsTold}
-use Rattle.std.proofs.Common.{◌≢◌, ◌<◌, ◌+◌, ◌-◌, ℕ, List, [], ◌∷◌, ◌++◌, sum, ◌%◌, Option, Some, None, All, arith, refl, ap, subst, ◌∙◌, append_assoc, length-append}
-use Rattle.std.proofs.lemmas.List.{length-replicate}
+use Rattle.mdb_msgs.proofs.Words.{◌≡◌, length, replicate, common_steps, All-append, All-replicate, Command, Device, Need, More, Exactly, IsByte, Spells, device_at, need, need_for, needed, IsOpen, IsShort, IsTold, ◌≢◌, ◌<◌, ◌+◌, ◌-◌, ℕ, List, [], ◌∷◌, ◌++◌, sum, ◌%◌, Option, Some, None, All, arith, refl, ap, subst, ◌∙◌, append_assoc, length-append, length-replicate}
 use Rattle.mdb_msgs.specs.declared.command.Device.TheVariants.{Changer}
 use Rattle.mdb_msgs.proofs.Contents.{spelled}
 use Rattle.mdb_msgs.proofs.Prefixes.{first_bytes}

@@ -1,6 +1,5 @@
 -- Reading a list of messages, one after the other.
-use Rattle.mdb_msgs.proofs.Words.{◌≡◌, ◌≤◌, length, flat_map, AllByRecursion, MsgFault, StopsAt}
-use Rattle.std.proofs.Common.{ℕ, ◌+◌, ◌<◌, List, ◌∷◌, ◌++◌, suc, drop, get_or, drop-cons}
+use Rattle.mdb_msgs.proofs.Words.{◌≡◌, ◌≤◌, length, flat_map, AllByRecursion, MsgFault, StopsAt, ℕ, ◌+◌, ◌<◌, List, ◌∷◌, ◌++◌, suc, drop, get_or, drop-cons}
 
 -- these messages were taken off the front, and this is the rest
 pub record Going {M : Type 0} (bytes_of : M → List ℕ) (IsMsg : M → Type 0) (whole : List ℕ)

@@ -1,8 +1,5 @@
 -- A block has one command or one fault.
-use Rattle.mdb_msgs.proofs.Words.{◌≡◌, length, block_of, Command, First, Second, MsgFault, Length}
-use Rattle.mdb_msgs.proofs.Words.{Profile, Need, Exactly, Foreign, Outside, IsCommandFault}
-use Rattle.mdb_msgs.proofs.Words.{IsRefused, Spells, command_bytes, is_for, needed}
-use Rattle.std.proofs.Common.{ℕ, ◌%◌, List, slice_index, drop, if◌then◌else◌, Result, Ok, Err, IfOk, IfErr, arith, refl, ap, sym, subst, ◌∙◌}
+use Rattle.mdb_msgs.proofs.Words.{◌≡◌, length, block_of, Command, First, Second, MsgFault, Length, Profile, Need, Exactly, Foreign, Outside, IsCommandFault, IsRefused, Spells, command_bytes, is_for, needed, ℕ, ◌%◌, List, slice_index, drop, if◌then◌else◌, Result, Ok, Err, IfOk, IfErr, arith, refl, ap, sym, subst, ◌∙◌}
 use Rattle.mdb_msgs.specs.declared.command.Command.TheVariants.{Changer, Bill, Reader}
 use Rattle.mdb_msgs.specs.declared.command.ChangerCommand.TheVariants as changer
 use Rattle.mdb_msgs.specs.declared.command.BillCommand.TheVariants as bill

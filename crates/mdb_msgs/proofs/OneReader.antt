@@ -1,10 +1,6 @@
 -- Bytes have one reading as a reader's answer.
-use Rattle.mdb_msgs.proofs.Words.{◌≡◌, length, result_ok, flat_map, MsgFault, Reading, ReaderMsg}
-use Rattle.mdb_msgs.proofs.Words.{Stand, four_bytes, messages_of, IsNextMessage, StandAsMessages}
-use Rattle.std.proofs.Common.{ℕ, inl, inr, List, [], ◌∷◌, ◌++◌, refl, sym, ap, ◌∙◌, arith, append_assoc, append-nil, length-append, subst, Result, Ok, Err, IfOk, IfErr, IfSome, IsNone, Bor}
+use Rattle.mdb_msgs.proofs.Words.{◌≡◌, length, result_ok, flat_map, MsgFault, Reading, ReaderMsg, Stand, four_bytes, messages_of, IsNextMessage, StandAsMessages, ℕ, inl, inr, List, [], ◌∷◌, ◌++◌, refl, sym, ap, ◌∙◌, arith, append_assoc, append-nil, length-append, subst, Result, Ok, Err, IfOk, IfErr, IfSome, IsNone, Bor, JustReset, Display, BeginSession, BeginSessionLong, PeripheralId, PeripheralIdWithOptions, TimeAsked, ReaderMessages, head_bytes, text_of, reader_msg_bytes, reader_list_bytes, AreReaderMsgs, IsReaderList, IsReaderMsg, IsTextOf, NoReaderMsg, ReaderStopsAt}
 use Rattle.mdb_msgs.specs.declared.fault.MsgFault.TheVariants as faults
-use Rattle.mdb_msgs.specs.declared.reply.reader.ReaderMsg.TheVariants.{JustReset, Display, BeginSession, BeginSessionLong, PeripheralId, PeripheralIdWithOptions, TimeAsked}
-use Rattle.mdb_msgs.specs.Reader.{ReaderMessages, head_bytes, text_of, reader_msg_bytes, reader_list_bytes, AreReaderMsgs, IsReaderList, IsReaderMsg, IsTextOf, NoReaderMsg, ReaderStopsAt}
 use Rattle.mdb_msgs.proofs.OneReading.{Ends, same_fault}
 use Rattle.mdb_msgs.proofs.ReaderBytes.{next_is, one_message, reads_list}
 use Rattle.mdb_msgs.proofs.Readings.{long_bytes, short_bytes}

@@ -1,9 +1,5 @@
 -- Bytes have one reading as a list of messages.
-use Rattle.mdb_msgs.proofs.Words.{◌≡◌, flat_map, AllByRecursion, nat_tests, MsgFault, BillMsg}
-use Rattle.mdb_msgs.proofs.Words.{ChangerMsg, bill_msg_bytes, IsBillMsg, NoBillMsg}
-use Rattle.mdb_msgs.proofs.Words.{changer_msg_bytes, IsChangerMsg, NoChangerMsg, StopsAt}
-use Rattle.std.proofs.Common.{ℕ, ◌-◌, ◌/◌, ◌%◌, ◌⊎◌, inl, inr, nat_lt, nat_eq, if◌then◌else◌, Bool, List, [], ◌∷◌, ◌++◌, refl, sym, ap, ◌∙◌, arith, append-nil, subst}
-use Rattle.std.proofs.lemmas.List.{append_cancel_left}
+use Rattle.mdb_msgs.proofs.Words.{◌≡◌, flat_map, AllByRecursion, nat_tests, MsgFault, BillMsg, ChangerMsg, bill_msg_bytes, IsBillMsg, NoBillMsg, changer_msg_bytes, IsChangerMsg, NoChangerMsg, StopsAt, ℕ, ◌-◌, ◌/◌, ◌%◌, ◌⊎◌, inl, inr, nat_lt, nat_eq, if◌then◌else◌, Bool, List, [], ◌∷◌, ◌++◌, refl, sym, ap, ◌∙◌, arith, append-nil, subst, append_cancel_left}
 use Rattle.mdb_msgs.specs.declared.fault.MsgFault.TheVariants as faults
 use Rattle.mdb_msgs.specs.declared.reply.bill.BillMsg.TheVariants as bill
 use Rattle.mdb_msgs.specs.declared.reply.changer.ChangerMsg.TheVariants as changer

@@ -1,13 +1,9 @@
 -- For a command, bytes have one reply or one fault.
-use Rattle.mdb_msgs.proofs.Words.{◌≡◌, length, block_of, DataForm, Command, MsgFault, Reading}
-use Rattle.mdb_msgs.proofs.Words.{Reply, BillSetup, ChangerSetup, Stacker, TubeStatus, is_extended}
-use Rattle.mdb_msgs.proofs.Words.{SpellsReply}
-use Rattle.std.proofs.Common.{◌≢◌, ℕ, ◌+◌, ◌/◌, ◌%◌, ◌<◌, inl, inr, if◌then◌else◌, Bool, true, false, Some, Result, Ok, Err, IfOk, IfErr, List, [], ◌∷◌, ◌++◌, refl, sym, ap, ◌∙◌, arith, length-append, subst, sum}
+use Rattle.mdb_msgs.proofs.Words.{◌≡◌, length, block_of, DataForm, Command, MsgFault, Reading, Reply, BillSetup, ChangerSetup, Stacker, TubeStatus, is_extended, SpellsReply, ◌≢◌, ℕ, ◌+◌, ◌/◌, ◌%◌, ◌<◌, inl, inr, if◌then◌else◌, Bool, true, false, Some, Result, Ok, Err, IfOk, IfErr, List, [], ◌∷◌, ◌++◌, refl, sym, ap, ◌∙◌, arith, length-append, subst, sum, form_of_reply, reply_bytes, HasMessages, IsIn, tells_of_sales, IsReplyTo, NoReply, IsNoReplyTo, IsReadFault, changer_setup_bytes, tube_status_bytes, bill_setup_bytes, stacker_bytes, IsStacker}
 use Rattle.mdb_msgs.specs.declared.answer.DataForm.TheVariants as form
 use Rattle.mdb_msgs.specs.declared.fault.MsgFault.TheVariants as faults
 use Rattle.mdb_msgs.specs.declared.reply.Reply.TheVariants as reply
-use Rattle.mdb_msgs.specs.Replies.{form_of_reply, reply_bytes, HasFields, HasMessages, IsIn, tells_of_sales, IsReplyTo, NoReply, IsNoReplyTo, IsReadFault}
-use Rattle.mdb_msgs.specs.Setup.{changer_setup_bytes, tube_status_bytes, bill_setup_bytes, stacker_bytes, IsStacker}
+use Rattle.mdb_msgs.specs.Replies.{HasFields}
 use Rattle.mdb_msgs.proofs.OneReader.{one_reader_list, reader_no_stop, one_reader_stop}
 use Rattle.mdb_msgs.proofs.ReaderBytes.{same_fronts}
 use Rattle.mdb_msgs.proofs.OneReading.{bill_way, changer_way, no_stop, one_list, one_stop}

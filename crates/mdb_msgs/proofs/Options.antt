@@ -1,13 +1,9 @@
 -- The first two bytes of a command's block tell whether it is ENABLE OPTIONS.
-use Rattle.mdb_msgs.proofs.Words.{◌≡◌, ◌≤◌, length, cases_eq, nat_tests, All-from_recursion}
-use Rattle.mdb_msgs.proofs.Words.{block_of, Command, First, Second, IsByte, Spells, command_bytes}
-use Rattle.mdb_msgs.proofs.Words.{begins_options, IsOpen}
-use Rattle.std.proofs.Common.{◌≢◌, ◌==◌, ◌||◌, ◌&&◌, ◌⊎◌, ℕ, List, [], ◌∷◌, ◌++◌, false, All, inl, inr, arith, refl, ap, sym, ◌∙◌}
+use Rattle.mdb_msgs.proofs.Words.{◌≡◌, ◌≤◌, length, cases_eq, nat_tests, All-from_recursion, block_of, Command, First, Second, IsByte, Spells, command_bytes, begins_options, IsOpen, ◌≢◌, ◌==◌, ◌||◌, ◌&&◌, ◌⊎◌, ℕ, List, [], ◌∷◌, ◌++◌, false, All, inl, inr, arith, refl, ap, sym, ◌∙◌, is_enable_options}
 use Rattle.mdb_msgs.specs.declared.command.Command.TheVariants.{Changer, Bill, Reader}
 use Rattle.mdb_msgs.specs.declared.command.BillCommand.TheVariants as bill
 use Rattle.mdb_msgs.specs.declared.command.ChangerCommand.TheVariants as changer
 use Rattle.mdb_msgs.specs.declared.command.ReaderCommand.TheVariants as reader
-use Rattle.mdb_msgs.specs.Commands.{is_enable_options}
 use Rattle.mdb_msgs.proofs.Fronts.{open_is_a_front}
 
 its_own : (command : Command)

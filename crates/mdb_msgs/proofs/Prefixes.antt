@@ -1,7 +1,5 @@
 -- What the first bytes of a block tell of its length.
-use Rattle.mdb_msgs.proofs.Words.{◌≡◌, length, common_steps, Command, Device, First, Second}
-use Rattle.mdb_msgs.proofs.Words.{Exactly, Spells, device_at, need_for, needed, IsTold, TellsLength}
-use Rattle.std.proofs.Common.{◌<◌, ℕ, List, [], ◌∷◌, ◌++◌, Option, Some, None, arith, refl}
+use Rattle.mdb_msgs.proofs.Words.{◌≡◌, length, common_steps, Command, Device, First, Second, Exactly, Spells, device_at, need_for, needed, IsTold, TellsLength, ◌<◌, ℕ, List, [], ◌∷◌, ◌++◌, Option, Some, None, arith, refl}
 use Rattle.mdb_msgs.specs.declared.command.Command.TheVariants.{Changer, Bill, Reader}
 use Rattle.mdb_msgs.specs.declared.command.BillCommand.TheVariants as bill
 use Rattle.mdb_msgs.specs.declared.command.Device.TheVariants as device

@@ -1,14 +1,7 @@
 -- The bytes of a reader's answer are read as the answer.
-use Rattle.mdb_msgs.proofs.Words.{◌≡◌, ◌*◌, ◌≤◌, length, take, replicate, flat_map, list_any}
-use Rattle.mdb_msgs.proofs.Words.{two_bytes, four_bytes, Ids, Reading, ReaderMsg, allows}
-use Rattle.mdb_msgs.proofs.Words.{takes_options, Stand, no_messages, messages_of, StandAsMessages}
-use Rattle.mdb_msgs.proofs.Words.{IsNextMessage}
-use Rattle.std.proofs.Common.{ℕ, zero, suc, ◌+◌, ◌/◌, ◌%◌, ◌<◌, ◌⊎◌, inl, inr, if◌then◌else◌, Bool, true, false, List, get_or, [], ◌∷◌, ◌++◌, drop, slice_index_or, Fits, w8, refl, sym, ap, ◌∙◌, arith, ap₂, append_assoc, append-nil, length-append, subst}
-use Rattle.std.proofs.lemmas.List.{append_cancel_left, drop-append-le, drop-take, get_or-drop, length-drop, length-take-le, take_all}
+use Rattle.mdb_msgs.proofs.Words.{◌≡◌, ◌*◌, ◌≤◌, length, take, replicate, flat_map, list_any, two_bytes, four_bytes, Ids, Reading, ReaderMsg, allows, takes_options, Stand, no_messages, messages_of, StandAsMessages, IsNextMessage, ℕ, zero, suc, ◌+◌, ◌/◌, ◌%◌, ◌<◌, ◌⊎◌, inl, inr, if◌then◌else◌, Bool, true, false, List, get_or, [], ◌∷◌, ◌++◌, drop, slice_index_or, Fits, w8, refl, sym, ap, ◌∙◌, arith, ap₂, append_assoc, append-nil, length-append, subst, append_cancel_left, drop-append-le, drop-take, get_or-drop, length-drop, length-take-le, take_all, JustReset, Config, Display, BeginSession, BeginSessionLong, VendApproved, PeripheralId, PeripheralIdWithOptions, OutOfSequence, OutOfSequenceIn, ReaderMessages, head_bytes, is_display, is_id, reading_of, text_of, reader_msg_bytes, reader_list_bytes, AreReaderMsgs, IsReaderList, IsReaderMsg, IsTextOf, front_id, front_session, out_of, front_text, before_messages, AreMessages}
 use Rattle.std.proofs.Math.Seq.{drop-append_seam, take-append_seam}
-use Rattle.mdb_msgs.specs.declared.reply.reader.ReaderMsg.TheVariants.{JustReset, Config, Display, BeginSession, BeginSessionLong, VendApproved, PeripheralId, PeripheralIdWithOptions, OutOfSequence, OutOfSequenceIn}
-use Rattle.mdb_msgs.specs.Reader.{ReaderMessages, head_bytes, is_display, is_id, reading_of, text_of, reader_msg_bytes, reader_list_bytes, AreReaderMsgs, IsReaderList, IsReaderMsg, IsTextOf}
-use Rattle.mdb_msgs.specs.ReaderBytes.{number_at, long_number_at, front_id, front_session, out_of, front_message, front_text, before_messages, messages_in, AreMessages}
+use Rattle.mdb_msgs.specs.ReaderBytes.{number_at, long_number_at, front_message, messages_in}
 
 -- numbers are told by their bytes
 whole : (n : ℕ) → 256 * (n / 256) + n % 256 ≡ n

@@ -1,11 +1,6 @@
 -- The readings of a reader's messages.
-use Rattle.mdb_msgs.proofs.Words.{◌≡◌, length, take, cases_Bool, list_any, Ids, Reading, ReaderMsg}
-use Rattle.mdb_msgs.proofs.Words.{Stand, own_ids, allows, takes_options}
-use Rattle.std.proofs.Common.{ℕ, ◌+◌, ◌/◌, ◌<◌, ◌==◌, inl, inr, if◌then◌else◌, Bool, true, false, ◌||◌, List, [], ◌∷◌, ◌++◌, refl, ap, ◌∙◌, get_or}
-use Rattle.std.proofs.lemmas.List.{take_more}
+use Rattle.mdb_msgs.proofs.Words.{◌≡◌, length, take, cases_Bool, list_any, Ids, Reading, ReaderMsg, Stand, own_ids, allows, takes_options, ℕ, ◌+◌, ◌/◌, ◌<◌, ◌==◌, inl, inr, if◌then◌else◌, Bool, true, false, ◌||◌, List, [], ◌∷◌, ◌++◌, refl, ap, ◌∙◌, get_or, take_more, JustReset, PeripheralId, PeripheralIdWithOptions, BeginSession, BeginSessionLong, OutOfSequence, OutOfSequenceIn, TimeAsked, ReaderMessages, has_long, ids_of, reader_msg_bytes, reading_of, session_bytes, wider, AreReaderMsgs, IsReaderMsg, IsTextOf}
 use Rattle.mdb_msgs.specs.declared.reading.Ids.TheVariants.{Bare, ByNext, Full}
-use Rattle.mdb_msgs.specs.declared.reply.reader.ReaderMsg.TheVariants.{JustReset, PeripheralId, PeripheralIdWithOptions, BeginSession, BeginSessionLong, OutOfSequence, OutOfSequenceIn, TimeAsked}
-use Rattle.mdb_msgs.specs.Reader.{ReaderMessages, has_long, ids_of, reader_msg_bytes, reading_of, session_bytes, wider, AreReaderMsgs, IsReaderMsg, IsTextOf}
 
 pub or_parts : (a b : Bool) → (a || b) ≡ false → (a ≡ false) × (b ≡ false)
 or_parts true b h = absurd (cc)

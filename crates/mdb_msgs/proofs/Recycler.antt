@@ -1,6 +1,5 @@
 -- The validator's messages of any profile are those of the extended profile.
-use Rattle.std.proofs.Common.{Bool, true, List, [], ◌∷◌, refl}
-use Rattle.mdb_msgs.proofs.Words.{AllByRecursion, BillMsg, IsBillMsg}
+use Rattle.mdb_msgs.proofs.Words.{Bool, true, List, [], ◌∷◌, refl, AllByRecursion, BillMsg, IsBillMsg}
 use Rattle.mdb_msgs.specs.declared.reply.bill.BillMsg.TheVariants as bill
 
 one_extended : (r : Bool) (m : BillMsg) → IsBillMsg r m → IsBillMsg true m

@@ -1,16 +1,10 @@
 -- Setup data, as they are read.
-use Rattle.mdb_msgs.proofs.Words.{◌≡◌, Command, Device, ReaderUnit, MsgFault, Length, Answer, Reply}
-use Rattle.mdb_msgs.proofs.Words.{ReaderMsg, base, early, early_long, SpellsReply}
-use Rattle.std.proofs.Common.{ap, refl, subst, sym, true, false, inl, inr, ◌∙◌, ℕ, Bool, List, [], ◌∷◌, ◌++◌, Option, Some, None, option_map}
-use Rattle.std.specs.Option.{option_or}
+use Rattle.mdb_msgs.proofs.Words.{◌≡◌, Command, Device, ReaderUnit, MsgFault, Length, Answer, Reply, ReaderMsg, base, early, early_long, SpellsReply, ap, refl, subst, sym, true, false, inl, inr, ◌∙◌, ℕ, Bool, List, [], ◌∷◌, ◌++◌, Option, Some, None, option_map, option_or, IsIn, IsReadFault, reply_bytes, last_level, level_in, IsSetup, IsSetupOf, config_in, known_with, last_config, leveled, or_else, IsToldAs}
 use Rattle.std.proofs.lemmas.Option.{same_Some}
 use Rattle.mdb_msgs.specs.declared.command.Command.TheVariants as command
 use Rattle.mdb_msgs.specs.declared.command.Device.TheVariants.{Changer, Bill, Reader}
 use Rattle.mdb_msgs.specs.declared.command.ReaderCommand.TheVariants as reader
 use Rattle.mdb_msgs.specs.declared.setups.Setups.{Setups}
-use Rattle.mdb_msgs.specs.Replies.{IsIn, IsReadFault, reply_bytes}
-use Rattle.mdb_msgs.specs.ExtendedLevels.{last_level, level_in}
-use Rattle.mdb_msgs.specs.SetupData.{IsSetup, IsSetupOf, config_in, known_with, last_config, leveled, or_else, IsToldAs}
 use Rattle.mdb_msgs.specs.inner.SetupAsked.{setup_of}
 use Rattle.mdb_msgs.proofs.OneReply.{one_content, one_reply, reply_has_no_fault}
 

@@ -1,13 +1,6 @@
 -- Bytes are messages, or there is a leftmost place where no message stands.
-use Rattle.mdb_msgs.proofs.Words
-use Words.{◌≡◌, ◌*◌, ◌≤◌, length, take, flat_map, AllByRecursion, cases_Bool, cases_eq, cases_lt}
-use Words.{nat_tests, All-drop, MsgFault, Message, Profile, ChangerMsg, Reading, ReaderMsg}
-use Words.{bill_msg_bytes, IsBillMsg, IsOfRecycler, NoBillMsg, changer_msg_bytes, IsChangerMsg}
-use Words.{NoChangerMsg, IsByte, StopsAt, allows, takes_options, no_messages, with_message}
-use Rattle.std.proofs.Common.{◌≢◌, ℕ, zero, suc, ◌+◌, ◌<◌, ◌⊎◌, inl, inr, Bool, true, false, List, [], ◌∷◌, ◌++◌, drop, All, refl, sym, ap, ◌∙◌, arith, append_assoc, append-nil, length-append, subst}
-use Rattle.std.proofs.lemmas.List.{length-take-le, take-append-drop}
+use Rattle.mdb_msgs.proofs.Words.{◌≡◌, ◌*◌, ◌≤◌, length, take, flat_map, AllByRecursion, cases_Bool, cases_eq, cases_lt, nat_tests, All-drop, MsgFault, Message, Profile, ChangerMsg, Reading, ReaderMsg, bill_msg_bytes, IsBillMsg, IsOfRecycler, NoBillMsg, changer_msg_bytes, IsChangerMsg, NoChangerMsg, IsByte, StopsAt, allows, takes_options, no_messages, with_message, ◌≢◌, ℕ, zero, suc, ◌+◌, ◌<◌, ◌⊎◌, inl, inr, Bool, true, false, List, [], ◌∷◌, ◌++◌, drop, All, refl, sym, ap, ◌∙◌, arith, append_assoc, append-nil, length-append, subst, length-take-le, take-append-drop, ReaderMessages, head_bytes, reader_list_bytes, session_bytes, AreReaderMsgs, IsReaderList, IsTextOf, NoReaderMsg, ReaderStopsAt}
 use Rattle.mdb_msgs.specs.declared.reply.reader.ReaderMsg.TheVariants as reader
-use Rattle.mdb_msgs.specs.Reader.{ReaderMessages, head_bytes, reader_list_bytes, session_bytes, AreReaderMsgs, IsReaderList, IsTextOf, NoReaderMsg, ReaderStopsAt}
 use Rattle.mdb_msgs.proofs.OneReading.{bill_find, changer_front}
 use Rattle.mdb_msgs.proofs.ReaderBytes.{four, head_counts, pair_bytes, text_with_options}
 use Rattle.mdb_msgs.proofs.Readings.{long_bytes, short_bytes}

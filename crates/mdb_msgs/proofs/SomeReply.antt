@@ -1,14 +1,9 @@
 -- Data bytes are a reply to a command, or have a fault.
-use Rattle.mdb_msgs.proofs.Words.{◌≡◌, ◌*◌, ◌≤◌, length, cases_eq, cases_lt, IsContent, DataForm}
-use Rattle.mdb_msgs.proofs.Words.{Command, MsgFault, Length, Message, Profile, Answer, Reading}
-use Rattle.mdb_msgs.proofs.Words.{Reply, BillSetup, ChangerSetup, Stacker, TubeStatus, IsByte}
-use Rattle.mdb_msgs.proofs.Words.{is_extended, two_bytes}
-use Rattle.std.proofs.Common.{◌≢◌, ℕ, ◌+◌, ◌-◌, ◌<◌, ◌⊎◌, inl, inr, Bool, true, false, Option, Some, None, List, [], ◌∷◌, slice_index, All, refl, sym, ap, ◌∙◌, arith, if◌then◌else◌}
+use Rattle.mdb_msgs.proofs.Words.{◌≡◌, ◌*◌, ◌≤◌, length, cases_eq, cases_lt, IsContent, DataForm, Command, MsgFault, Length, Message, Profile, Answer, Reading, Reply, BillSetup, ChangerSetup, Stacker, TubeStatus, IsByte, is_extended, two_bytes, ◌≢◌, ℕ, ◌+◌, ◌-◌, ◌<◌, ◌⊎◌, inl, inr, Bool, true, false, Option, Some, None, List, [], ◌∷◌, slice_index, All, refl, sym, ap, ◌∙◌, arith, if◌then◌else◌, form_of_reply, reply_bytes, tells_of_sales, HasMessages, IsIn, IsReplyTo, IsReadFault, NoReply, changer_setup_bytes, tube_status_bytes, bill_setup_bytes, stacker_bytes, IsStacker}
 use Rattle.mdb_msgs.specs.declared.answer.DataForm.TheVariants as form
 use Rattle.mdb_msgs.specs.declared.reply.Reply.TheVariants as reply
 use Rattle.mdb_msgs.specs.Answers.{form_of, lengths_of, may_tell_of_sales, IsDataLength}
-use Rattle.mdb_msgs.specs.Replies.{form_of_reply, reply_bytes, tells_of_sales, HasFields, HasMessages, IsIn, IsReplyTo, IsReadFault, NoReply}
-use Rattle.mdb_msgs.specs.Setup.{changer_setup_bytes, tube_status_bytes, bill_setup_bytes, stacker_bytes, IsStacker}
+use Rattle.mdb_msgs.specs.Replies.{HasFields}
 use Rattle.mdb_msgs.proofs.ReaderBytes.{pair_bytes}
 use Rattle.mdb_msgs.proofs.Recycler.{all_extended}
 use Rattle.mdb_msgs.proofs.SomeReading.{changer_reads, bill_reads, reader_reads}

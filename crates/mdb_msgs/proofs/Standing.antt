@@ -1,6 +1,5 @@
 -- Messages that look at what comes after them.
-use Rattle.mdb_msgs.proofs.Words.{◌≡◌, flat_map, AllByRecursion, flat_map-append, Stand}
-use Rattle.std.proofs.Common.{ℕ, List, [], ◌∷◌, ◌++◌, refl, sym, ◌∙◌, append_assoc, append-nil, subst}
+use Rattle.mdb_msgs.proofs.Words.{◌≡◌, flat_map, AllByRecursion, flat_map-append, Stand, ℕ, List, [], ◌∷◌, ◌++◌, refl, sym, ◌∙◌, append_assoc, append-nil, subst}
 
 -- two messages at the front of the same bytes are one, where one is spelled by f and the other by g
 abbrev pub OneBefore : {M : Type 0} → (M → List ℕ) → (M → List ℕ) → (M → List ℕ → Type 0)

@@ -1,5 +1,5 @@
 -- Bytes are read as the one command that they are, or with their one fault.
-use Rattle.std.proofs.Common.{refl}
+use Rattle.mdb_msgs.proofs.Words.{refl}
 use Rattle.mdb_msgs.proofs.OneCommand.{only_command, only_command_fault}
 use Rattle.mdb_msgs.proofs.command_reading.command_of.Goals as goal
 

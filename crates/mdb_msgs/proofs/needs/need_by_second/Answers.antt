@@ -1,5 +1,4 @@
-use Rattle.mdb_msgs.proofs.Words.{◌≡◌, common_steps, need}
-use Rattle.std.proofs.Common.{slice_index, slice_get, sym, ap, ◌∙◌, arith}
+use Rattle.mdb_msgs.proofs.Words.{◌≡◌, common_steps, need, slice_index, slice_get, sym, ap, ◌∙◌, arith}
 use Rattle.mdb_msgs.proofs.Addresses.{at_first, at_second, need_at}
 use Rattle.mdb_msgs.proofs.needs.need_by_second.Goals as goal
 

@@ -1,6 +1,5 @@
 -- A block is read as the one reply that it spells, or with its one fault.
-use Rattle.std.proofs.Common.{subst, sym, ◌∙◌}
-use Rattle.mdb_msgs.specs.Replies.{IsReadFault}
+use Rattle.mdb_msgs.proofs.Words.{subst, sym, ◌∙◌, IsReadFault}
 use Rattle.mdb_msgs.proofs.OneReply.{found_reply, one_content, only_content, only_fault, read_fault}
 use Rattle.mdb_msgs.proofs.reply.read_reply.Goals as goal
 

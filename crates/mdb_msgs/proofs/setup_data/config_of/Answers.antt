@@ -1,5 +1,4 @@
-use Rattle.std.proofs.Common.{[], ◌∷◌, ◌++◌, ◌∙◌, ap, ap₂, append_assoc, sym}
-use Rattle.mdb_msgs.specs.SetupData.{or_else}
+use Rattle.mdb_msgs.proofs.Words.{[], ◌∷◌, ◌++◌, ◌∙◌, ap, ap₂, append_assoc, sym, or_else}
 use Rattle.mdb_msgs.proofs.SetupData.{last_more}
 use Rattle.mdb_msgs.proofs.setup_data.config_of.Goals as goal
 

@@ -1,5 +1,4 @@
-use Rattle.std.proofs.Common.{◌≡◌, ◌++◌}
-use Rattle.mdb_msgs.specs.SetupData.{last_config}
+use Rattle.mdb_msgs.proofs.Words.{◌≡◌, ◌++◌, last_config}
 use Rattle.mdb_msgs.proofs.setup_data.config_of.Given as goal
 
 -- what the messages so far say

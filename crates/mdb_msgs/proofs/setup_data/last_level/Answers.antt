@@ -1,5 +1,4 @@
-use Rattle.std.proofs.Common.{[], ◌∷◌, ◌++◌, ◌∙◌, ap, ap₂, append_assoc, sym}
-use Rattle.std.specs.Option.{option_or}
+use Rattle.mdb_msgs.proofs.Words.{[], ◌∷◌, ◌++◌, ◌∙◌, ap, ap₂, append_assoc, sym, option_or}
 use Rattle.mdb_msgs.proofs.SetupData.{last_level_more}
 use Rattle.mdb_msgs.proofs.setup_data.last_level.Goals as goal
 

@@ -1,5 +1,4 @@
-use Rattle.std.proofs.Common.{◌≡◌, ◌++◌}
-use Rattle.mdb_msgs.specs.ExtendedLevels.{last_level}
+use Rattle.mdb_msgs.proofs.Words.{◌≡◌, ◌++◌, last_level}
 use Rattle.mdb_msgs.proofs.setup_data.last_level.Given as goal
 
 -- what the messages so far say

@@ -1,6 +1,5 @@
 -- Each message of the validator has one byte.
-use Rattle.mdb_msgs.proofs.Words.{◌≡◌, length, flat_map, BillMsg, bill_msg_bytes}
-use Rattle.std.proofs.Common.{List, [], ◌∷◌, refl, arith, length-append}
+use Rattle.mdb_msgs.proofs.Words.{◌≡◌, length, flat_map, BillMsg, bill_msg_bytes, List, [], ◌∷◌, refl, arith, length-append}
 use Rattle.mdb_msgs.specs.declared.reply.bill.BillMsg.TheVariants.{Reset}
 use Rattle.mdb_msgs.proofs.reply.bill.count_of.Goals as goal
 

@@ -1,5 +1,4 @@
-use Rattle.std.proofs.Common.{arith, suc, drop}
-use Rattle.mdb_msgs.proofs.Words.{err_from_is_err_and, NoBillMsg}
+use Rattle.mdb_msgs.proofs.Words.{arith, suc, drop, err_from_is_err_and, NoBillMsg}
 use Rattle.mdb_msgs.proofs.ListReading.{stops_at}
 use Rattle.mdb_msgs.proofs.reply.bill.read_messages.Goals as goal
 

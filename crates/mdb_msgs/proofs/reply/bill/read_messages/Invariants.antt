@@ -1,5 +1,4 @@
-use Rattle.std.proofs.Common.{drop}
-use Rattle.mdb_msgs.specs.Bill.{bill_msg_bytes, IsBillMsg}
+use Rattle.mdb_msgs.proofs.Words.{drop, bill_msg_bytes, IsBillMsg}
 use Rattle.mdb_msgs.proofs.ListReading.{Going}
 use Rattle.mdb_msgs.proofs.reply.bill.read_messages.Given as goal
 

@@ -1,8 +1,5 @@
 -- Where no room is left for a message, the list has too many bytes for a block.
-use Rattle.std.proofs.Common.{◌+◌, ◌<◌, arith, get_or, length, length-append, ap}
-use Rattle.mdb_msgs.specs.declared.reply.reader.ReaderMsg.TheVariants.{JustReset}
-use Rattle.mdb_msgs.specs.Reader.{head_bytes, text_of, reader_msg_bytes}
-use Rattle.mdb_msgs.specs.ReaderBytes.{foot_bytes}
+use Rattle.mdb_msgs.proofs.Words.{◌+◌, ◌<◌, arith, get_or, length, length-append, ap, JustReset, head_bytes, text_of, reader_msg_bytes, foot_bytes}
 use Rattle.mdb_msgs.proofs.ReaderWriting.{no_room}
 use Rattle.mdb_msgs.proofs.reply.reader.bytes_of.Goals as goal
 

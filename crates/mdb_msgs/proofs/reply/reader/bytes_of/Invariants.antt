@@ -1,5 +1,4 @@
-use Rattle.mdb_msgs.proofs.Words.{◌≡◌, ◌≤◌, length, take, flat_map}
-use Rattle.mdb_msgs.specs.Reader.{reader_msg_bytes}
+use Rattle.mdb_msgs.proofs.Words.{◌≡◌, ◌≤◌, length, take, flat_map, reader_msg_bytes}
 use Rattle.mdb_msgs.proofs.reply.reader.bytes_of.Given as goal
 
 abbrev pub invariant-loop-message : goal.invariant-loop-message

@@ -1,4 +1,4 @@
-use Rattle.std.proofs.Common.{IsSome, sym, subst, ◌∙◌}
+use Rattle.mdb_msgs.proofs.Words.{IsSome, sym, subst, ◌∙◌}
 use Rattle.mdb_msgs.proofs.ReaderWriting.{never_refused, read_back}
 use Rattle.mdb_msgs.proofs.reply.reader.read_as.Goals as goal
 

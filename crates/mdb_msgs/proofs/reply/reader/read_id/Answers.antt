@@ -1,4 +1,4 @@
-use Rattle.std.proofs.Common.{ap₂, sym, ◌∙◌, ◌*◌, ◌+◌}
+use Rattle.mdb_msgs.proofs.Words.{ap₂, sym, ◌∙◌, ◌*◌, ◌+◌}
 use Rattle.mdb_msgs.proofs.ReaderBytes.{read_options}
 use Rattle.mdb_msgs.proofs.reply.reader.read_id.Goals as goal
 

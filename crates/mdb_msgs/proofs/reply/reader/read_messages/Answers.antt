@@ -1,7 +1,5 @@
 -- Messages are taken one after the other, until none is left or none stands there.
-use Rattle.std.proofs.Common.{◌||◌, Bool, [], ap, ap₂, refl, subst, sym, ◌∙◌}
-use Rattle.mdb_msgs.proofs.Words.{err_from_is_err_and, Ids, Reading, no_messages, with_message}
-use Rattle.mdb_msgs.specs.Reader.{has_long, AreReaderMsgs}
+use Rattle.mdb_msgs.proofs.Words.{◌||◌, Bool, [], ap, ap₂, refl, subst, sym, ◌∙◌, err_from_is_err_and, Ids, Reading, no_messages, with_message, has_long, AreReaderMsgs}
 use Rattle.mdb_msgs.proofs.ReaderBytes.{are_messages, read_own}
 use Rattle.mdb_msgs.proofs.ReaderReading.{all_read, any_more, ids_more, nothing_taken, stops_next, takes_next}
 use Rattle.mdb_msgs.proofs.reply.reader.read_messages.Goals as goal

@@ -1,5 +1,4 @@
-use Rattle.mdb_msgs.proofs.Words.{◌≡◌, length, list_any, own_ids}
-use Rattle.mdb_msgs.specs.Reader.{ReaderMessages, has_long}
+use Rattle.mdb_msgs.proofs.Words.{◌≡◌, length, list_any, own_ids, ReaderMessages, has_long}
 use Rattle.mdb_msgs.proofs.ReaderReading.{Taken}
 use Rattle.mdb_msgs.proofs.reply.reader.read_messages.Given as goal
 

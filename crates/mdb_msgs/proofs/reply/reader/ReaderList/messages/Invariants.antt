@@ -1,5 +1,4 @@
-use Rattle.mdb_msgs.proofs.Words.{◌≡◌, ◌≤◌, length, messages_of, StandAsMessages}
-use Rattle.std.proofs.Common.{◌+◌, ◌++◌}
+use Rattle.mdb_msgs.proofs.Words.{◌≡◌, ◌≤◌, length, messages_of, StandAsMessages, ◌+◌, ◌++◌}
 use Rattle.mdb_msgs.proofs.reply.reader.ReaderList.messages.Given as goal
 
 abbrev pub invariant-loop-message : goal.invariant-loop-message
