@@ -1,25 +1,22 @@
 -- That the bytes of a command's block are bytes.
 use Rattle.mdb_msgs.proofs.Words.{◌≤◌, AllByRecursion, recursion_from_All, All-from_recursion, All-append, block_of, Command, ChangerCommand, BillCommand, First, Second, IsByte, Spells, command_bytes, arith, ◌%◌, ℕ, List, [], ◌∷◌, ◌++◌, sum, All, ReaderCommand, HasBillFields, HasChangerFields, HasReaderFields, bill_bytes, changer_bytes, reader_bytes}
 use Rattle.mdb_msgs.specs.declared.command.Command.TheVariants.{Changer, Bill, Reader}
-use Rattle.mdb_msgs.specs.declared.command.ChangerCommand.TheVariants as changer
-use Rattle.mdb_msgs.specs.declared.command.BillCommand.TheVariants as bill
-use Rattle.mdb_msgs.specs.declared.command.ReaderCommand.TheVariants as reader
 use Rattle.mdb_msgs.specs.Commands.{HasFields}
 
 -- the bytes of a command are bytes
 changer_low : (command : ChangerCommand) → HasChangerFields command
     → AllByRecursion IsByte (changer_bytes command)
-changer_low changer.Reset fields = (omega arith, tt)
+changer_low ChangerCommand.Reset fields = (omega arith, tt)
 changer_low command fields = search (arith, recursion_from_All)
 
 bill_low : (command : BillCommand) → HasBillFields command
     → AllByRecursion IsByte (bill_bytes command)
-bill_low bill.Reset fields = (omega arith, tt)
+bill_low BillCommand.Reset fields = (omega arith, tt)
 bill_low command fields = search (arith, recursion_from_All)
 
 reader_low : (address : ℕ) (command : ReaderCommand) → address ≤ 0x60 → HasReaderFields command
     → AllByRecursion IsByte (reader_bytes address command)
-reader_low address reader.Reset low fields = (omega arith, tt)
+reader_low address ReaderCommand.Reset low fields = (omega arith, tt)
 reader_low address command low fields = search (arith, recursion_from_All)
 
 -- the bytes of a block are bytes

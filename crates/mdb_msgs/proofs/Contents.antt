@@ -1,10 +1,6 @@
 -- Bytes that are as long as they need to be are those of a command.
 use Rattle.mdb_msgs.proofs.Words.{◌≡◌, ◌*◌, length, AllByRecursion, common_steps, All-from_recursion, recursion_from_All, block_of, Command, ChangerCommand, BillCommand, Device, Exactly, IsByte, Spells, reader_address, bill_need, changer_need, device_at, need_for, needed, reader_need, ◌+◌, ◌%◌, ℕ, List, [], ◌∷◌, arith, refl, ap, ◌∙◌, All, slice_index, slice_get, drop, if◌then◌else◌, ◌==◌, Option, Some, None, ReaderCommand, HasBillFields, HasChangerFields, HasReaderFields, bill_bytes, changer_bytes, reader_bytes}
 use Rattle.mdb_msgs.specs.declared.command.Command.TheVariants.{Changer, Bill, Reader}
-use Rattle.mdb_msgs.specs.declared.command.ChangerCommand.TheVariants as changer
-use Rattle.mdb_msgs.specs.declared.command.BillCommand.TheVariants as bill
-use Rattle.mdb_msgs.specs.declared.command.ReaderCommand.TheVariants as reader
-use Rattle.mdb_msgs.specs.declared.command.Device.TheVariants as device
 use Rattle.mdb_msgs.proofs.Addresses.{of_reader}
 
 -- the two-byte number at an index
@@ -13,15 +9,15 @@ number_at bytes i = 256 * slice_index bytes i + slice_index bytes (i + 1)
 
 abbrev pub changer_at : List ℕ → ChangerCommand
 changer_at content =
-    if slice_index content 0 == 0x08 then changer.Reset
-    else if slice_index content 0 == 0x09 then changer.Setup
-    else if slice_index content 0 == 0x0A then changer.TubeStatus
-    else if slice_index content 0 == 0x0B then changer.Poll
-    else if slice_index content 0 == 0x0C then changer.CoinType (number_at content 1)
+    if slice_index content 0 == 0x08 then ChangerCommand.Reset
+    else if slice_index content 0 == 0x09 then ChangerCommand.Setup
+    else if slice_index content 0 == 0x0A then ChangerCommand.TubeStatus
+    else if slice_index content 0 == 0x0B then ChangerCommand.Poll
+    else if slice_index content 0 == 0x0C then ChangerCommand.CoinType (number_at content 1)
     (number_at content 3)
-    else if slice_index content 0 == 0x0D then changer.Dispense (slice_index content 1)
-    else if slice_index content 1 == 0x00 then changer.Identification
-    else changer.Features (drop 2 content)
+    else if slice_index content 0 == 0x0D then ChangerCommand.Dispense (slice_index content 1)
+    else if slice_index content 1 == 0x00 then ChangerCommand.Identification
+    else ChangerCommand.Features (drop 2 content)
 
 changer_spelled : (content : List ℕ) → AllByRecursion IsByte content
     → changer_need (slice_index content 0) (slice_get content 1) ≡ Exactly (length content + 1)
@@ -32,17 +28,17 @@ changer_spelled content low told = grind (arith, common_steps)
 
 abbrev pub bill_at : List ℕ → BillCommand
 bill_at content =
-    if slice_index content 0 == 0x30 then bill.Reset
-    else if slice_index content 0 == 0x31 then bill.Setup
-    else if slice_index content 0 == 0x32 then bill.Security (drop 1 content)
-    else if slice_index content 0 == 0x33 then bill.Poll
-    else if slice_index content 0 == 0x34 then bill.BillType (number_at content 1)
+    if slice_index content 0 == 0x30 then BillCommand.Reset
+    else if slice_index content 0 == 0x31 then BillCommand.Setup
+    else if slice_index content 0 == 0x32 then BillCommand.Security (drop 1 content)
+    else if slice_index content 0 == 0x33 then BillCommand.Poll
+    else if slice_index content 0 == 0x34 then BillCommand.BillType (number_at content 1)
     (number_at content 3)
-    else if slice_index content 0 == 0x35 then bill.Escrow (slice_index content 1)
-    else if slice_index content 0 == 0x36 then bill.Stacker
-    else if slice_index content 1 == 0x00 then bill.Identification
-    else if slice_index content 1 == 0x01 then bill.Features (drop 2 content)
-    else bill.IdentificationWithOptions
+    else if slice_index content 0 == 0x35 then BillCommand.Escrow (slice_index content 1)
+    else if slice_index content 0 == 0x36 then BillCommand.Stacker
+    else if slice_index content 1 == 0x00 then BillCommand.Identification
+    else if slice_index content 1 == 0x01 then BillCommand.Features (drop 2 content)
+    else BillCommand.IdentificationWithOptions
 
 bill_spelled : (content : List ℕ) → AllByRecursion IsByte content
     → bill_need (slice_index content 0) (slice_get content 1) ≡ Exactly (length content + 1)
@@ -56,25 +52,25 @@ bill_spelled content low told = grind (arith, common_steps)
 -- by the lower three bits of the first byte, and the bytes after it
 abbrev pub reader_at : ℕ → List ℕ → ReaderCommand
 reader_at command fields =
-    if command == 0 then reader.Reset
-    else if command == 1 then (if slice_index fields 0 == 0x00 then reader.SetupConfig
+    if command == 0 then ReaderCommand.Reset
+    else if command == 1 then (if slice_index fields 0 == 0x00 then ReaderCommand.SetupConfig
     (slice_index fields 1) (slice_index fields 2) (slice_index fields 3) (slice_index fields 4)
-    else reader.SetupPrices (number_at fields 1) (number_at fields 3))
-    else if command == 2 then reader.Poll
+    else ReaderCommand.SetupPrices (number_at fields 1) (number_at fields 3))
+    else if command == 2 then ReaderCommand.Poll
     else if command == 3 then
-    (if slice_index fields 0 == 0x00 then reader.VendRequest (number_at fields 1)
+    (if slice_index fields 0 == 0x00 then ReaderCommand.VendRequest (number_at fields 1)
     (number_at fields 3)
-    else if slice_index fields 0 == 0x01 then reader.VendCancel
-    else if slice_index fields 0 == 0x02 then reader.VendSuccess (number_at fields 1)
-    else if slice_index fields 0 == 0x03 then reader.VendFailure
-    else if slice_index fields 0 == 0x04 then reader.SessionComplete
-    else reader.CashSale (number_at fields 1) (number_at fields 3))
+    else if slice_index fields 0 == 0x01 then ReaderCommand.VendCancel
+    else if slice_index fields 0 == 0x02 then ReaderCommand.VendSuccess (number_at fields 1)
+    else if slice_index fields 0 == 0x03 then ReaderCommand.VendFailure
+    else if slice_index fields 0 == 0x04 then ReaderCommand.SessionComplete
+    else ReaderCommand.CashSale (number_at fields 1) (number_at fields 3))
     else if command == 4 then
-    (if slice_index fields 0 == 0x00 then reader.Disable
-    else if slice_index fields 0 == 0x01 then reader.Enable
-    else reader.Cancel)
-    else if slice_index fields 0 == 0x00 then reader.RequestId (drop 1 fields)
-    else reader.EnableOptions (drop 1 fields)
+    (if slice_index fields 0 == 0x00 then ReaderCommand.Disable
+    else if slice_index fields 0 == 0x01 then ReaderCommand.Enable
+    else ReaderCommand.Cancel)
+    else if slice_index fields 0 == 0x00 then ReaderCommand.RequestId (drop 1 fields)
+    else ReaderCommand.EnableOptions (drop 1 fields)
 
 reader_spelled : (address command : ℕ) (fields : List ℕ) → AllByRecursion IsByte fields
     → reader_need command (slice_get fields 0) ≡ Exactly (length fields + 2)
@@ -91,13 +87,13 @@ module _ (first : ℕ) (rest : List ℕ) (low : AllByRecursion IsByte (first ∷
   by_device : (device : Option Device) → device_at first ≡ device
       → need_for device first (slice_get (first ∷ rest) 1) ≡ Exactly (length (first ∷ rest) + 1)
       → (command : Command) × Spells command (block_of (first ∷ rest))
-  by_device (Some device.Changer) at told =
+  by_device (Some Device.Changer) at told =
       let it = changer_spelled (first ∷ rest) low told in
       (Changer (changer_at (first ∷ rest)), record { fields = it.0; bytes = ap block_of it.1 })
-  by_device (Some device.Bill) at told =
+  by_device (Some Device.Bill) at told =
       let found = bill_spelled (first ∷ rest) low told in
       (Bill (bill_at (first ∷ rest)), record { fields = found.0; bytes = ap block_of found.1 })
-  by_device (Some (device.Reader unit)) at told =
+  by_device (Some (Device.Reader unit)) at told =
       let found = reader_spelled (reader_address unit) (first % 8) rest low.1
       (told ∙ ap Exactly (omega arith)) in (
         Reader unit (reader_at (first % 8) rest),

@@ -12,11 +12,8 @@ code (Exactly n) = n + 3
 
 same_code : (one other : Need) → code one ≡ code other → one ≡ other
 unfolding code
-same_code (Exactly n) (Exactly m) h = let same : n ≡ m = omega arith in ap Exactly same
 same_code More More h = refl
-same_code Foreign Foreign h = refl
-same_code Outside Outside h = refl
-same_code one other h = absurd (omega arith)
+same_code one other h = grind arith
 
 -- two functions agree below n
 agree_below : (ℕ → Need) → (ℕ → Need) → ℕ → Bool

@@ -5,47 +5,34 @@ use Rattle.mdb_msgs.proofs.Contents.{spelled}
 use Rattle.mdb_msgs.proofs.Prefixes.{first_bytes}
 
 -- bytes and what makes a command of them
-record Goes (bytes : List ℕ) : Type 0 where
-  command : Command
-  rest : List ℕ
-  more : rest ≢ []
-  spells : Spells command (bytes ++ rest)
+abbrev Goes : List ℕ → Type 0
+Goes bytes =
+    (command : Command) × (rest : List ℕ) × (rest ≢ []) × Spells command (bytes ++ rest)
 
 -- the need of a first byte with the subcommand 00
 abbrev count_of : Need → ℕ
 count_of (Exactly n) = n
 count_of _ = 0
 
--- a length that the first byte tells, no second byte changes; where the subcommand decides, the
--- subcommand 00 tells one
-record Widens (told : Option ℕ → Need) : Type 0 where
-  by_first : (second n : ℕ) → told None ≡ Exactly n → told (Some second) ≡ Exactly n
-  by_second : told None ≡ More → (told (Some 0) ≡ Exactly (count_of (told (Some 0))))
-      × (2 < count_of (told (Some 0)))
-
+-- a length that the first byte tells, no second byte changes
 first_tells : (first : ℕ) (device : Option Device) (second n : ℕ)
     → need_for device first None ≡ Exactly n → need_for device first (Some second) ≡ Exactly n
 first_tells first (Some Changer) second n told = grind (arith, common_steps)
 first_tells first device second n told = grind (arith, common_steps)
 
+-- where the subcommand decides, the subcommand 00 tells one
 second_tells : (first : ℕ) (device : Option Device) → need_for device first None ≡ More
     → (need_for device first (Some 0) ≡ Exactly (count_of (need_for device first (Some 0))))
     × (2 < count_of (need_for device first (Some 0)))
 second_tells first (Some Changer) left = grind (arith, common_steps)
 second_tells first device left = grind (arith, common_steps)
 
-widens : (first : ℕ) → Widens (need first)
-widens first = record {
-  by_first = first_tells first (device_at first);
-  by_second = second_tells first (device_at first);
-}
-
 -- nor do bytes after
 told_after : (bytes more : List ℕ) (n : ℕ) → needed bytes ≡ Exactly n
     → needed (bytes ++ more) ≡ Exactly n
 told_after [] more n told = cc told
 told_after (first ∷ []) [] n told = told
-told_after (first ∷ []) (second ∷ more) n told = (widens first).by_first second n told
+told_after (first ∷ []) (second ∷ more) n told = first_tells first (device_at first) second n told
 told_after (first ∷ second ∷ bytes) more n told = told
 
 -- where the length is known, zeros make a command
@@ -59,28 +46,22 @@ by_zeros bytes n low told short =
     let found = spelled (bytes ++ zeros)
     (All-append IsByte bytes zeros low (All-replicate IsByte count 0 (omega arith)))
     (told_after bytes zeros n told ∙ ap Exactly long) in
-    let last : List ℕ = (sum (bytes ++ zeros) % 256) ∷ [] in
-    record {
-      command = found.0;
-      rest = zeros ++ last;
-      more = λ none. omega (arith, ap length none, length-append zeros last);
-      spells = subst (Spells found.0) (append_assoc bytes zeros last) found.1;
-    }
+    let last : List ℕ = (sum (bytes ++ zeros) % 256) ∷ [] in (
+      found.0,
+      zeros ++ last,
+      λ none. omega (arith, ap length none, length-append zeros last),
+      subst (Spells found.0) (append_assoc bytes zeros last) found.1,
+    )
 
 -- more is left open by one byte at most
 by_subcommand : (bytes : List ℕ) → All IsByte bytes → needed bytes ≡ More → length bytes ≡ 1
     → Goes bytes
 by_subcommand [] low left one = absurd (omega arith)
 by_subcommand (first ∷ []) low left one =
-    let next = (widens first).by_second left in
+    let next = second_tells first (device_at first) left in
     let goes = by_zeros (first ∷ 0 ∷ []) (count_of (need first (Some 0))) (All-append IsByte
     (first ∷ []) (0 ∷ []) low (All-replicate IsByte 1 0 (omega arith))) next.0 next.1 in
-    record {
-      command = goes.command;
-      rest = 0 ∷ goes.rest;
-      more = λ none. cc none;
-      spells = goes.spells;
-    }
+    (goes.0, 0 ∷ goes.1, λ none. cc none, goes.3)
 by_subcommand (first ∷ second ∷ bytes) low left one = absurd (omega arith)
 
 by_need : (bytes : List ℕ) → All IsByte bytes → (told : Need) → needed bytes ≡ told
@@ -92,9 +73,7 @@ by_need bytes low need told short = absurd short
 -- open bytes are the front of a command's block
 pub open_is_a_front : (bytes : List ℕ) → All IsByte bytes → IsOpen bytes
     → (command : Command) × (rest : List ℕ) × (rest ≢ []) × Spells command (bytes ++ rest)
-open_is_a_front bytes low open_bytes =
-    let goes = by_need bytes low (needed bytes) refl open_bytes in
-    (goes.command, goes.rest, goes.more, goes.spells)
+open_is_a_front bytes low = by_need bytes low (needed bytes) refl
 
 short_of : (told : Need) (count whole : ℕ) → count < whole → IsTold told count whole
     → IsShort told count

@@ -1,9 +1,6 @@
 -- A block has one command or one fault.
-use Rattle.mdb_msgs.proofs.Words.{◌≡◌, length, block_of, Command, First, Second, MsgFault, Length, Profile, Need, Exactly, Foreign, Outside, IsCommandFault, IsRefused, Spells, command_bytes, is_for, needed, ℕ, ◌%◌, List, slice_index, drop, if◌then◌else◌, Result, Ok, Err, IfOk, IfErr, arith, refl, ap, sym, subst, ◌∙◌}
+use Rattle.mdb_msgs.proofs.Words.{◌≡◌, length, block_of, Command, First, Second, MsgFault, Length, Profile, Need, Exactly, Foreign, Outside, IsCommandFault, IsRefused, Spells, command_bytes, is_for, needed, ℕ, ◌%◌, List, slice_index, drop, if◌then◌else◌, Result, Ok, Err, IfOk, IfErr, arith, refl, ap, sym, subst, ◌∙◌, ChangerCommand, BillCommand, ReaderCommand}
 use Rattle.mdb_msgs.specs.declared.command.Command.TheVariants.{Changer, Bill, Reader}
-use Rattle.mdb_msgs.specs.declared.command.ChangerCommand.TheVariants as changer
-use Rattle.mdb_msgs.specs.declared.command.BillCommand.TheVariants as bill
-use Rattle.mdb_msgs.specs.declared.command.ReaderCommand.TheVariants as reader
 use Rattle.mdb_msgs.proofs.Contents.{changer_at, bill_at, reader_at}
 use Rattle.mdb_msgs.proofs.OneReply.{one_content}
 use Rattle.mdb_msgs.proofs.Prefixes.{whole}
@@ -19,10 +16,10 @@ command_at content =
 
 command_found : (command : Command) → command_at (command_bytes command) ≡ command
 unfolding command_at
-command_found (Changer changer.Reset) = refl
-command_found (Bill bill.Reset) = refl
-command_found (Reader First reader.Reset) = refl
-command_found (Reader Second reader.Reset) = refl
+command_found (Changer ChangerCommand.Reset) = refl
+command_found (Bill BillCommand.Reset) = refl
+command_found (Reader First ReaderCommand.Reset) = refl
+command_found (Reader Second ReaderCommand.Reset) = refl
 command_found command = grind arith
 
 pub one_command : (block : List ℕ) (one other : Command) → Spells one block → Spells other block

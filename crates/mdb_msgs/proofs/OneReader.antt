@@ -1,7 +1,6 @@
 -- Bytes have one reading as a reader's answer.
 use Rattle.mdb_msgs.proofs.Words.{◌≡◌, length, result_ok, flat_map, MsgFault, Reading, ReaderMsg, Stand, four_bytes, messages_of, IsNextMessage, StandAsMessages, ℕ, inl, inr, List, [], ◌∷◌, ◌++◌, refl, sym, ap, ◌∙◌, arith, append_assoc, append-nil, length-append, subst, Result, Ok, Err, IfOk, IfErr, IfSome, IsNone, Bor, JustReset, Display, BeginSession, BeginSessionLong, PeripheralId, PeripheralIdWithOptions, TimeAsked, ReaderMessages, head_bytes, text_of, reader_msg_bytes, reader_list_bytes, AreReaderMsgs, IsReaderList, IsReaderMsg, IsTextOf, NoReaderMsg, ReaderStopsAt}
-use Rattle.mdb_msgs.specs.declared.fault.MsgFault.TheVariants as faults
-use Rattle.mdb_msgs.proofs.OneReading.{Ends, same_fault}
+use Rattle.mdb_msgs.proofs.OneReading.{Ends}
 use Rattle.mdb_msgs.proofs.ReaderBytes.{next_is, one_message, reads_list}
 use Rattle.mdb_msgs.proofs.Readings.{long_bytes, short_bytes}
 use Rattle.mdb_msgs.proofs.Standing.{NoEndBefore, one_standing}
@@ -10,18 +9,16 @@ module _ (r : Reading) where
   -- where one stands, reading doesn't stop
   goes_on : (id text : List ℕ) (fault : MsgFault) (m : ReaderMsg) (x : List ℕ)
       → IsReaderMsg r id text m x → NoReaderMsg r (reader_msg_bytes id text m ++ x) fault → ⊥
-  goes_on id text faults.Message (Display time) x h none =
+  goes_on id text MsgFault.Message (Display time) x h none =
       grind (arith, ap length h.1, length-append text x)
-  goes_on id text faults.Message (BeginSession funds) x h none = grind (arith, short_bytes r h.1)
-  goes_on id text faults.Message (BeginSessionLong funds media kind details) x h none =
+  goes_on id text MsgFault.Message (BeginSession funds) x h none = grind (arith, short_bytes r h.1)
+  goes_on id text MsgFault.Message (BeginSessionLong funds media kind details) x h none =
       grind (arith, long_bytes r h.1)
-  goes_on id text faults.Message PeripheralId x h none = grind (arith, length-append id x)
-  goes_on id text faults.Message (PeripheralIdWithOptions options) x h none =
+  goes_on id text MsgFault.Message PeripheralId x h none = grind (arith, length-append id x)
+  goes_on id text MsgFault.Message (PeripheralIdWithOptions options) x h none =
       grind (arith, length-append (id ++ four_bytes options) x)
-  goes_on id text faults.Profile TimeAsked x h none = grind (arith, h.1)
-  goes_on id text faults.Profile m x h none = omega (arith, none.0)
-  goes_on id text faults.Length JustReset x h none = none
-  goes_on id text faults.Answer JustReset x h none = none
+  goes_on id text MsgFault.Profile TimeAsked x h none = grind (arith, h.1)
+  goes_on id text MsgFault.Profile m x h none = omega (arith, none.0)
   goes_on id text fault m x h none = grind arith
 
   ends : (id text : List ℕ)
@@ -65,7 +62,7 @@ module _ (r : Reading) where
       nothing fault (rw (← one.1) at stop.1.4)
     where
       nothing : (fault : MsgFault) → NoReaderMsg r [] fault → ⊥
-      nothing faults.Message h = h
+      nothing MsgFault.Message h = h
       nothing fault h = h
 
   module _ {bytes : List ℕ} {first : ℕ} {further : List ℕ} (stand : StandAsMessages r bytes)
@@ -90,10 +87,9 @@ module _ (r : Reading) where
 
   -- reading stops at one place, with one fault
   alike : (rest : List ℕ) (a b : MsgFault) → NoReaderMsg r rest a → NoReaderMsg r rest b → a ≡ b
-  alike [] faults.Message b h k = absurd h
-  alike [] a b h k = absurd h
-  alike (first ∷ further) a b h k =
-      same_fault (NoReaderMsg r (first ∷ further)) (λ h. h) (λ h. h) (λ h k. omega arith) a b h k
+  alike (first ∷ further) MsgFault.Message MsgFault.Message h k = refl
+  alike (first ∷ further) MsgFault.Profile MsgFault.Profile h k = refl
+  alike rest a b h k = absurd (omega arith)
 
   pub one_reader_stop : (bytes : List ℕ) (a b : MsgFault) → ReaderStopsAt r bytes a
       → ReaderStopsAt r bytes b → a ≡ b

@@ -1,36 +1,18 @@
 -- Bytes have one reading as a list of messages.
-use Rattle.mdb_msgs.proofs.Words.{◌≡◌, flat_map, AllByRecursion, nat_tests, MsgFault, BillMsg, ChangerMsg, bill_msg_bytes, IsBillMsg, NoBillMsg, changer_msg_bytes, IsChangerMsg, NoChangerMsg, StopsAt, ℕ, ◌-◌, ◌/◌, ◌%◌, ◌⊎◌, inl, inr, nat_lt, nat_eq, if◌then◌else◌, Bool, List, [], ◌∷◌, ◌++◌, refl, sym, ap, ◌∙◌, arith, append-nil, subst, append_cancel_left}
-use Rattle.mdb_msgs.specs.declared.fault.MsgFault.TheVariants as faults
-use Rattle.mdb_msgs.specs.declared.reply.bill.BillMsg.TheVariants as bill
-use Rattle.mdb_msgs.specs.declared.reply.changer.ChangerMsg.TheVariants as changer
+use Rattle.mdb_msgs.proofs.Words.{◌≡◌, flat_map, AllByRecursion, nat_tests, MsgFault, BillMsg, ChangerMsg, bill_msg_bytes, IsBillMsg, NoBillMsg, changer_msg_bytes, IsChangerMsg, NoChangerMsg, StopsAt, ℕ, ◌-◌, ◌/◌, ◌%◌, ◌⊎◌, inl, inr, nat_lt, nat_le, ◌&&◌, ◌||◌, not, Option, Some, None, Result, Ok, Err, nat_eq, if◌then◌else◌, Bool, List, [], ◌∷◌, ◌++◌, refl, sym, ap, ◌∙◌, arith, append-nil, subst, append_cancel_left}
 use Rattle.mdb_msgs.proofs.Standing.{NoEndBefore, OneBefore, one_standing, stand_all}
 
 -- where messages end: nothing is left, or no message stands there
 abbrev pub Ends : (List ℕ → MsgFault → Type 0) → List ℕ → Type 0
 Ends No rest = (rest ≡ []) ⊎ ((fault : MsgFault) × No rest fault)
 
--- where only Message and Profile may hold, and not both, one fault does
-pub same_fault : (No : MsgFault → Type 0) → (No faults.Length → ⊥) → (No faults.Answer → ⊥)
-    → (No faults.Message → No faults.Profile → ⊥) → (a b : MsgFault) → No a → No b → a ≡ b
-same_fault No l n both faults.Message faults.Message h k = refl
-same_fault No l n both faults.Message faults.Profile h k = absurd (both h k)
-same_fault No l n both faults.Profile faults.Message h k = absurd (both k h)
-same_fault No l n both faults.Profile faults.Profile h k = refl
-same_fault No l n both faults.Length b h k = absurd (l h)
-same_fault No l n both faults.Answer b h k = absurd (n h)
-same_fault No l n both a faults.Length h k = absurd (l k)
-same_fault No l n both a faults.Answer h k = absurd (n k)
-
 module _ {M : Type 0} (f : M → List ℕ) (Is : M → Type 0) (No : List ℕ → MsgFault → Type 0) where
-  -- bytes are read as messages in one way: one at most stands in front, none where another reading
-  -- ends, and what can't be taken has one fault, and some byte
+  -- what stands at the front of bytes is found: a message, or a fault, or nothing
   pub record OneWay : Type 0 where
-    find : List ℕ → M
-    found : (a : M) (x : List ℕ) → Is a → find (f a ++ x) ≡ a
-    goes_on : (a : M) (x : List ℕ) (fault : MsgFault) → Is a → No (f a ++ x) fault → ⊥
-    some : (a : M) (x : List ℕ) → f a ++ x ≡ [] → ⊥
-    none : (fault : MsgFault) → No [] fault → ⊥
-    alike : (rest : List ℕ) (a b : MsgFault) → No rest a → No rest b → a ≡ b
+    find : List ℕ → Option (Result M MsgFault)
+    none : find [] ≡ None
+    found : (a : M) (x : List ℕ) → Is a → find (f a ++ x) ≡ Some (Ok a)
+    blamed : (rest : List ℕ) (fault : MsgFault) → No rest fault → find rest ≡ Some (Err fault)
 
 module _ {M : Type 0} {f : M → List ℕ} {Is : M → Type 0} {No : List ℕ → MsgFault → Type 0}
     (way : OneWay f Is No) where
@@ -43,12 +25,12 @@ module _ {M : Type 0} {f : M → List ℕ} {Is : M → Type 0} {No : List ℕ �
     where
       one : OneBefore f f (λ m x. Is m) (λ m x. Is m)
       one a b x y ha hb e =
-          let same : a ≡ b = sym (way.found a x ha) ∙ ap way.find e ∙ way.found b y hb in
+          let same : a ≡ b = cc (way.found a x ha, ap way.find e, way.found b y hb) in
           (same, append_cancel_left (f a) x y (e ∙ ap (λ m. f m ++ y) (sym same)))
 
       on : NoEndBefore f (λ m x. Is m) (Ends No)
-      on m x h (inl e) = way.some m x e
-      on m x h (inr none) = way.goes_on m x none.0 h none.1
+      on m x h (inl e) = cc (way.found m x h, ap way.find e, way.none)
+      on m x h (inr none) = cc (way.found m x h, way.blamed (f m ++ x) none.0 none.1)
 
   -- a list of messages isn't one where reading stops
   pub no_stop : (xs : List M) (fault : MsgFault) → AllByRecursion Is xs
@@ -56,118 +38,94 @@ module _ {M : Type 0} {f : M → List ℕ} {Is : M → Type 0} {No : List ℕ �
   no_stop xs fault h stop =
       let one = one_list xs stop.0 [] stop.1 h stop.2 (append-nil (flat_map f xs) ∙ stop.3)
       (inl refl) (inr (fault, stop.4)) in
-      way.none fault (rw (← one.1) at stop.4)
+      cc (way.none, way.blamed [] fault (rw (← one.1) at stop.4))
 
   -- and reading stops with one fault
   pub one_stop : (bytes : List ℕ) (a b : MsgFault) → StopsAt f Is No bytes a
       → StopsAt f Is No bytes b → a ≡ b
   one_stop bytes a b h k =
       let one = one_list h.0 k.0 h.1 k.1 h.2 k.2 (sym h.3 ∙ k.3) (inr (a, h.4)) (inr (b, k.4)) in
-      way.alike k.1 a b (subst (λ x. No x a) one.1 h.4) k.4
+      cc (way.blamed k.1 a (subst (λ x. No x a) one.1 h.4), way.blamed k.1 b k.4)
 
 -- the changer's message that begins with these two bytes, if one does
 unfoldable pub changer_front : ℕ → ℕ → ChangerMsg
 changer_front b c =
-    if nat_lt b 27 then (if nat_eq b 11 then changer.Reset else changer.Status b)
-    else (if nat_lt b 64 then changer.Slugs (b - 32)
-    else (if nat_lt b 80 then changer.CashBox (b - 64) c
-    else (if nat_lt b 96 then changer.Tube (b - 80) c
-    else (if nat_lt b 128 then changer.Rejected (b - 112) c
-    else changer.ManualDispense ((b - 128) / 16) (b % 16) c))))
+    if nat_lt b 27 then (if nat_eq b 11 then ChangerMsg.Reset else ChangerMsg.Status b)
+    else (if nat_lt b 64 then ChangerMsg.Slugs (b - 32)
+    else (if nat_lt b 80 then ChangerMsg.CashBox (b - 64) c
+    else (if nat_lt b 96 then ChangerMsg.Tube (b - 80) c
+    else (if nat_lt b 128 then ChangerMsg.Rejected (b - 112) c
+    else ChangerMsg.ManualDispense ((b - 128) / 16) (b % 16) c))))
 
-changer_find : List ℕ → ChangerMsg
-changer_find [] = changer.Reset
-changer_find (b ∷ []) = changer_front b 0
-changer_find (b ∷ c ∷ x) = changer_front b c
+changer_find : List ℕ → Option (Result ChangerMsg MsgFault)
+changer_find [] = None
+changer_find (b ∷ x) =
+    if nat_lt b 64 then (if nat_lt b 32 && nat_le 27 b then Some (Err MsgFault.Profile)
+    else Some (Ok (changer_front b 0)))
+    else (if nat_lt b 112 && nat_le 96 b then Some (Err MsgFault.Message) else second x)
+  where
+    second : List ℕ → Option (Result ChangerMsg MsgFault)
+    second [] = Some (Err MsgFault.Message)
+    second (c ∷ x) = Some (Ok (changer_front b c))
 
 changer_found : (m : ChangerMsg) (x : List ℕ) → IsChangerMsg m
-    → changer_find (changer_msg_bytes m ++ x) ≡ m
+    → changer_find (changer_msg_bytes m ++ x) ≡ Some (Ok m)
 unfolding changer_find changer_front
-changer_found changer.Reset [] h = refl
-changer_found changer.Reset (c ∷ x) h = refl
-changer_found m [] h = grind (arith, nat_tests)
-changer_found m (c ∷ x) h = grind (arith, nat_tests)
+changer_found ChangerMsg.Reset x h = refl
+changer_found m x h = grind (arith, nat_tests)
 
--- where one stands, reading doesn't stop
-changer_goes_on : (fault : MsgFault) (m : ChangerMsg) (x : List ℕ) → IsChangerMsg m
-    → NoChangerMsg (changer_msg_bytes m ++ x) fault → ⊥
-changer_goes_on faults.Message changer.Reset x h none = omega arith
-changer_goes_on faults.Profile changer.Reset x h none = omega arith
-changer_goes_on faults.Length changer.Reset x h none = none
-changer_goes_on faults.Answer changer.Reset x h none = none
-changer_goes_on fault m x h none = grind arith
-
-changer_some : (m : ChangerMsg) (x : List ℕ) → changer_msg_bytes m ++ x ≡ [] → ⊥
-changer_some changer.Reset x e = cc
-changer_some m x e = cc
-
-changer_none : (fault : MsgFault) → NoChangerMsg [] fault → ⊥
-changer_none faults.Message h = h
-changer_none fault h = h
-
-changer_alike : (rest : List ℕ) (a b : MsgFault) → NoChangerMsg rest a → NoChangerMsg rest b → a ≡ b
-changer_alike [] a b h k = absurd (changer_none a h)
-changer_alike (first ∷ further) a b h k =
-    same_fault (NoChangerMsg (first ∷ further)) (λ h. h) (λ h. h) (λ h k. omega arith) a b h k
+changer_blamed : (rest : List ℕ) (fault : MsgFault) → NoChangerMsg rest fault
+    → changer_find rest ≡ Some (Err fault)
+unfolding changer_find
+changer_blamed (b ∷ []) MsgFault.Message h = grind (arith, nat_tests)
+changer_blamed (b ∷ c ∷ x) MsgFault.Message h = grind (arith, nat_tests)
+changer_blamed rest fault h = grind (arith, nat_tests)
 
 pub changer_way : OneWay changer_msg_bytes IsChangerMsg NoChangerMsg
+unfolding changer_find
 changer_way = record {
   find = changer_find;
+  none = refl;
   found = changer_found;
-  goes_on = λ m x fault. changer_goes_on fault m x;
-  some = changer_some;
-  none = changer_none;
-  alike = changer_alike;
+  blamed = changer_blamed;
 }
 
 -- the validator's message that is this byte, if one is
 unfoldable pub bill_find : List ℕ → BillMsg
-bill_find [] = bill.Reset
+bill_find [] = BillMsg.Reset
 bill_find (b ∷ x) =
-    if nat_lt b 64 then (if nat_eq b 6 then bill.Reset else bill.Status b)
-    else (if nat_lt b 96 then bill.Attempts (b - 64)
-    else (if nat_lt b 144 then bill.Stacked (b - 128)
-    else (if nat_lt b 160 then bill.Escrow (b - 144)
-    else (if nat_lt b 176 then bill.Returned (b - 160)
-    else (if nat_lt b 192 then bill.Recycled (b - 176)
-    else (if nat_lt b 208 then bill.Rejected (b - 192)
-    else bill.RecyclerStatus b))))))
+    if nat_lt b 64 then (if nat_eq b 6 then BillMsg.Reset else BillMsg.Status b)
+    else (if nat_lt b 96 then BillMsg.Attempts (b - 64)
+    else (if nat_lt b 144 then BillMsg.Stacked (b - 128)
+    else (if nat_lt b 160 then BillMsg.Escrow (b - 144)
+    else (if nat_lt b 176 then BillMsg.Returned (b - 160)
+    else (if nat_lt b 192 then BillMsg.Recycled (b - 176)
+    else (if nat_lt b 208 then BillMsg.Rejected (b - 192)
+    else BillMsg.RecyclerStatus b))))))
 
 module _ (r : Bool) where
-  bill_found : (m : BillMsg) (x : List ℕ) → IsBillMsg r m → bill_find (bill_msg_bytes m ++ x) ≡ m
-  unfolding bill_find
-  bill_found bill.Reset x h = refl
-  bill_found (bill.Recycled b) x h = grind (arith, nat_tests, h.0)
-  bill_found (bill.RecyclerStatus byte) x h = grind (arith, nat_tests, h.0)
+  bill_at : List ℕ → Option (Result BillMsg MsgFault)
+  bill_at [] = None
+  bill_at (b ∷ x) =
+      if nat_lt b 128 && nat_le 96 b then Some (Err MsgFault.Message)
+      else (if nat_lt b 32 && nat_le 27 b then Some (Err MsgFault.Profile)
+      else (if (nat_le 208 b || nat_lt b 192 && nat_le 176 b) && not r
+      then Some (Err MsgFault.Profile) else Some (Ok (bill_find (b ∷ [])))))
+
+  bill_found : (m : BillMsg) (x : List ℕ) → IsBillMsg r m
+      → bill_at (bill_msg_bytes m ++ x) ≡ Some (Ok m)
+  unfolding bill_at bill_find
+  bill_found BillMsg.Reset x h = refl
+  bill_found (BillMsg.Recycled b) x h = grind (arith, nat_tests, h.0, h.1)
+  bill_found (BillMsg.RecyclerStatus byte) x h = grind (arith, nat_tests, h.0, h.1)
   bill_found m x h = grind (arith, nat_tests)
 
-  bill_goes_on : (fault : MsgFault) (m : BillMsg) (x : List ℕ) → IsBillMsg r m
-      → NoBillMsg r (bill_msg_bytes m ++ x) fault → ⊥
-  bill_goes_on faults.Message bill.Reset x h none = omega arith
-  bill_goes_on faults.Profile bill.Reset x h none = omega arith
-  bill_goes_on faults.Length bill.Reset x h none = none
-  bill_goes_on faults.Answer bill.Reset x h none = none
-  bill_goes_on fault m x h none = grind arith
-
-  bill_some : (m : BillMsg) (x : List ℕ) → bill_msg_bytes m ++ x ≡ [] → ⊥
-  bill_some bill.Reset x e = cc
-  bill_some m x e = cc
-
-  bill_none : (fault : MsgFault) → NoBillMsg r [] fault → ⊥
-  bill_none faults.Message h = h
-  bill_none fault h = h
-
-  bill_alike : (rest : List ℕ) (a b : MsgFault) → NoBillMsg r rest a → NoBillMsg r rest b → a ≡ b
-  bill_alike [] a b h k = absurd (bill_none a h)
-  bill_alike (first ∷ further) a b h k =
-      same_fault (NoBillMsg r (first ∷ further)) (λ h. h) (λ h. h) (λ h k. omega arith) a b h k
+  bill_blamed : (rest : List ℕ) (fault : MsgFault) → NoBillMsg r rest fault
+      → bill_at rest ≡ Some (Err fault)
+  unfolding bill_at
+  bill_blamed (b ∷ x) MsgFault.Message h = grind (arith, nat_tests)
+  bill_blamed rest fault h = grind (arith, nat_tests)
 
   pub bill_way : OneWay bill_msg_bytes (IsBillMsg r) (NoBillMsg r)
-  bill_way = record {
-    find = bill_find;
-    found = bill_found;
-    goes_on = λ m x fault. bill_goes_on fault m x;
-    some = bill_some;
-    none = bill_none;
-    alike = bill_alike;
-  }
+  unfolding bill_at
+  bill_way = record { find = bill_at; none = refl; found = bill_found; blamed = bill_blamed }

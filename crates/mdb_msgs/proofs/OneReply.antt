@@ -1,8 +1,5 @@
 -- For a command, bytes have one reply or one fault.
 use Rattle.mdb_msgs.proofs.Words.{◌≡◌, length, block_of, DataForm, Command, MsgFault, Reading, Reply, BillSetup, ChangerSetup, Stacker, TubeStatus, is_extended, SpellsReply, ◌≢◌, ℕ, ◌+◌, ◌/◌, ◌%◌, ◌<◌, inl, inr, if◌then◌else◌, Bool, true, false, Some, Result, Ok, Err, IfOk, IfErr, List, [], ◌∷◌, ◌++◌, refl, sym, ap, ◌∙◌, arith, length-append, subst, sum, form_of_reply, reply_bytes, HasMessages, IsIn, tells_of_sales, IsReplyTo, NoReply, IsNoReplyTo, IsReadFault, changer_setup_bytes, tube_status_bytes, bill_setup_bytes, stacker_bytes, IsStacker}
-use Rattle.mdb_msgs.specs.declared.answer.DataForm.TheVariants as form
-use Rattle.mdb_msgs.specs.declared.fault.MsgFault.TheVariants as faults
-use Rattle.mdb_msgs.specs.declared.reply.Reply.TheVariants as reply
 use Rattle.mdb_msgs.specs.Replies.{HasFields}
 use Rattle.mdb_msgs.proofs.OneReader.{one_reader_list, reader_no_stop, one_reader_stop}
 use Rattle.mdb_msgs.proofs.ReaderBytes.{same_fronts}
@@ -82,25 +79,25 @@ module _ (r : Reading) where
   -- of one form, two replies with the same bytes are one
   same_reply : (a b : Reply) → form_of_reply a ≡ form_of_reply b → HasFields a → HasFields b
       → HasMessages r a → HasMessages r b → reply_bytes a ≡ reply_bytes b → a ≡ b
-  same_reply (reply.ChangerSetup a) (reply.ChangerSetup b) f ha hb ia ib e =
-      ap reply.ChangerSetup (same_changer_setup a b e)
-  same_reply (reply.TubeStatus a) (reply.TubeStatus b) f ha hb ia ib e =
-      ap reply.TubeStatus (same_tube_status a b e)
-  same_reply (reply.ChangerPoll a) (reply.ChangerPoll b) f ha hb ia ib e =
-      ap (λ x. reply.ChangerPoll (record { items = x })) (one_list changer_way a.items b.items [] []
+  same_reply (Reply.ChangerSetup a) (Reply.ChangerSetup b) f ha hb ia ib e =
+      ap Reply.ChangerSetup (same_changer_setup a b e)
+  same_reply (Reply.TubeStatus a) (Reply.TubeStatus b) f ha hb ia ib e =
+      ap Reply.TubeStatus (same_tube_status a b e)
+  same_reply (Reply.ChangerPoll a) (Reply.ChangerPoll b) f ha hb ia ib e =
+      ap (λ x. Reply.ChangerPoll (record { items = x })) (one_list changer_way a.items b.items [] []
       ha hb (ap (λ x. x ++ []) e) (inl refl) (inl refl)).0
-  same_reply (reply.ChangerIdentification a) (reply.ChangerIdentification b) f ha hb ia ib e = cc
-  same_reply (reply.BillSetup a) (reply.BillSetup b) f ha hb ia ib e =
-      ap reply.BillSetup (same_bill_setup a b e)
-  same_reply (reply.BillPoll a) (reply.BillPoll b) f ha hb ia ib e =
-      ap (λ x. reply.BillPoll (record { items = x })) (one_list (bill_way (is_extended r)) a.items
+  same_reply (Reply.ChangerIdentification a) (Reply.ChangerIdentification b) f ha hb ia ib e = cc
+  same_reply (Reply.BillSetup a) (Reply.BillSetup b) f ha hb ia ib e =
+      ap Reply.BillSetup (same_bill_setup a b e)
+  same_reply (Reply.BillPoll a) (Reply.BillPoll b) f ha hb ia ib e =
+      ap (λ x. Reply.BillPoll (record { items = x })) (one_list (bill_way (is_extended r)) a.items
       b.items [] [] ia ib (ap (λ x. x ++ []) e) (inl refl) (inl refl)).0
-  same_reply (reply.Stacker a) (reply.Stacker b) f ha hb ia ib e =
-      ap reply.Stacker (same_stacker a b ha hb e)
-  same_reply (reply.Reader a) (reply.Reader b) f ha hb ia ib e =
-      ap reply.Reader (one_reader_list r a b ha hb ia ib e)
-  same_reply (reply.BillIdentification a) (reply.BillIdentification b) f ha hb ia ib e = cc
-  same_reply (reply.BillIdentificationWithOptions a) (reply.BillIdentificationWithOptions b) f ha hb
+  same_reply (Reply.Stacker a) (Reply.Stacker b) f ha hb ia ib e =
+      ap Reply.Stacker (same_stacker a b ha hb e)
+  same_reply (Reply.Reader a) (Reply.Reader b) f ha hb ia ib e =
+      ap Reply.Reader (one_reader_list r a b ha hb ia ib e)
+  same_reply (Reply.BillIdentification a) (Reply.BillIdentification b) f ha hb ia ib e = cc
+  same_reply (Reply.BillIdentificationWithOptions a) (Reply.BillIdentificationWithOptions b) f ha hb
       ia ib e = cc
   same_reply a b f ha hb ia ib e = cc
 
@@ -112,20 +109,20 @@ module _ (r : Reading) where
   -- a reply's bytes are a reply of its form
   reply_is_one : (a : Reply) (fault : MsgFault) → HasFields a → HasMessages r a
       → NoReply r (form_of_reply a) (reply_bytes a) fault → ⊥
-  reply_is_one (reply.ChangerPoll a) fault h is none = no_stop changer_way a.items fault h none
-  reply_is_one (reply.BillPoll a) fault h is none =
+  reply_is_one (Reply.ChangerPoll a) fault h is none = no_stop changer_way a.items fault h none
+  reply_is_one (Reply.BillPoll a) fault h is none =
       no_stop (bill_way (is_extended r)) a.items fault is none
-  reply_is_one (reply.Reader a) fault h is none = reader_no_stop r a fault is none
-  reply_is_one (reply.BillSetup a) fault h is none = escrow_byte a.escrow none.1 none.2
+  reply_is_one (Reply.Reader a) fault h is none = reader_no_stop r a fault is none
+  reply_is_one (Reply.BillSetup a) fault h is none = escrow_byte a.escrow none.1 none.2
   reply_is_one a fault h is none = none
 
   -- of one form, bytes have one fault
   one_form_fault : (f : DataForm) (bytes : List ℕ) (a b : MsgFault) → NoReply r f bytes a
       → NoReply r f bytes b → a ≡ b
-  one_form_fault form.ChangerPoll bytes a b h k = one_stop changer_way bytes a b h k
-  one_form_fault form.BillPoll bytes a b h k = one_stop (bill_way (is_extended r)) bytes a b h k
-  one_form_fault form.Reader bytes a b h k = one_reader_stop r bytes a b h k
-  one_form_fault form.BillSetup bytes a b h k = h.0 ∙ sym k.0
+  one_form_fault DataForm.ChangerPoll bytes a b h k = one_stop changer_way bytes a b h k
+  one_form_fault DataForm.BillPoll bytes a b h k = one_stop (bill_way (is_extended r)) bytes a b h k
+  one_form_fault DataForm.Reader bytes a b h k = one_reader_stop r bytes a b h k
+  one_form_fault DataForm.BillSetup bytes a b h k = h.0 ∙ sym k.0
   one_form_fault _ bytes a b h k = absurd h
 
   module _ (command : Command) where
@@ -144,11 +141,11 @@ module _ (r : Reading) where
     -- what may answer a command can be read
     pub reply_has_no_fault : (a : Reply) (fault : MsgFault) → IsReplyTo command a
         → IsIn r command a → IsReadFault r command (reply_bytes a) fault → ⊥
-    reply_has_no_fault a faults.Length h is none =
+    reply_has_no_fault a MsgFault.Length h is none =
         let same : none.0 ≡ form_of_reply a = some_inj (sym none.1 ∙ h.form) in
         none.2 (rw same h.count)
-    reply_has_no_fault a faults.Answer h is (inl none) = let form = h.form in cc (none, form)
-    reply_has_no_fault a faults.Answer h is (inr kept) =
+    reply_has_no_fault a MsgFault.Answer h is (inl none) = let form = h.form in cc (none, form)
+    reply_has_no_fault a MsgFault.Answer h is (inr kept) =
         let same : a ≡ kept.0 = one_answer a kept.0 h kept.1 is.0 kept.2 kept.3 in
         let none : tells_of_sales a ≡ false = is.1 kept.4 kept.6 in
         cc (ap tells_of_sales same ∙ kept.5, none)
@@ -162,20 +159,20 @@ module _ (r : Reading) where
           one_form_fault k.0 bytes a b (subst (λ f. NoReply r f bytes a) same h.3) k.3
 
       -- a wrong length is the one fault
-      length_alone : (fault : MsgFault) → IsReadFault r command bytes faults.Length
+      length_alone : (fault : MsgFault) → IsReadFault r command bytes MsgFault.Length
           → IsNoReplyTo r command bytes fault → ⊥
       length_alone fault h k =
           let same : h.0 ≡ k.0 = some_inj (sym h.1 ∙ k.1) in h.2 (rw same k.2)
 
-      length_or_answer : IsReadFault r command bytes faults.Length
-          → IsReadFault r command bytes faults.Answer → ⊥
+      length_or_answer : IsReadFault r command bytes MsgFault.Length
+          → IsReadFault r command bytes MsgFault.Answer → ⊥
       length_or_answer h (inl none) = let form = h.1 in cc (none, form)
       length_or_answer h (inr kept) =
           let same : h.0 ≡ form_of_reply kept.0 = some_inj (sym h.1 ∙ kept.1.form) in
           h.2 (rw (same, kept.3) kept.1.count)
 
       message_or_answer : (fault : MsgFault) → IsNoReplyTo r command bytes fault
-          → IsReadFault r command bytes faults.Answer → ⊥
+          → IsReadFault r command bytes MsgFault.Answer → ⊥
       message_or_answer fault h (inl none) = let form = h.1 in cc (none, form)
       message_or_answer fault h (inr kept) =
           answer_is_one kept.0 fault kept.1 kept.2
@@ -184,14 +181,12 @@ module _ (r : Reading) where
       -- bytes have one fault
       pub one_read_fault : (a b : MsgFault) → IsReadFault r command bytes a
           → IsReadFault r command bytes b → a ≡ b
-      one_read_fault faults.Length faults.Length h k = refl
-      one_read_fault faults.Length faults.Answer h k = absurd (length_or_answer h k)
-      one_read_fault faults.Length b h k = absurd (length_alone b h k)
-      one_read_fault faults.Answer faults.Answer h k = refl
-      one_read_fault faults.Answer faults.Length h k = absurd (length_or_answer k h)
-      one_read_fault faults.Answer b h k = absurd (message_or_answer b k h)
-      one_read_fault a faults.Length h k = absurd (length_alone a k h)
-      one_read_fault a faults.Answer h k = absurd (message_or_answer a h k)
+      one_read_fault MsgFault.Length MsgFault.Length h k = refl
+      one_read_fault MsgFault.Answer MsgFault.Answer h k = refl
+      one_read_fault MsgFault.Length b h k = absurd (search (length_or_answer, length_alone))
+      one_read_fault MsgFault.Answer b h k = absurd (search (length_or_answer, message_or_answer))
+      one_read_fault a MsgFault.Length h k = absurd (length_alone a k h)
+      one_read_fault a MsgFault.Answer h k = absurd (message_or_answer a h k)
       one_read_fault a b h k = one_no_reply a b h k
 
     -- for a command, a block has one reply

@@ -1,17 +1,14 @@
 -- The first two bytes of a command's block tell whether it is ENABLE OPTIONS.
-use Rattle.mdb_msgs.proofs.Words.{◌≡◌, ◌≤◌, length, cases_eq, nat_tests, All-from_recursion, block_of, Command, First, Second, IsByte, Spells, command_bytes, begins_options, IsOpen, ◌≢◌, ◌==◌, ◌||◌, ◌&&◌, ◌⊎◌, ℕ, List, [], ◌∷◌, ◌++◌, false, All, inl, inr, arith, refl, ap, sym, ◌∙◌, is_enable_options}
+use Rattle.mdb_msgs.proofs.Words.{◌≡◌, ◌≤◌, length, cases_eq, nat_tests, All-from_recursion, block_of, Command, First, Second, IsByte, Spells, command_bytes, begins_options, IsOpen, ◌≢◌, ◌==◌, ◌||◌, ◌&&◌, ◌⊎◌, ℕ, List, [], ◌∷◌, ◌++◌, false, All, inl, inr, arith, refl, ap, sym, ◌∙◌, is_enable_options, BillCommand, ChangerCommand, ReaderCommand}
 use Rattle.mdb_msgs.specs.declared.command.Command.TheVariants.{Changer, Bill, Reader}
-use Rattle.mdb_msgs.specs.declared.command.BillCommand.TheVariants as bill
-use Rattle.mdb_msgs.specs.declared.command.ChangerCommand.TheVariants as changer
-use Rattle.mdb_msgs.specs.declared.command.ReaderCommand.TheVariants as reader
 use Rattle.mdb_msgs.proofs.Fronts.{open_is_a_front}
 
 its_own : (command : Command)
     → begins_options (block_of (command_bytes command)) ≡ is_enable_options command
-its_own (Changer changer.Reset) = refl
-its_own (Bill bill.Reset) = refl
-its_own (Reader First reader.Reset) = refl
-its_own (Reader Second reader.Reset) = refl
+its_own (Changer ChangerCommand.Reset) = refl
+its_own (Bill BillCommand.Reset) = refl
+its_own (Reader First ReaderCommand.Reset) = refl
+its_own (Reader Second ReaderCommand.Reset) = refl
 its_own command = refl
 
 pub two_tell : (prefix rest : List ℕ) (command : Command) → 2 ≤ length prefix
@@ -32,13 +29,9 @@ by_two : (first second : ℕ) (bytes : List ℕ) → All IsByte (first ∷ secon
     → IsOpen (first ∷ second ∷ bytes) → begins_options (first ∷ second ∷ bytes) ≡ false
     → Another (first ∷ second ∷ bytes)
 by_two first second bytes low short other =
-    let found = open_is_a_front (first ∷ second ∷ bytes) low short in (
-      found.0,
-      found.1,
-      found.2,
-      found.3,
-      sym (two_tell (first ∷ second ∷ bytes) found.1 found.0 (omega arith) found.3) ∙ other,
-    )
+    let found = open_is_a_front (first ∷ second ∷ bytes) low short in
+    let told = two_tell (first ∷ second ∷ bytes) found.1 found.0 (omega arith) found.3 in
+    (found.0, found.1, found.2, found.3, sym told ∙ other)
 
 -- a first byte is, where the subcommand 00 leaves more open
 by_zero : (first : ℕ) → IsByte first → IsOpen (first ∷ 0 ∷ [])

@@ -86,9 +86,7 @@ read_options r further after text options bytes is long front e allowed = absurd
 pub no_text : (r : Reading) (m : ReaderMsg) (text x : List ℕ) → is_id m ≡ false
     → is_display m ≡ false → IsTextOf r m text x → text ≡ []
 no_text r PeripheralId text x i d h = absurd (cc)
-no_text r (PeripheralIdWithOptions options) text x i d h = absurd (cc)
-no_text r (Display time) text x i d h = absurd (cc)
-no_text r m text x i d h = search
+no_text r m text x i d h = grind arith
 
 -- lists of one length are the same where they begin the same bytes
 pub same_fronts : (s t x y : List ℕ) → length s ≡ length t → s ++ x ≡ t ++ y → (s ≡ t) × (x ≡ y)
@@ -173,12 +171,7 @@ module _ (r : Reading) where
   unfolding messages_in
   few_in zero bytes = omega arith
   few_in (suc fuel) [] = omega arith
-  few_in (suc fuel) (first ∷ further) =
-      let bytes = first ∷ further in
-      let message = front_message r bytes in
-      let head = head_bytes message in
-      let text = front_text message (drop (length head) bytes) in
-      omega (arith, few_in fuel (drop (length (head ++ text)) bytes))
+  few_in (suc fuel) (first ∷ further) = omega (arith, few_in fuel)
 
   pub few_messages : (bytes : List ℕ) → length (messages_of r bytes).messages ≤ length bytes
   unfolding messages_of
@@ -199,15 +192,12 @@ module _ (r : Reading) where
   same_text PeripheralId text words x y h k e = same_fronts text words x y (h.0 ∙ sym k.0) e
   same_text (PeripheralIdWithOptions options) text words x y h k e =
       same_fronts text words x y (h.0 ∙ sym k.0) e
-  same_text (Display time) text words x y h k e = (
-    sym (append-nil text) ∙ ap (λ l. text ++ l) (sym h.1) ∙ e ∙ ap (λ l. words ++ l) k.1
-        ∙ append-nil words,
-    h.1 ∙ sym k.1,
-  )
+  same_text (Display time) text words x y h k e =
+      (simp append-nil at (rw (h.1, k.1) at e), h.1 ∙ sym k.1)
   same_text m text words x y h k e =
       let one : text ≡ [] = no_text r m text x refl refl h in
       let other : words ≡ [] = no_text r m words y refl refl k in
-      (one ∙ sym other, ap (λ l. l ++ x) (sym one) ∙ e ∙ ap (λ l. l ++ y) other)
+      (one ∙ sym other, rw (one, other) at e)
 
   -- at the front of the same bytes stands one message with one text
   pub one_message : (a b : ReaderMsg) (text words x y : List ℕ) → IsTextOf r a text x

@@ -3,29 +3,10 @@ use Rattle.mdb_msgs.proofs.Words.{◌≡◌, length, take, flat_map, result_ok, 
 use Rattle.mdb_msgs.specs.contracts.reply.reader.ReaderMsgPartialEq.TheImpl.{eq-value}
 use Rattle.mdb_msgs.proofs.OneReader.{one_reader_list, reader_no_stop}
 
-never : false ≡ true → ⊥
-never h = cc
-
 -- `==` of two messages says whether they are one
 pub told_same : (a b : ReaderMsg) → eq-value.it a b ≡ true → a ≡ b
 told_same JustReset JustReset h = refl
-told_same (Config l c s d r o) (Config m k t e q p) h = grind (arith, nat_tests)
-told_same (Display time) (Display other) h = grind (arith, nat_tests)
-told_same (BeginSession funds) (BeginSession other) h = grind (arith, nat_tests)
-told_same (BeginSessionLong f m k d) (BeginSessionLong g n l e) h = grind (arith, nat_tests)
-told_same CancelRequest CancelRequest h = refl
-told_same (VendApproved amount) (VendApproved other) h = grind (arith, nat_tests)
-told_same VendDenied VendDenied h = refl
-told_same EndSession EndSession h = refl
-told_same Cancelled Cancelled h = refl
-told_same PeripheralId PeripheralId h = refl
-told_same (PeripheralIdWithOptions options) (PeripheralIdWithOptions other) h =
-    grind (arith, nat_tests)
-told_same (Malfunction code) (Malfunction other) h = grind (arith, nat_tests)
-told_same OutOfSequence OutOfSequence h = refl
-told_same (OutOfSequenceIn status) (OutOfSequenceIn other) h = grind (arith, nat_tests)
-told_same TimeAsked TimeAsked h = refl
-told_same a b h = absurd (never h)
+told_same a b h = grind (arith, nat_tests)
 
 is_same : (a : ReaderMsg) → eq-value.it a a ≡ true
 is_same JustReset = refl

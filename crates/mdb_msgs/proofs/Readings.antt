@@ -1,5 +1,5 @@
 -- The readings of a reader's messages.
-use Rattle.mdb_msgs.proofs.Words.{◌≡◌, length, take, cases_Bool, list_any, Ids, Reading, ReaderMsg, Stand, own_ids, allows, takes_options, ℕ, ◌+◌, ◌/◌, ◌<◌, ◌==◌, inl, inr, if◌then◌else◌, Bool, true, false, ◌||◌, List, [], ◌∷◌, ◌++◌, refl, ap, ◌∙◌, get_or, take_more, JustReset, PeripheralId, PeripheralIdWithOptions, BeginSession, BeginSessionLong, OutOfSequence, OutOfSequenceIn, TimeAsked, ReaderMessages, has_long, ids_of, reader_msg_bytes, reading_of, session_bytes, wider, AreReaderMsgs, IsReaderMsg, IsTextOf}
+use Rattle.mdb_msgs.proofs.Words.{◌≡◌, length, take, cases_Bool, list_any, Ids, Reading, ReaderMsg, Stand, own_ids, allows, takes_options, ℕ, ◌+◌, ◌/◌, ◌<◌, ◌==◌, inl, inr, if◌then◌else◌, Bool, true, false, ◌||◌, List, [], ◌∷◌, ◌++◌, refl, ap, ◌∙◌, get_or, take_more, JustReset, PeripheralId, PeripheralIdWithOptions, BeginSession, BeginSessionLong, OutOfSequence, OutOfSequenceIn, TimeAsked, ReaderMessages, has_long, ids_of, reader_msg_bytes, reading_of, session_bytes, wider, AreReaderMsgs, IsReaderMsg, IsTextOf, arith}
 use Rattle.mdb_msgs.specs.declared.reading.Ids.TheVariants.{Bare, ByNext, Full}
 
 pub or_parts : (a b : Bool) → (a || b) ≡ false → (a ≡ false) × (b ≡ false)
@@ -29,21 +29,16 @@ Narrower a b = (next : ℕ) → allows a next ≡ true → allows b next ≡ tru
 
 first_narrower : (a b : Ids) → Narrower a (wider a b)
 first_narrower ByNext Full next is = refl
-first_narrower ByNext b next is = is
-first_narrower Full b next is = is
-first_narrower Bare b next is = absurd (cc is)
+first_narrower a b next is = cc is
 
 second_narrower : (a b : Ids) → Narrower b (wider a b)
-second_narrower ByNext Bare next is = absurd (cc is)
-second_narrower ByNext b next is = is
-second_narrower Full b next is = refl
-second_narrower Bare b next is = is
+second_narrower ByNext Full next is = is
+second_narrower a b next is = cc is
 
 both_narrower : (a b c : Ids) → Narrower a c → Narrower b c → Narrower (wider a b) c
 both_narrower ByNext Full c one other = other
 both_narrower Bare b c one other = other
-both_narrower ByNext b c one other = one
-both_narrower Full b c one other = one
+both_narrower a b c one other = one
 
 -- options are allowed by what they ask for, which is the least that allows them
 asked_for : (next : ℕ) → allows (if next == 0 then ByNext else Full) next ≡ true
@@ -104,12 +99,9 @@ module _ (r own : Reading) (longer : own.is_long ≡ true → r.is_long ≡ true
   one_in (PeripheralIdWithOptions options) text rest long asked is =
       (is.0, is.1, asked _ (asked_for (options / 65536 / 256)))
   one_in (BeginSession funds) text rest long asked is = (is.0, short is.1)
-  one_in (BeginSessionLong funds media kind details) text rest long asked is = (is.0, long refl)
   one_in OutOfSequence text rest long asked is =
       (is.0, elim is.1 [ inl e ↦ inl (short e) | inr none ↦ inr none ])
-  one_in (OutOfSequenceIn status) text rest long asked is = (is.0, long refl)
-  one_in TimeAsked text rest long asked is = (is.0, long refl)
-  one_in m text rest long asked is = is
+  one_in m text rest long asked is = search (long, is)
 
   all_in : (id text : List ℕ) (ms : List ReaderMsg) (tail : List ℕ)
       → (list_any has_long ms ≡ true → own.is_long ≡ true) → Narrower (own_ids ms) own.ids
@@ -126,10 +118,8 @@ module _ (r : Reading) where
   -- a message of feature levels 2 and 3 stands in their reading alone
   one_is_long : (m : ReaderMsg) (text rest : List ℕ) → has_long m ≡ true
       → IsTextOf r m text rest → r.is_long ≡ true
-  one_is_long (BeginSessionLong funds media kind details) text rest long is = is.1
-  one_is_long (OutOfSequenceIn status) text rest long is = is.1
   one_is_long TimeAsked text rest long is = is.1
-  one_is_long m text rest long is = absurd (cc)
+  one_is_long m text rest long is = grind arith
 
   -- and what it asks for is allowed
   one_asks : (m : ReaderMsg) (text rest : List ℕ) → IsTextOf r m text rest

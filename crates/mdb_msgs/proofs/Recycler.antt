@@ -1,11 +1,9 @@
 -- The validator's messages of any profile are those of the extended profile.
 use Rattle.mdb_msgs.proofs.Words.{Bool, true, List, [], ◌∷◌, refl, AllByRecursion, BillMsg, IsBillMsg}
-use Rattle.mdb_msgs.specs.declared.reply.bill.BillMsg.TheVariants as bill
 
 one_extended : (r : Bool) (m : BillMsg) → IsBillMsg r m → IsBillMsg true m
-one_extended r (bill.Recycled b) is = (is.0, refl)
-one_extended r (bill.RecyclerStatus byte) is = (is.0, refl)
-one_extended r m is = is
+one_extended r BillMsg.Reset is = is
+one_extended r m is = search
 
 pub all_extended : (r : Bool) (ms : List BillMsg) → AllByRecursion (IsBillMsg r) ms
     → AllByRecursion (IsBillMsg true) ms

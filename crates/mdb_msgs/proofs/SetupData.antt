@@ -1,9 +1,7 @@
 -- Setup data, as they are read.
-use Rattle.mdb_msgs.proofs.Words.{◌≡◌, Command, Device, ReaderUnit, MsgFault, Length, Answer, Reply, ReaderMsg, base, early, early_long, SpellsReply, ap, refl, subst, sym, true, false, inl, inr, ◌∙◌, ℕ, Bool, List, [], ◌∷◌, ◌++◌, Option, Some, None, option_map, option_or, IsIn, IsReadFault, reply_bytes, last_level, level_in, IsSetup, IsSetupOf, config_in, known_with, last_config, leveled, or_else, IsToldAs}
+use Rattle.mdb_msgs.proofs.Words.{◌≡◌, Command, Device, ReaderUnit, MsgFault, Length, Answer, Reply, ReaderMsg, base, early, early_long, SpellsReply, ap, refl, subst, sym, true, false, inl, inr, ◌∙◌, ℕ, Bool, List, [], ◌∷◌, ◌++◌, Option, Some, None, option_map, option_or, IsIn, IsReadFault, reply_bytes, last_level, level_in, IsSetup, IsSetupOf, config_in, known_with, last_config, leveled, or_else, IsToldAs, ReaderCommand}
 use Rattle.std.proofs.lemmas.Option.{same_Some}
-use Rattle.mdb_msgs.specs.declared.command.Command.TheVariants as command
 use Rattle.mdb_msgs.specs.declared.command.Device.TheVariants.{Changer, Bill, Reader}
-use Rattle.mdb_msgs.specs.declared.command.ReaderCommand.TheVariants as reader
 use Rattle.mdb_msgs.specs.declared.setups.Setups.{Setups}
 use Rattle.mdb_msgs.specs.inner.SetupAsked.{setup_of}
 use Rattle.mdb_msgs.proofs.OneReply.{one_content, one_reply, reply_has_no_fault}
@@ -11,7 +9,7 @@ use Rattle.mdb_msgs.proofs.OneReply.{one_content, one_reply, reply_has_no_fault}
 -- what a reader is told with the command is irrelevant
 module _ (unit : ReaderUnit) (level columns rows display : ℕ) where
   abbrev Config : Command
-  Config = command.Reader unit (reader.SetupConfig level columns rows display)
+  Config = Command.Reader unit (ReaderCommand.SetupConfig level columns rows display)
 
   fault_so : (bytes : List ℕ) (fault : MsgFault) → IsReadFault early Config bytes fault
       → IsReadFault early (setup_of (Reader unit)) bytes fault
@@ -38,25 +36,23 @@ module _ (unit : ReaderUnit) (level columns rows display : ℕ) where
     bytes = so.bytes;
   }
 
-setup_so : (P : Command → Type 0) (device : Device) (asked : Command) → IsSetup device asked
-    → ((unit : ReaderUnit) (level columns rows display : ℕ) → P (Config unit level columns rows
-    display) → P (setup_of (Reader unit))) → P asked → P (setup_of device)
-setup_so P Changer asked is alike p = subst P is p
-setup_so P Bill asked is alike p = subst P is p
-setup_so P (Reader unit) asked (level, columns, rows, display, is) alike p =
-    alike unit level columns rows display (subst P is p)
-
 module _ (extended : Bool) (device : Device) (bytes : List ℕ) (before : Setups) {after : Setups}
     (is : IsSetupOf extended device bytes before after) where
-  spells_so : SpellsReply (setup_of device) is.answer bytes
-  spells_so = setup_so (λ c. SpellsReply c is.answer bytes) device is.asked is.asks
-      (λ unit level columns rows display. answers_so unit level columns rows display is.answer
-      bytes) is.spells
+  abbrev Told : Command → Type 0
+  Told asked = SpellsReply asked is.answer bytes × IsToldAs extended asked is.answer
 
-  reads_so : IsToldAs extended (setup_of device) is.answer
-  reads_so = setup_so (λ c. IsToldAs extended c is.answer) device is.asked is.asks
-      (λ unit level columns rows display. told_so unit level columns rows display extended
-      is.answer) is.reading
+  told_of : Told (setup_of device)
+  told_of = by device is.asked is.asks (is.spells, is.reading)
+    where
+      by : (device : Device) (asked : Command) → IsSetup device asked → Told asked
+          → Told (setup_of device)
+      by (Reader unit) asked (level, columns, rows, display, same) told =
+          let config : Told (Config unit level columns rows display) = subst Told same told in (
+            answers_so unit level columns rows display is.answer bytes config.0,
+            told_so unit level columns rows display extended is.answer config.1,
+          )
+      by Changer asked same told = subst Told same told
+      by Bill asked same told = subst Told same told
 
 -- a told answer is one reply
 module _ (asked : Command) (block : List ℕ) (one other : Reply)
@@ -91,9 +87,9 @@ pub one_setup : (extended : Bool) (device : Device) (bytes : List ℕ) (before a
     → IsSetupOf extended device bytes before a → IsSetupOf extended device bytes before b → a ≡ b
 one_setup extended device bytes before a b is_a is_b =
     let answer : is_a.answer ≡ is_b.answer =
-    one_told extended (setup_of device) bytes is_a.answer is_b.answer
-    (spells_so extended device bytes before is_a) (spells_so extended device bytes before is_b)
-    (reads_so extended device bytes before is_a) (reads_so extended device bytes before is_b) in
+    let one = told_of extended device bytes before is_a in
+    let other = told_of extended device bytes before is_b in
+    one_told extended (setup_of device) bytes is_a.answer is_b.answer one.0 other.0 one.1 other.1 in
     same_Some a b (sym is_a.told ∙ ap (told_by device before) answer ∙ is_b.told)
 
 module _ (extended : Bool) (device : Device) (bytes : List ℕ) (before : Setups) (asked : Command)
@@ -102,11 +98,10 @@ module _ (extended : Bool) (device : Device) (bytes : List ℕ) (before : Setups
     → read ≡ Some answer) where
   reads : (after : Setups) (is : IsSetupOf extended device bytes before after)
       → read ≡ Some is.answer
-  reads after is = only is.answer
-      (subst (λ c. SpellsReply c is.answer bytes) (sym asks)
-      (spells_so extended device bytes before is))
-      (subst (λ c. IsToldAs extended c is.answer) (sym asks)
-      (reads_so extended device bytes before is))
+  reads after is =
+      let told = subst (Told extended device bytes before is) (sym asks)
+      (told_of extended device bytes before is) in
+      only is.answer told.0 told.1
 
   pub learns : (reply : Reply) → read ≡ Some reply → (added : Bool)
       → (added ≡ false → known_with before device reply ≡ None)
@@ -138,13 +133,10 @@ module _ {X : Type 0} (says : ReaderMsg → Option X) (last : List ReaderMsg →
 
     one_more : (before : List ReaderMsg) (message : ReaderMsg)
         → last (before ++ message ∷ []) ≡ option_or (says message) (last before)
-    one_more [] message = more message [] ∙ ap (λ x. option_or x (says message)) none
-        ∙ sym (or_none (says message)) ∙ ap (option_or (says message)) (sym none)
+    one_more [] message = rw (more message [], none, or_none (says message)) refl
     one_more (first ∷ before) message =
-        more first (before ++ message ∷ [])
-        ∙ ap (λ x. option_or x (says first)) (one_more before message)
-        ∙ sym (both (says message) (last before) (says first))
-        ∙ ap (option_or (says message)) (sym (more first before))
+        rw (more first (before ++ message ∷ []), more first before, one_more before message)
+        (sym (both (says message) (last before) (says first)))
 
 pub last_more : (before : List ReaderMsg) (message : ReaderMsg)
     → last_config (before ++ message ∷ []) ≡ or_else (config_in message) (last_config before)

@@ -1,6 +1,5 @@
 -- Bytes are messages, or there is a leftmost place where no message stands.
-use Rattle.mdb_msgs.proofs.Words.{◌≡◌, ◌*◌, ◌≤◌, length, take, flat_map, AllByRecursion, cases_Bool, cases_eq, cases_lt, nat_tests, All-drop, MsgFault, Message, Profile, ChangerMsg, Reading, ReaderMsg, bill_msg_bytes, IsBillMsg, IsOfRecycler, NoBillMsg, changer_msg_bytes, IsChangerMsg, NoChangerMsg, IsByte, StopsAt, allows, takes_options, no_messages, with_message, ◌≢◌, ℕ, zero, suc, ◌+◌, ◌<◌, ◌⊎◌, inl, inr, Bool, true, false, List, [], ◌∷◌, ◌++◌, drop, All, refl, sym, ap, ◌∙◌, arith, append_assoc, append-nil, length-append, subst, length-take-le, take-append-drop, ReaderMessages, head_bytes, reader_list_bytes, session_bytes, AreReaderMsgs, IsReaderList, IsTextOf, NoReaderMsg, ReaderStopsAt}
-use Rattle.mdb_msgs.specs.declared.reply.reader.ReaderMsg.TheVariants as reader
+use Rattle.mdb_msgs.proofs.Words.{◌≡◌, ◌*◌, ◌≤◌, length, take, flat_map, AllByRecursion, cases_Bool, cases_eq, cases_lt, nat_tests, All-drop, MsgFault, Message, Profile, ChangerMsg, Reading, ReaderMsg, bill_msg_bytes, IsBillMsg, IsOfRecycler, NoBillMsg, changer_msg_bytes, IsChangerMsg, NoChangerMsg, IsByte, StopsAt, allows, takes_options, no_messages, with_message, ◌≢◌, ℕ, zero, suc, ◌+◌, ◌<◌, ◌⊎◌, inl, inr, Bool, true, false, List, [], ◌∷◌, ◌++◌, drop, All, refl, sym, ap, ◌∙◌, arith, append_assoc, append-nil, length-append, subst, length-take-le, take-append-drop, ReaderMessages, head_bytes, reader_list_bytes, session_bytes, AreReaderMsgs, IsReaderList, IsTextOf, NoReaderMsg, ReaderStopsAt, Config, Display, BeginSession, BeginSessionLong, VendApproved, PeripheralId, PeripheralIdWithOptions, Malfunction, OutOfSequenceIn, OutOfSequence, TimeAsked, JustReset, CancelRequest, VendDenied, EndSession, Cancelled}
 use Rattle.mdb_msgs.proofs.OneReading.{bill_find, changer_front}
 use Rattle.mdb_msgs.proofs.ReaderBytes.{four, head_counts, pair_bytes, text_with_options}
 use Rattle.mdb_msgs.proofs.Readings.{long_bytes, short_bytes}
@@ -90,13 +89,13 @@ module _ {M : Type 0} (f : M → List ℕ) (Is : M → Type 0) where
         })
 
 -- whether something holds, as whether a number is within limits
-abbrev OrNot : Type 0 → Type 0
+abbrev pub OrNot : Type 0 → Type 0
 OrNot P = P ⊎ (P → ⊥)
 
-abbrev Within : ℕ → ℕ → ℕ → Type 0
+abbrev pub Within : ℕ → ℕ → ℕ → Type 0
 Within n low high = (low ≤ n) × (n < high)
 
-within : (n low high : ℕ) → OrNot (Within n low high)
+pub within : (n low high : ℕ) → OrNot (Within n low high)
 within n low high = by (cases_lt n low) (cases_lt n high)
   where
     by : (n < low) ⊎ (low ≤ n) → (n < high) ⊎ (high ≤ n) → OrNot (Within n low high)
@@ -183,6 +182,13 @@ pub bill_reads : (r : Bool) (bytes : List ℕ) → All IsByte bytes
 bill_reads r bytes = reads bill_msg_bytes (IsBillMsg r) (NoBillMsg r)
     (bill_step r) (length bytes) bytes (omega arith)
 
+-- first bytes, counted in steps of three
+pattern abbrev three+ : ℕ → ℕ
+three+ n = suc (suc (suc n))
+
+pattern abbrev six+ : ℕ → ℕ
+six+ n = three+ (three+ n)
+
 module _ (r : Reading) where
   -- a reader's message stands at the front of bytes
   record ReaderFront (bytes : List ℕ) : Type 0 where
@@ -204,14 +210,14 @@ module _ (r : Reading) where
   config : (further : List ℕ) → All IsByte (1 ∷ further) → InReader (1 ∷ further)
   config (a ∷ b ∷ c ∷ d ∷ e ∷ f ∷ g ∷ rest) low =
       let code = pair_bytes b c (low 3 0 (omega arith)) in
-      is_front (reader.Config a (256 * b + c) d e f g) [] rest refl (cc)
+      is_front (Config a (256 * b + c) d e f g) [] rest refl (cc)
   config further low = inr (inl (inl (refl, omega arith)))
 
   display : (further : List ℕ) → InReader (2 ∷ further)
   display [] = inr (inl (inr (inl (refl, inl refl))))
   display (time ∷ text) =
       elim (cases_lt (length text) 33) [
-        | inl short ↦ is_front (reader.Display time) text [] (omega arith, refl)
+        | inl short ↦ is_front (Display time) text [] (omega arith, refl)
             (ap (λ l. 2 ∷ time ∷ l) (sym (append-nil text)))
         | inr long ↦ inr (inl (inr (inl (refl, inr (omega arith)))))
       ]
@@ -223,13 +229,13 @@ module _ (r : Reading) where
       → InReader (3 ∷ further)
   session (a ∷ b ∷ rest) low (inr short) =
       let funds = pair_bytes a b (low 2 0 (omega arith)) in
-      is_front (reader.BeginSession (256 * a + b)) [] rest (refl, short) (cc)
+      is_front (BeginSession (256 * a + b)) [] rest (refl, short) (cc)
   session (a ∷ b ∷ c ∷ d ∷ e ∷ f ∷ kind ∷ g ∷ h ∷ rest) low (inl long) =
       let funds = pair_bytes a b (low 2 0 (omega arith)) in
       let details = pair_bytes g h (low 9 0 (omega arith)) in
       let media = four c d e f (low 4 0 (omega arith)) (low 5 0 (omega arith))
       (low 6 0 (omega arith)) in
-      is_front (reader.BeginSessionLong (256 * a + b) (65536 * (256 * c + d) + (256 * e + f)) kind
+      is_front (BeginSessionLong (256 * a + b) (65536 * (256 * c + d) + (256 * e + f)) kind
       (256 * g + h)) [] rest (refl, long) (cc)
   session further low (inr short) = no_session further (omega (arith, short_bytes r short))
   session further low (inl long) = no_session further (omega (arith, long_bytes r long))
@@ -237,13 +243,13 @@ module _ (r : Reading) where
   approved : (further : List ℕ) → All IsByte (5 ∷ further) → InReader (5 ∷ further)
   approved (a ∷ b ∷ rest) low =
       let amount = pair_bytes a b (low 2 0 (omega arith)) in
-      is_front (reader.VendApproved (256 * a + b)) [] rest refl (cc)
+      is_front (VendApproved (256 * a + b)) [] rest refl (cc)
   approved further low = inr (inl (inr (inr (inr (inl (refl, omega arith))))))
 
   module _ (further : List ℕ) (low : All IsByte (9 ∷ further)) (long : 29 ≤ length further) where
     -- an identification by the bytes after its text: without options, or with them
     bare_id : takes_options r.ids (drop 29 further) ≡ false → InReader (9 ∷ further)
-    bare_id bare = is_front reader.PeripheralId (take 29 further) (drop 29 further)
+    bare_id bare = is_front PeripheralId (take 29 further) (drop 29 further)
         (length-take-le 29 further long, bare)
         (ap (λ l. 9 ∷ l) (sym (take-append-drop 29 further)))
 
@@ -254,7 +260,7 @@ module _ (r : Reading) where
               let after : All IsByte (a ∷ b ∷ c ∷ d ∷ rest) =
               rw e at (All-drop IsByte 30 (9 ∷ further) low) in
               let options = 65536 * (256 * a + b) + (256 * c + d) in
-              is_front (reader.PeripheralIdWithOptions options) (take 33 further) (drop 33 further)
+              is_front (PeripheralIdWithOptions options) (take 33 further) (drop 33 further)
               (text_with_options r further a b c d rest options e (after 1 0 (omega arith))
               (after 2 0 (omega arith)) (after 3 0 (omega arith)) refl allowed)
               (ap (λ l. 9 ∷ l) (sym (take-append-drop 33 further)))
@@ -271,47 +277,41 @@ module _ (r : Reading) where
 
   malfunction : (further : List ℕ) → InReader (10 ∷ further)
   malfunction [] = inr (inl (inr (inr (inr (inr (inr (refl, refl)))))))
-  malfunction (code ∷ rest) = is_front (reader.Malfunction code) [] rest refl refl
+  malfunction (code ∷ rest) = is_front (Malfunction code) [] rest refl refl
 
   out_of_sequence : (further : List ℕ) → (r.is_long ≡ true) ⊎ (r.is_long ≡ false)
       → InReader (11 ∷ further)
   out_of_sequence (status ∷ rest) (inl long) =
-      is_front (reader.OutOfSequenceIn status) [] rest (refl, long) refl
-  out_of_sequence [] (inl long) = is_front reader.OutOfSequence [] [] (refl, inr refl) refl
+      is_front (OutOfSequenceIn status) [] rest (refl, long) refl
+  out_of_sequence [] (inl long) = is_front OutOfSequence [] [] (refl, inr refl) refl
   out_of_sequence further (inr short) =
-      is_front reader.OutOfSequence [] further (refl, inl short) refl
+      is_front OutOfSequence [] further (refl, inl short) refl
 
   -- a first byte of 0C or above
   above : (first : ℕ) (further : List ℕ) → 12 ≤ first → (first ≡ 17) ⊎ (first ≢ 17)
       → (r.is_long ≡ true) ⊎ (r.is_long ≡ false) → InReader (first ∷ further)
   above first further high (inl is) (inl long) =
-      is_front reader.TimeAsked [] further (refl, long) (ap (λ n. n ∷ further) is)
+      is_front TimeAsked [] further (refl, long) (ap (λ n. n ∷ further) is)
   above first further high (inr other) (inl long) = inr (inr (high, inr other))
   above first further high other (inr short) = inr (inr (high, inl short))
 
   reader_step : (first : ℕ) (further : List ℕ) → All IsByte (first ∷ further)
       → InReader (first ∷ further)
-  reader_step zero further low = is_front reader.JustReset [] further refl refl
+  reader_step zero further low = is_front JustReset [] further refl refl
   reader_step (suc zero) further low = config further low
   reader_step (suc (suc zero)) further low = display further
-  reader_step (suc (suc (suc zero))) further low = session further low (cases_Bool r.is_long)
-  reader_step (suc (suc (suc (suc zero)))) further low =
-      is_front reader.CancelRequest [] further refl refl
-  reader_step (suc (suc (suc (suc (suc zero))))) further low = approved further low
-  reader_step (suc (suc (suc (suc (suc (suc zero)))))) further low =
-      is_front reader.VendDenied [] further refl refl
-  reader_step (suc (suc (suc (suc (suc (suc (suc zero))))))) further low =
-      is_front reader.EndSession [] further refl refl
-  reader_step (suc (suc (suc (suc (suc (suc (suc (suc zero)))))))) further low =
-      is_front reader.Cancelled [] further refl refl
-  reader_step (suc (suc (suc (suc (suc (suc (suc (suc (suc zero))))))))) further low =
-      identification further low
-  reader_step (suc (suc (suc (suc (suc (suc (suc (suc (suc (suc zero)))))))))) further low =
-      malfunction further
-  reader_step (suc (suc (suc (suc (suc (suc (suc (suc (suc (suc (suc zero))))))))))) further low =
+  reader_step (three+ zero) further low = session further low (cases_Bool r.is_long)
+  reader_step (three+ (suc zero)) further low = is_front CancelRequest [] further refl refl
+  reader_step (three+ (suc (suc zero))) further low = approved further low
+  reader_step (six+ zero) further low = is_front VendDenied [] further refl refl
+  reader_step (six+ (suc zero)) further low = is_front EndSession [] further refl refl
+  reader_step (six+ (suc (suc zero))) further low = is_front Cancelled [] further refl refl
+  reader_step (six+ (three+ zero)) further low = identification further low
+  reader_step (six+ (three+ (suc zero))) further low = malfunction further
+  reader_step (six+ (three+ (suc (suc zero)))) further low =
       out_of_sequence further (cases_Bool r.is_long)
-  reader_step (suc (suc (suc (suc (suc (suc (suc (suc (suc (suc (suc (suc first)))))))))))) further
-      low = above _ further (omega arith) (cases_eq _ 17) (cases_Bool r.is_long)
+  reader_step (six+ (six+ first)) further low =
+      above _ further (omega arith) (cases_eq _ 17) (cases_Bool r.is_long)
 
   module _ (whole : List ℕ) where
     -- bytes are a reader's list

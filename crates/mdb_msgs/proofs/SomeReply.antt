@@ -1,12 +1,10 @@
 -- Data bytes are a reply to a command, or have a fault.
 use Rattle.mdb_msgs.proofs.Words.{◌≡◌, ◌*◌, ◌≤◌, length, cases_eq, cases_lt, IsContent, DataForm, Command, MsgFault, Length, Message, Profile, Answer, Reading, Reply, BillSetup, ChangerSetup, Stacker, TubeStatus, IsByte, is_extended, two_bytes, ◌≢◌, ℕ, ◌+◌, ◌-◌, ◌<◌, ◌⊎◌, inl, inr, Bool, true, false, Option, Some, None, List, [], ◌∷◌, slice_index, All, refl, sym, ap, ◌∙◌, arith, if◌then◌else◌, form_of_reply, reply_bytes, tells_of_sales, HasMessages, IsIn, IsReplyTo, IsReadFault, NoReply, changer_setup_bytes, tube_status_bytes, bill_setup_bytes, stacker_bytes, IsStacker}
-use Rattle.mdb_msgs.specs.declared.answer.DataForm.TheVariants as form
-use Rattle.mdb_msgs.specs.declared.reply.Reply.TheVariants as reply
 use Rattle.mdb_msgs.specs.Answers.{form_of, lengths_of, may_tell_of_sales, IsDataLength}
 use Rattle.mdb_msgs.specs.Replies.{HasFields}
 use Rattle.mdb_msgs.proofs.ReaderBytes.{pair_bytes}
 use Rattle.mdb_msgs.proofs.Recycler.{all_extended}
-use Rattle.mdb_msgs.proofs.SomeReading.{changer_reads, bill_reads, reader_reads}
+use Rattle.mdb_msgs.proofs.SomeReading.{changer_reads, bill_reads, reader_reads, within}
 
 -- setup data of the changer, of bytes that are enough
 setup_of_changer : (bytes : List ℕ) → All IsByte bytes → 7 ≤ length bytes → (setup : ChangerSetup)
@@ -115,53 +113,50 @@ module _ (r : Reading) (bytes : List ℕ) where
       })
 
   reads_form : (f : DataForm) → All IsByte bytes → IsDataLength f (length bytes) → InForm f
-  reads_form form.ChangerSetup low count =
+  reads_form DataForm.ChangerSetup low count =
       let found = setup_of_changer bytes low count.0 in
-      is_read (reply.ChangerSetup found.0) tt tt found.1
-  reads_form form.TubeStatus low count =
-      let found = tubes_of bytes low count.0 in is_read (reply.TubeStatus found.0) tt tt found.1
-  reads_form form.ChangerPoll low count =
+      is_read (Reply.ChangerSetup found.0) tt tt found.1
+  reads_form DataForm.TubeStatus low count =
+      let found = tubes_of bytes low count.0 in is_read (Reply.TubeStatus found.0) tt tt found.1
+  reads_form DataForm.ChangerPoll low count =
       elim (changer_reads bytes low) [
-        | inl read ↦ is_read (reply.ChangerPoll (record { items = read.list })) read.messages tt
+        | inl read ↦ is_read (Reply.ChangerPoll (record { items = read.list })) read.messages tt
             read.spelled
         | inr stops ↦ inr stops
       ]
-  reads_form form.ChangerIdentification low count =
-      is_read (reply.ChangerIdentification bytes) tt tt refl
-  reads_form form.BillSetup low count =
+  reads_form DataForm.ChangerIdentification low count =
+      is_read (Reply.ChangerIdentification bytes) tt tt refl
+  reads_form DataForm.BillSetup low count =
       elim (setup_of_bill bytes low count.0) [
-        | inl found ↦ is_read (reply.BillSetup found.0) tt tt found.1
+        | inl found ↦ is_read (Reply.BillSetup found.0) tt tt found.1
         | inr none ↦ inr (inl (refl, none.0, none.1))
       ]
-  reads_form form.BillPoll low count =
+  reads_form DataForm.BillPoll low count =
       elim (bill_reads (is_extended r) bytes low) [
-        | inl read ↦ is_read (reply.BillPoll (record { items = read.list }))
+        | inl read ↦ is_read (Reply.BillPoll (record { items = read.list }))
             (all_extended (is_extended r) read.list read.messages) read.messages read.spelled
         | inr stops ↦ inr stops
       ]
-  reads_form form.Stacker low count =
+  reads_form DataForm.Stacker low count =
       let found = stacker_of bytes low (omega (arith, count.0, count.1)) in
-      is_read (reply.Stacker found.0) found.1 tt found.2
-  reads_form form.BillIdentification low count = is_read (reply.BillIdentification bytes) tt tt refl
-  reads_form form.BillIdentificationWithOptions low count =
-      is_read (reply.BillIdentificationWithOptions bytes) tt tt refl
-  reads_form form.Reader low count =
+      is_read (Reply.Stacker found.0) found.1 tt found.2
+  reads_form DataForm.BillIdentification low count =
+      is_read (Reply.BillIdentification bytes) tt tt refl
+  reads_form DataForm.BillIdentificationWithOptions low count =
+      is_read (Reply.BillIdentificationWithOptions bytes) tt tt refl
+  reads_form DataForm.Reader low count =
       elim (reader_reads r bytes count.1 low) [
-        | inl read ↦ is_read (reply.Reader read.list) read.is_list read.is_in read.spelled
+        | inl read ↦ is_read (Reply.Reader read.list) read.is_list read.is_in read.spelled
         | inr stops ↦ inr stops
       ]
 
 -- whether a form allows a number
 allowed_or_not : (f : DataForm) (count : ℕ) → IsDataLength f count ⊎ (IsDataLength f count → ⊥)
 allowed_or_not f count =
-    by (cases_lt count (lengths_of f).0) (cases_lt (lengths_of f).1 count)
-  where
-    by : (count < (lengths_of f).0) ⊎ ((lengths_of f).0 ≤ count)
-        → ((lengths_of f).1 < count) ⊎ (count ≤ (lengths_of f).1)
-        → IsDataLength f count ⊎ (IsDataLength f count → ⊥)
-    by (inl few) other = inr (λ h. omega (arith, few, h.0))
-    by (inr least) (inl many) = inr (λ h. omega (arith, many, h.1))
-    by (inr least) (inr most) = inl (least, most)
+    elim (within count (lengths_of f).0 ((lengths_of f).1 + 1)) [
+      | inl is ↦ inl (omega (arith, is.0), omega (arith, is.1))
+      | inr other ↦ inr (λ h. other (omega (arith, h.0), omega (arith, h.1)))
+    ]
 
 kept_or_not : (extended kept may : Bool)
     → ((extended ≡ false) × (kept ≡ true) × (may ≡ false))
@@ -216,5 +211,5 @@ module _ (r : Reading) (command : Command) (bytes : List ℕ) where
 
 -- no form allows less than one byte or more than 35
 pub one_to_35 : (f : DataForm) (count : ℕ) → IsDataLength f count → (1 ≤ count) × (count ≤ 35)
-one_to_35 form.ChangerSetup count h = (omega (arith, h.0), omega (arith, h.1))
+one_to_35 DataForm.ChangerSetup count h = (omega (arith, h.0), omega (arith, h.1))
 one_to_35 f count h = (omega (arith, h.0), omega (arith, h.1))

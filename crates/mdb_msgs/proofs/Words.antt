@@ -1,5 +1,5 @@
 -- The names of std, of the crates below and of this crate's specs that its proofs share.
-pub use Rattle.std.proofs.Common.{length, replicate, take, ◌*◌, ◌≡◌, ◌≤◌, All, Bool, Bor, Err, Fits, IfErr, IfOk, IfSome, IsNone, IsSome, List, None, Ok, Option, Result, Some, [], ap, append-nil, append_assoc, ap₂, arith, drop, drop-cons, false, get_or, if◌then◌else◌, inl, inr, length-append, nat_eq, nat_lt, option_map, refl, slice_get, slice_index, slice_index_or, subst, suc, sum, sym, true, w8, zero, ℕ, ◌%◌, ◌&&◌, ◌++◌, ◌+◌, ◌-◌, ◌/◌, ◌<◌, ◌==◌, ◌||◌, ◌∙◌, ◌∷◌, ◌≢◌, ◌⊎◌}
+pub use Rattle.std.proofs.Common.{length, replicate, take, ◌*◌, ◌≡◌, ◌≤◌, All, Bool, Bor, Err, Fits, IfErr, IfOk, IfSome, IsNone, IsSome, List, None, Ok, Option, Result, Some, [], ap, append-nil, append_assoc, ap₂, arith, drop, drop-cons, false, get_or, if◌then◌else◌, inl, inr, length-append, nat_eq, nat_le, nat_lt, not, option_map, refl, slice_get, slice_index, slice_index_or, subst, suc, sum, sym, true, w8, zero, ℕ, ◌%◌, ◌&&◌, ◌++◌, ◌+◌, ◌-◌, ◌/◌, ◌<◌, ◌==◌, ◌||◌, ◌∙◌, ◌∷◌, ◌≢◌, ◌⊎◌}
 pub use Rattle.std.proofs.lemmas.Bool.Decides.{nat_tests}
 pub use Rattle.std.proofs.lemmas.Bool.{cases_Bool, cases_eq, cases_lt}
 pub use Rattle.std.proofs.lemmas.Grind.{common_steps, flat_map-append}
