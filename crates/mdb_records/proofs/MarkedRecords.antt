@@ -92,7 +92,7 @@ begun-given s fields field [] inside plain e =
 begun-given s fields field (c ∷ xs) inside plain e =
     let goes = chosen-none (is_end (step default_config s c).1) _ _ e in
     let steps = step-steps s c plain in
-    begun-given (step default_config s c).0 _ _ xs (steps.1 goes.0 inside) steps.0 goes.1
+    begun-given (step default_config s c).0 _ _ xs (steps.stays goes.0 inside) steps.plain goes.1
 
 -- there is a record at the mark or before it
 pub marked-none : (s : State) (fields : List (List ℕ)) (field before after : List ℕ)
@@ -105,7 +105,7 @@ marked-none s fields field [] after plain e =
     (sym (next-copy s fields field mark after (omega arith) plain) ∙ e)
 marked-none s fields field (c ∷ before) after plain e =
     let goes = chosen-none (is_end (step default_config s c).1) _ _ e in
-    marked-none (step default_config s c).0 _ _ before after (step-steps s c plain).0 goes.1
+    marked-none (step default_config s c).0 _ _ before after (step-steps s c plain).plain goes.1
 
 -- a record of bytes ends before the mark, so the whole text has it too
 pub marked-some : (s : State) (fields : List (List ℕ)) (field before after : List ℕ) (p : Read)
@@ -126,7 +126,7 @@ marked-some s fields field (c ∷ before) after p plain e h =
       )
       | inr q ↦
           let next = (step default_config s c).0 in
-          let more = marked-some next _ _ before after p (step-steps s c plain).0 q.1 h in
+          let more = marked-some next _ _ before after p (step-steps s c plain).plain q.1 h in
           (more.0, more.1, rw q.0 more.2)
     ]
 

@@ -1,36 +1,31 @@
 -- How csv's machine reads a line with no quote.
-use Rattle.mdb_records.proofs.Words.{◌≡◌, ◌≤◌, ◌<◌, ◌+◌, ◌-◌, ℕ, zero, suc, Bool, true, false, List, [], ◌∷◌, ◌++◌, take, drop, get_or, length, length-drop, length-take, Some, refl, ap, arith, ◌∙◌, append_assoc, All, ◌==◌, ◌||◌, drop_more, get_or-drop, take_more, All-append, All-cons, All-head, All-nil, All-tail, Runs, next_record, step, default_config, State, part-rest, run-copies, is_special}
+use Rattle.std.proofs.lemmas.Bool.{or_parts}
+use Rattle.mdb_records.proofs.Words.{◌≡◌, ◌≤◌, ◌<◌, ◌+◌, ◌-◌, ℕ, zero, suc, true, false, List, [], ◌∷◌, ◌++◌, take, drop, get_or, length, length-drop, length-take, Some, refl, ap, arith, ◌∙◌, append_assoc, All, ◌==◌, ◌||◌, drop_more, get_or-drop, take_more, All-append, All-cons, All-head, All-nil, All-tail, Runs, next_record, step, default_config, State, part-rest, run-copies, is_special}
 use Rattle.csv.specs.declared.parser.State.TheVariants as st
 use Rattle.csv.specs.declared.parser.Action.TheVariants as act
 use Rattle.mdb_records.proofs.StepFacts.{after_copy, is_plain, step-other}
-
--- of two tests that fail together each fails
-both-false : (p q : Bool) → (p || q) ≡ false → (p ≡ false) × (q ≡ false)
-both-false false q e = (refl, e)
-both-false true q e = cc
 
 -- a byte that means itself alone joins the field at hand
 step-own : (s : State) (c : ℕ) → is_special c ≡ false → is_plain s ≡ true
     → step default_config s c ≡ (after_copy s, act.Copy)
 step-own s c h p =
-    let fourth = both-false (((c == 44) || (c == 34)) || (c == 13)) (c == 10) h in
-    let third = both-false ((c == 44) || (c == 34)) (c == 13) fourth.0 in
-    let second = both-false (c == 44) (c == 34) third.0 in
+    let fourth = or_parts (((c == 44) || (c == 34)) || (c == 13)) (c == 10) h in
+    let third = or_parts ((c == 44) || (c == 34)) (c == 13) fourth.0 in
+    let second = or_parts (c == 44) (c == 34) third.0 in
     step-other s c second.0 second.1 third.1 fourth.1 p
 
 -- bytes that mean themselves alone
-abbrev IsOwn : ℕ → Type 0
+abbrev pub IsOwn : ℕ → Type 0
 IsOwn b = is_special b ≡ false
 
 -- a text from a place on, up to another
-abbrev part : List ℕ → ℕ → ℕ → List ℕ
+abbrev pub part : List ℕ → ℕ → ℕ → List ℕ
 part text from to = take (to - from) (drop from text)
 
 -- one more such byte after those from a place on
 pub own-more : (text : List ℕ) (from end : ℕ) → from ≤ end → end < length text
-    → is_special (get_or text end 0) ≡ false
-    → All (λ b. is_special b ≡ false) (take (end - from) (drop from text))
-    → All (λ b. is_special b ≡ false) (take (end + 1 - from) (drop from text))
+    → IsOwn (get_or text end 0) → All IsOwn (part text from end)
+    → All IsOwn (part text from (end + 1))
 own-more text from end low high own h =
     let one : end + 1 - from ≡ (end - from) + 1 = omega arith in
     let at : from + (end - from) ≡ end = omega arith in
@@ -41,14 +36,12 @@ own-more text from end low high own h =
     (All-cons IsOwn (get_or text end 0) [] own (All-nil IsOwn)))
 
 -- the first bytes are those from no place on
-pub own-front : (count : ℕ) (text : List ℕ)
-    → All (λ b. is_special b ≡ false) (take count text)
-    → All (λ b. is_special b ≡ false) (take (count - 0) (drop 0 text))
+pub own-front : (count : ℕ) (text : List ℕ) → All IsOwn (take count text)
+    → All IsOwn (part text 0 count)
 own-front count text own = let all : count - 0 ≡ count = omega arith in rw all own
 
 -- no byte is no other
-pub none-own : (from : ℕ) (text : List ℕ)
-    → All (λ b. is_special b ≡ false) (take (from - from) (drop from text))
+pub none-own : (from : ℕ) (text : List ℕ) → All IsOwn (part text from from)
 none-own from text = let none : from - from ≡ 0 = omega arith in rw none (All-nil IsOwn)
 
 -- such bytes only join it
@@ -106,49 +99,42 @@ module _ (fields : List (List ℕ)) where
   line-read zero [] rest some h = absurd (omega arith)
   line-read (suc n) [] rest some h = refl
 
--- a text is read on by the place of a byte after those that were read
-at-part : (text : List ℕ) (from to : ℕ) (fields : List (List ℕ)) (c : ℕ) → from ≤ to
-    → to < length text → get_or text to 0 ≡ c → ReadsOnAt text from fields → (later : List ℕ)
-    → next_record default_config st.StartRecord [] [] (text ++ later)
-    ≡ next_record default_config (state_before from) fields []
-    (part text from to ++ c ∷ (drop (to + 1) text ++ later))
-at-part text from to fields c low high is h later =
-    let at : from + (to - from) ≡ to = omega arith in
-    h later
-    ∙ ap (λ l. next_record default_config (state_before from) fields [] (l ++ later))
-    (part-rest from (to - from) text
-    ∙ ap (λ k. part text from to ++ drop k text) at
-    ∙ ap (λ l. part text from to ++ l) (drop_more text to 0 high))
-    ∙ ap (λ l. next_record default_config (state_before from) fields [] l)
-    (append_assoc (part text from to) (get_or text to 0 ∷ drop (to + 1) text) later
-    ∙ ap (λ b. part text from to ++ b ∷ (drop (to + 1) text ++ later)) is)
+module _ (text : List ℕ) (from to : ℕ) (fields : List (List ℕ)) (low : from ≤ to)
+    (high : to < length text) where
+  -- a text is read on by the place of a byte after those that were read
+  at-part : (c : ℕ) → get_or text to 0 ≡ c → ReadsOnAt text from fields → (later : List ℕ)
+      → next_record default_config st.StartRecord [] [] (text ++ later)
+      ≡ next_record default_config (state_before from) fields []
+      (part text from to ++ c ∷ (drop (to + 1) text ++ later))
+  at-part c is h later =
+      let at : from + (to - from) ≡ to = omega arith in
+      h later
+      ∙ ap (λ l. next_record default_config (state_before from) fields [] (l ++ later))
+      (part-rest from (to - from) text
+      ∙ ap (λ k. part text from to ++ drop k text) at
+      ∙ ap (λ l. part text from to ++ l) (drop_more text to 0 high))
+      ∙ ap (λ l. next_record default_config (state_before from) fields [] l)
+      (append_assoc (part text from to) (get_or text to 0 ∷ drop (to + 1) text) later
+      ∙ ap (λ b. part text from to ++ b ∷ (drop (to + 1) text ++ later)) is)
 
--- one field more
-pub reads-field : (text : List ℕ) (from to : ℕ) (fields : List (List ℕ)) → from ≤ to
-    → to < length text → get_or text to 0 ≡ 44
-    → All (λ b. is_special b ≡ false) (take (to - from) (drop from text))
-    → ReadsOnAt text from fields
-    → ReadsOnAt text (to + 1) (fields ++ take (to - from) (drop from text) ∷ [])
-reads-field text from to fields low high comma own h = λ later.
-    let next : suc to ≡ to + 1 = omega arith in
-    at-part text from to fields 44 low high comma h later
-    ∙ comma-read fields from (part text from to) (drop (to + 1) text ++ later) own
-    ∙ ap (λ s. next_record default_config s (fields ++ part text from to ∷ []) []
-    (drop (to + 1) text ++ later)) (ap state_before next)
+  -- one field more
+  pub reads-field : get_or text to 0 ≡ 44 → All IsOwn (part text from to)
+      → ReadsOnAt text from fields
+      → ReadsOnAt text (to + 1) (fields ++ part text from to ∷ [])
+  reads-field comma own h = λ later.
+      let next : suc to ≡ to + 1 = omega arith in
+      at-part 44 comma h later
+      ∙ comma-read fields from (part text from to) (drop (to + 1) text ++ later) own
+      ∙ ap (λ s. next_record default_config s (fields ++ part text from to ∷ []) []
+      (drop (to + 1) text ++ later)) (ap state_before next)
 
--- the last field of the line
-pub reads-line : (text : List ℕ) (from to : ℕ) (fields : List (List ℕ)) → from ≤ to
-    → to < length text → 0 < to → get_or text to 0 ≡ 10
-    → All (λ b. is_special b ≡ false) (take (to - from) (drop from text))
-    → ReadsOnAt text from fields → (later : List ℕ)
-    → next_record default_config st.StartRecord [] [] (text ++ later)
-    ≡ Some (
-      fields ++ take (to - from) (drop from text) ∷ [],
-      st.StartRecord,
-      drop (to + 1) text ++ later,
-    )
-reads-line text from to fields low high some lf own h later =
-    let size : length (part text from to) ≡ to - from =
-    grind (arith, length-take, length-drop) in
-    at-part text from to fields 10 low high lf h later
-    ∙ line-read fields from (part text from to) (drop (to + 1) text ++ later) (omega arith) own
+  -- the last field of the line
+  pub reads-line : 0 < to → get_or text to 0 ≡ 10 → All IsOwn (part text from to)
+      → ReadsOnAt text from fields → (later : List ℕ)
+      → next_record default_config st.StartRecord [] [] (text ++ later)
+      ≡ Some (fields ++ part text from to ∷ [], st.StartRecord, drop (to + 1) text ++ later)
+  reads-line some lf own h later =
+      let size : length (part text from to) ≡ to - from =
+      grind (arith, length-take, length-drop) in
+      at-part 10 lf h later
+      ∙ line-read fields from (part text from to) (drop (to + 1) text ++ later) (omega arith) own

@@ -1,8 +1,8 @@
 -- Records of three plain fields, which are written without quotes, one line each: what is read of
 -- their text.
-use Rattle.mdb_records.proofs.PlainFacts.{comma-read, line-read}
+use Rattle.mdb_records.proofs.PlainFacts.{comma-read, line-read, IsOwn}
 use Rattle.mdb_records.proofs.LineFacts.{strip-low}
-use Rattle.mdb_records.proofs.Words.{arith, refl, ap, ◌∙◌, ◌≡◌, ◌+◌, ◌<◌, ◌≤◌, ℕ, zero, suc, false, List, [], ◌∷◌, ◌++◌, length, length-append, append_assoc, All, ne_eqb, flat_map, ⊤, All-head, next_record, default_config, records, records_from, strip_bom, joined_by_commas, is_special, All-weaker, add-one, Some}
+use Rattle.mdb_records.proofs.Words.{arith, refl, ap, ◌∙◌, ◌≡◌, ◌+◌, ◌<◌, ◌≤◌, ℕ, zero, suc, List, [], ◌∷◌, ◌++◌, length, length-append, append_assoc, All, ne_eqb, flat_map, ⊤, All-head, next_record, default_config, records, records_from, strip_bom, joined_by_commas, All-weaker, add-one, Some}
 use Rattle.csv.specs.declared.parser.State.TheVariants as st
 
 -- the line of a record
@@ -33,7 +33,7 @@ abbrev pub lines_of : List (List (List ℕ)) → List ℕ
 lines_of those = flat_map record_line those
 
 -- a plain byte means to csv itself alone
-own : (c : ℕ) → IsPlainByte c → is_special c ≡ false
+own : (c : ℕ) → IsPlainByte c → IsOwn c
 own c plain =
     rw (
       ne_eqb c 44 (omega arith),
@@ -42,8 +42,8 @@ own c plain =
       ne_eqb c 10 (omega arith),
     ) refl
 
-all_own : (field : List ℕ) → All IsPlainByte field → All (λ c. is_special c ≡ false) field
-all_own field = All-weaker IsPlainByte (λ c. is_special c ≡ false) own field
+all_own : (field : List ℕ) → All IsPlainByte field → All IsOwn field
+all_own field = All-weaker IsPlainByte IsOwn own field
 
 -- csv reads such a record from its line
 line_reads : (fields : List (List ℕ)) (rest : List ℕ) → IsPlain fields

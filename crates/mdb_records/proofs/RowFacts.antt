@@ -22,9 +22,9 @@ record-ends s fields field (c ∷ xs) p plain e =
     let steps = step-steps s c plain in
     elim (chosen (is_end (step default_config s c).1) _ _ p e) [
       | inl q ↦ rw (← q.1)
-          record { between = steps.2 q.0; no_more = omega arith; fewer = λ no. omega arith }
+          record { between = steps.ends q.0; no_more = omega arith; fewer = λ no. omega arith }
       | inr q ↦
-          let rest = record-ends (step default_config s c).0 _ _ xs p steps.0 q.1 in record {
+          let rest = record-ends (step default_config s c).0 _ _ xs p steps.plain q.1 in record {
             between = rest.between;
             no_more = omega (arith, rest.no_more);
             fewer = λ no. omega (arith, rest.no_more);

@@ -1,5 +1,5 @@
 -- What one byte does to csv's machine under the default settings.
-use Rattle.mdb_records.proofs.Words.{◌≡◌, ◌≤◌, ◌<◌, ℕ, Bool, true, false, refl, arith, ◌==◌, ◌||◌, if◌then◌else◌, nat_tests, after_end, ends_at_end, in_field, is_end, step, default_config, State, Action}
+use Rattle.mdb_records.proofs.Words.{◌≡◌, ◌≤◌, ◌<◌, ℕ, Bool, true, false, refl, arith, ◌==◌, ◌||◌, if◌then◌else◌, nat_tests, ends_at_end, in_field, is_end, step, default_config, State, Action}
 use Rattle.csv.specs.declared.parser.State.TheVariants as st
 use Rattle.csv.specs.declared.parser.Action.TheVariants as act
 use Rattle.csv.specs.declared.parser.Terminator.TheVariants as term
@@ -65,75 +65,50 @@ step-copy s c h e =
 
 -- what a state and an action after one byte keep: the settings' states, a record that has begun,
 -- and its end
-abbrev pub Steps : Bool → State → Action → Type 0
-Steps inside s a =
-    (is_plain s ≡ true) × (is_end a ≡ false → inside ≡ true → is_inside s ≡ true)
-    × (is_end a ≡ true → ends_at_end s ≡ false)
-
--- after a line's end no record has begun
-after-end : (inside : Bool) (c : ℕ) → Steps inside (after_end term.CRLF c) act.EndRecord
-after-end inside c = by (c == 13)
-  where
-    by : (b : Bool) → Steps inside (if b then st.AfterCr else st.StartRecord) act.EndRecord
-    by true = (refl, (λ e. cc), λ _. refl)
-    by false = (refl, (λ e. cc), λ _. refl)
-
--- a step of the machine, where a test holds, and the other where not
-abbrev either : Bool → State × Action → State × Action → State × Action
-either test first other = if test then first else other
-
--- `Steps` of a state with an action
-abbrev StepsTo : Bool → State × Action → Type 0
-StepsTo inside next = Steps inside next.0 next.1
-
--- a byte of a field
-field-steps : (inside : Bool) (c : ℕ) → StepsTo inside (in_field default_config c)
-field-steps inside c = by (c == 44) ((c == 13) || (c == 10))
-  where
-    by : (comma end : Bool)
-        → StepsTo inside (either comma (st.StartField, act.EndField)
-        (either end (after_end term.CRLF c, act.EndRecord) (st.InField, act.Copy)))
-    by true end = (refl, (λ _ _. refl), λ e. cc)
-    by false true = after-end inside c
-    by false false = (refl, (λ _ _. refl), λ e. cc)
+pub record Steps (inside : Bool) (next : State × Action) : Type 0 where
+  pub plain : is_plain next.0 ≡ true
+  pub stays : is_end next.1 ≡ false → inside ≡ true → is_inside next.0 ≡ true
+  pub ends : is_end next.1 ≡ true → ends_at_end next.0 ≡ false
 
 -- a step by a test
-either-steps : (inside test : Bool) (first other : State × Action) → StepsTo inside first
-    → StepsTo inside other → StepsTo inside (either test first other)
-either-steps inside true first other f o = f
-either-steps inside false first other f o = o
+either : {inside : Bool} (test : Bool) {first other : State × Action} → Steps inside first
+    → Steps inside other → Steps inside (if test then first else other)
+either true f o = f
+either false f o = o
 
--- a byte that is skipped before a record begins
-skipped : (s : State) → is_plain s ≡ true → StepsTo false (s, act.Skip)
-skipped s p = (p, (λ _ e. cc), λ e. cc)
+-- a byte that ends no record
+goes : {inside : Bool} {s : State} {a : Action} → is_plain s ≡ true → is_end a ≡ false
+    → (inside ≡ true → is_inside s ≡ true) → Steps inside (s, a)
+goes p e i = record { plain = p; stays = λ _. i; ends = λ f. cc }
 
--- a byte inside a record
-inner : (inside : Bool) (s : State) (a : Action) → is_plain s ≡ true → is_inside s ≡ true
-    → is_end a ≡ false → StepsTo inside (s, a)
-inner inside s a p i e = (p, (λ _ _. i), λ f. cc)
+-- a byte of a field; after a line's end no record has begun
+field-steps : (inside : Bool) (c : ℕ) → Steps inside (in_field default_config c)
+field-steps inside c =
+    either (c == 44) (goes refl refl (λ _. refl))
+    (either ((c == 13) || (c == 10)) (after-end (c == 13)) (goes refl refl (λ _. refl)))
+  where
+    after-end : (b : Bool)
+        → Steps inside ((if b then st.AfterCr else st.StartRecord), act.EndRecord)
+    after-end true = record { plain = refl; stays = λ e. cc; ends = λ _. refl }
+    after-end false = record { plain = refl; stays = λ e. cc; ends = λ _. refl }
 
 -- a byte before a record
-start-steps : (c : ℕ) → StepsTo false (step default_config st.StartRecord c)
+start-steps : (c : ℕ) → Steps false (step default_config st.StartRecord c)
 start-steps c =
-    either-steps false ((c == 13) || (c == 10)) _ _ (skipped st.StartRecord refl)
-    (either-steps false (c == 34) _ _ (inner false st.InQuoted act.Skip refl refl refl)
-    (field-steps false c))
+    either ((c == 13) || (c == 10)) (goes refl refl (λ e. cc))
+    (either (c == 34) (goes refl refl (λ _. refl)) (field-steps false c))
 
 -- each byte, in each state of these settings
 pub step-steps : (s : State) (c : ℕ) → is_plain s ≡ true
-    → StepsTo (is_inside s) (step default_config s c)
+    → Steps (is_inside s) (step default_config s c)
 step-steps st.StartRecord c e = start-steps c
 step-steps st.StartField c e =
-    either-steps true (c == 34) _ _ (inner true st.InQuoted act.Skip refl refl refl)
-    (field-steps true c)
+    either (c == 34) (goes refl refl (λ _. refl)) (field-steps true c)
 step-steps st.InField c e = field-steps true c
 step-steps st.InQuoted c e =
-    either-steps true (c == 34) _ _ (inner true st.AfterQuote act.Skip refl refl refl)
-    (inner true st.InQuoted act.Copy refl refl refl)
+    either (c == 34) (goes refl refl (λ _. refl)) (goes refl refl (λ _. refl))
 step-steps st.AfterQuote c e =
-    either-steps true (c == 34) _ _ (inner true st.InQuoted act.Copy refl refl refl)
-    (field-steps true c)
-step-steps st.InEscape c e = inner true st.InQuoted act.Copy refl refl refl
+    either (c == 34) (goes refl refl (λ _. refl)) (field-steps true c)
+step-steps st.InEscape c e = goes refl refl (λ _. refl)
 step-steps st.InComment c e = cc
-step-steps st.AfterCr c e =
-    either-steps false (c == 10) _ _ (skipped st.StartRecord refl) (start-steps c)
+step-steps st.AfterCr c e = either (c == 10) (goes refl refl (λ e. cc)) (start-steps c)

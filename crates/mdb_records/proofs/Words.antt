@@ -1,6 +1,6 @@
 -- The names of std, of the crates below and of this crate's specs that its proofs share.
 pub use Rattle.csv.proofs.ReadFacts.{part-rest, rows-end, rows-more, run-copies}
-pub use Rattle.csv.specs.Machine.{after_end, ends_at_end, field_after, fields_after, in_field, is_end, Read, step}
+pub use Rattle.csv.specs.Machine.{ends_at_end, field_after, fields_after, in_field, is_end, Read, step}
 unfoldable pub use Rattle.csv.specs.Machine.{next_record, Runs}
 pub use Rattle.csv.specs.Reading.{AreRecords, default_config, is_bom, reader_headers, reader_state, ReadRecord, Ready, records, records_next, took_first}
 unfoldable pub use Rattle.csv.specs.Reading.{Reached, records_from, strip_bom}

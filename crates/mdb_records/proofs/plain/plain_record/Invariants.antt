@@ -1,13 +1,12 @@
-use Rattle.mdb_records.proofs.Words.{parted, is_special, ◌≡◌, ◌≤◌, ◌-◌, All, false, length, take, drop, AreWithin}
+use Rattle.mdb_records.proofs.Words.{parted, ◌≤◌, ◌-◌, All, length, AreWithin}
 use Rattle.mdb_records.proofs.PartFacts.{next_start}
-use Rattle.mdb_records.proofs.PlainFacts.{ReadsOnAt}
+use Rattle.mdb_records.proofs.PlainFacts.{ReadsOnAt, IsOwn, part}
 use Rattle.mdb_records.proofs.plain.plain_record.Given as goal
 
 -- csv reads the fields so far, and the bytes after them up to this place mean themselves alone
 abbrev pub invariant-bytes : goal.invariant-bytes
 invariant-bytes l = (next_start 0 l.ends.items ≤ l.end) × (l.end ≤ length l.text)
-    × All (λ c. is_special c ≡ false)
-    (take (l.end - next_start 0 l.ends.items) (drop (next_start 0 l.ends.items) l.text))
+    × All IsOwn (part l.text (next_start 0 l.ends.items) l.end)
     × ReadsOnAt l.text (next_start 0 l.ends.items) (parted 0 l.ends.items l.text)
     × AreWithin l.ends.items l.end
 
