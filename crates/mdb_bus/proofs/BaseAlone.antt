@@ -1,13 +1,6 @@
 -- By the base profile nothing counts of what the extended one alone says.
 use Rattle.std.proofs.Common.{refl, ap, ◌∙◌, ◌≡◌, List, Option, None}
-use Rattle.mdb_bus.proofs.Words
-use Words.{Event, Command, Device, LinkFault, Rule, As, Levels, Beginning, PowerOn, Joined, Base}
-use Words.{Extended, Scope, untold_format, counted_in, haste_by, haste_of, is_in_haste, first_known}
-use Words.{untimely_of, format_by, format_for, asked_device, blame_of, fault_of, profile_of}
-use Rattle.mdb_msgs.specs.Readings.{base}
-use Rattle.mdb_bus.specs.ActLists.{Piece, Position, position_of}
-use Rattle.mdb_bus.specs.ExtendedMoney.{all_known}
-use Rattle.mdb_bus.specs.ExtendedTimes.{counted_for, times_of}
+use Rattle.mdb_bus.proofs.Words.{all_known, As, asked_device, Base, base, Beginning, blame_of, Command, counted_for, counted_in, Device, Event, Extended, fault_of, first_known, format_by, format_for, haste_by, haste_of, is_in_haste, Joined, Levels, LinkFault, Piece, Position, position_of, PowerOn, profile_of, Rule, Scope, times_of, untimely_of, untold_format}
 use Rattle.mdb_bus.proofs.PlainMoney.{counts_plainly}
 
 pub one_format : (begins : Beginning) (levels : Levels) (command : Command)

@@ -1,16 +1,15 @@
 -- The bytes of commands.
 use Rattle.std.proofs.Common.{arith, refl, sym, ◌∙◌, ◌≡◌, ◌<◌, ◌≤◌, ℕ, [], ◌∷◌, Option, Some, None, length}
-use Rattle.mdb_bus.proofs.Words.{Command, Device, More, command_bytes, device_at, need_for, Scope}
-use Rattle.mdb_bus.proofs.Words.{needed_in, profile_of}
+use Rattle.mdb_bus.proofs.Words.{bill_bytes, changer_bytes, Command, command_bytes, Device, More, need_for, needed_in, profile_of, reader_address, reader_bytes, Scope}
+use Rattle.mdb_msgs.specs.Needs.{device_at}
 use Rattle.mdb_msgs.specs.declared.command.Command.TheVariants.{Changer, Bill, Reader}
 use Rattle.mdb_msgs.specs.declared.command.ChangerCommand.{ChangerCommand}
-use Rattle.mdb_msgs.specs.declared.command.ChangerCommand.TheVariants as changer
 use Rattle.mdb_msgs.specs.declared.command.BillCommand.{BillCommand}
-use Rattle.mdb_msgs.specs.declared.command.BillCommand.TheVariants as bill
 use Rattle.mdb_msgs.specs.declared.command.ReaderCommand.{ReaderCommand}
-use Rattle.mdb_msgs.specs.declared.command.ReaderCommand.TheVariants as reader
-use Rattle.mdb_msgs.specs.Commands.{bill_bytes, changer_bytes, reader_address, reader_bytes}
 use Rattle.mdb_msgs.proofs.Addresses.{low}
+use Rattle.mdb_msgs.specs.declared.command.ChangerCommand.TheVariants as changer
+use Rattle.mdb_msgs.specs.declared.command.BillCommand.TheVariants as bill
+use Rattle.mdb_msgs.specs.declared.command.ReaderCommand.TheVariants as reader
 use Rattle.mdb_bus.proofs.Masked.{one_need}
 use Rattle.mdb_bus.proofs.Followed.{within}
 

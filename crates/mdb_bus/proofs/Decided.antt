@@ -1,7 +1,6 @@
 -- The first broken rule by its place is the first by the order.
 use Rattle.std.proofs.Common.{arith, refl, ◌≡◌, ◌+◌, ◌<◌, ◌≤◌, ℕ, zero, suc, List, [], ◌∷◌, ◌++◌, take, drop, ◌-◌}
-use Rattle.mdb_bus.proofs.Words.{All-from_recursion, AllByRecursion, Rule, Event, IsFirstBroken}
-use Rattle.mdb_bus.proofs.Words.{RowBreaks, Situation, order, IsFirstByPlace, place_of}
+use Rattle.mdb_bus.proofs.Words.{All-from_recursion, AllByRecursion, Event, IsFirstBroken, IsFirstByPlace, order, place_of, RowBreaks, Rule, Situation}
 use Rattle.mdb_bus.specs.declared.fault.Rule.TheVariants as rule
 
 -- rules that stand one after the other from a place on

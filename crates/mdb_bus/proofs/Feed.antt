@@ -1,22 +1,13 @@
 -- The bus after a row: what it stands for, and why a row is refused.
 use Rattle.std.proofs.Common.{[], refl, ap, sym, subst, ◌∙◌, ◌≡◌, List, Option, Result, Ok, Err, IfOk, IfErr, OnOk, Bool, true, false, nat_lt, if◌then◌else◌, Some, None}
-use Rattle.mdb_bus.proofs.Words
-use Words.{Event, Word, Break, Controller, Peripheral, Command, device_of, Act, LinkFault, Rule}
-use Words.{Levels, KnownOptions, Place, Step, EachStep, act_in, with_act, levels_if, GoesOn}
-use Words.{StandsFor, ended_act, position_at, IsFirstBroken, IsLinkFault, fault_at, fault_of}
-use Words.{situation_of, haste_after, haste_by, is_untimely, untimely_sender, IsFirstByPlace}
-use Words.{HasAdvanced, IsAt, IsEnded, IsJudged, IsReadAt, IsSound, Leads, act_after, asked_after}
-use Words.{pieces_after, Judged, Reply, profile_of, Profile, Base, Extended}
-use Rattle.mdb_bus.specs.declared.act.Act.TheVariants as acts
+use Rattle.mdb_bus.proofs.Words.{Act, act_after, act_in, Asked, asked_after, Base, Break, Command, Controller, device_of, EachStep, ended_act, Event, Extended, fault_at, fault_of, GoesOn, HasAdvanced, haste_after, haste_by, InAsk, is_untimely, IsAt, IsEnded, IsFirstBroken, IsFirstByPlace, IsJudged, IsLinkFault, IsReadAt, IsSound, Judged, known_by, known_if, known_of, KnownOptions, Leads, Levels, levels_after, levels_if, LinkFault, Peripheral, Piece, pieces_after, Place, Position, position_at, position_of, Profile, profile_of, Reply, Returned, Rule, situation_of, StandsFor, Step, untimely_sender, wide_at, with_act, Word}
 use Rattle.mdb_bus.specs.declared.bus.Bus.{Bus}
-use Rattle.mdb_bus.specs.shared.Step as step
-use Rattle.mdb_bus.specs.ActLists.{Piece, InAsk, Asked, Returned, levels_after, position_of}
-use Rattle.mdb_bus.specs.Positions.{Position}
-use Rattle.mdb_bus.specs.ExtendedMoney.{known_by, known_if, known_of, wide_at}
 use Rattle.mdb_bus.specs.inner.Gone.{HasGone, situation_at}
+use Rattle.mdb_bus.specs.declared.act.Act.TheVariants as acts
+use Rattle.mdb_bus.specs.shared.Step as step
+use Rattle.mdb_bus.specs.declared.judged.Judged.TheVariants as judged
 use Rattle.mdb_bus.proofs.GrownTimes.{haste_on, untimely_by_step}
 use Rattle.mdb_bus.proofs.Decided.{by_place}
-use Rattle.mdb_bus.specs.declared.judged.Judged.TheVariants as judged
 use Rattle.mdb_bus.proofs.EachSteps.{each_break, leads_of, some_each}
 use Rattle.mdb_bus.proofs.Forward.{break_after, forward, leads_at}
 use Rattle.mdb_bus.proofs.Lists.{last_push}

@@ -3,12 +3,11 @@
 -- heard.
 use Rattle.std.proofs.Common.{if◌then◌else◌, not, arith, refl, ap, sym, ◌∙◌, ◌≡◌, ◌+◌, ◌<◌, ◌≤◌, ◌↔◌, ℕ, Bool, true, false, List, [], ◌∷◌, ◌++◌, Option, length, length-append}
 use Rattle.std.proofs.Math.Dec.{leb}
-use Rattle.std.proofs.lemmas.Bool.{le-leb, lt-leb}
-use Rattle.mdb_bus.proofs.Words.{Event, Act, IsAck, Profile, Scope, profile_of}
-use Rattle.mdb_bus.specs.declared.act.Act.TheVariants as acts
-use Rattle.mdb_bus.specs.ActLists.{Piece, Whole, ArePieces, MayCome, MayStand, Quiet, events_of, left_open, piece_events}
-use Rattle.mdb_bus.specs.Wish.{Wish, HearsFreeAsWished, HearsAsWished, IsFree, nothing_told}
+use Rattle.std.proofs.lemmas.Bool.{le-leb}
+use Rattle.mdb_bus.proofs.Words.{Act, ArePieces, Event, events_of, HearsAsWished, HearsFreeAsWished, IsAck, left_open, lt-leb, MayCome, MayStand, nothing_told, Piece, piece_events, Profile, profile_of, Quiet, Scope, Whole, Wish}
+use Rattle.mdb_bus.specs.Wish.{IsFree}
 use Rattle.mdb_bus.specs.Loss.{AllArrive, FitsNext, Heard, Hearing, IsAsTold, IsHeard, Loss, LossFits, Open, Unheard, told_by, told_by_block}
+use Rattle.mdb_bus.specs.declared.act.Act.TheVariants as acts
 
 -- whether the rows of an act are damaged: as it is told, and where nothing is told, as it is wished
 abbrev is_damaged : Hearing → Bool → Bool

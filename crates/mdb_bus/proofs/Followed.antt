@@ -1,11 +1,7 @@
 -- What is said to a device that is followed: bytes need what they need of anybody.
 use Rattle.std.proofs.Common.{ap, refl, sym, ◌∙◌, ◌≡◌, ◌≢◌, ◌++◌, ◌∷◌, [], Bool, false, ℕ, List, slice_index, if◌then◌else◌}
-use Rattle.mdb_bus.proofs.Words.{Command, DeviceSet, Need, Foreign, Spells, device_of, has}
-use Rattle.mdb_bus.proofs.Words.{is_to_one_of, Scope, IsForeignOpening, Asks, HasCommand, needed_by}
-use Rattle.mdb_bus.proofs.Words.{needed_in, profile_of}
-use Rattle.mdb_bus.specs.ActLists.{IsAskFront}
+use Rattle.mdb_bus.proofs.Words.{Asks, Command, device_of, DeviceSet, Foreign, has, HasCommand, is_to_one_of, IsAskFront, IsCommandFront, IsForeignOpening, IsUnknownExpansion, Need, needed_by, needed_in, profile_of, Scope, Spells}
 use Rattle.mdb_bus.proofs.Masked.{otherwise, one_need}
-use Rattle.mdb_bus.specs.shared.Steps.{IsCommandFront, IsUnknownExpansion}
 
 -- a law of mdb_msgs: the first byte of a command's block is to its device
 abbrev pub FirstTells : Type 0

@@ -1,23 +1,17 @@
 -- The laws of formats, by those of readings.
 use Rattle.std.proofs.Common.{arith, refl, ap, sym, subst, ◌∙◌, ◌≡◌, ◌≢◌, ◌⊎◌, inl, inr, Bool, true, false, ◌||◌, List, [], ◌∷◌, ℕ, Option, Some, Result, Ok, Err, IfOk, IfErr, IfSome}
-use Rattle.mdb_bus.proofs.Words.{AllByRecursion, list_any, Command, MsgFault, Reading, Reply}
-use Rattle.mdb_bus.proofs.Words.{HasMessages, IsIn, IsReadFault, IsReplyTo, reply_bytes, Format, As}
-use Rattle.mdb_bus.proofs.Words.{varies, HasFault, IsReadAs, what_counts}
+use Rattle.mdb_bus.proofs.Words.{AllByRecursion, AreAlike, AreReply, AreSome, As, BytesHaveOneFault, Command, Format, HasFault, HasMessages, HasOpenFault, HaveFaults, is_extended, IsFirst, IsIn, IsInSome, IsOpenOr, IsPlainList, IsReadAs, IsReadFault, IsReadingIn, IsReadOpen, IsReplyTo, joint_fault, list_any, long, may_have_options, MsgFault, Or, Reading, readings, Reply, reply_bytes, ReplyHasNoFault, short, varies, what_counts}
 use Rattle.mdb_msgs.specs.declared.fault.MsgFault.TheVariants.{Length, Message, Profile as Left, Answer}
 use Rattle.mdb_msgs.specs.declared.reading.Ids.{Ids}
 use Rattle.mdb_msgs.specs.declared.reading.Ids.TheVariants.{Bare, ByNext, Full}
-use Rattle.mdb_msgs.specs.declared.reply.Reply.TheVariants as replies
 use Rattle.mdb_msgs.specs.declared.reply.reader.ReaderMsg.{ReaderMsg}
 use Rattle.mdb_msgs.specs.declared.reply.reader.ReaderMsg.TheVariants.{BeginSession}
 use Rattle.mdb_msgs.specs.Bill.{IsBillMsg}
 use Rattle.mdb_msgs.specs.Lists.{Stand}
 use Rattle.mdb_msgs.specs.Reader.{IsReaderMsg, IsTextOf, ReaderMessages, reader_msg_bytes}
-use Rattle.mdb_msgs.specs.Laws.{BytesHaveOneFault, ReplyHasNoFault}
-use Rattle.mdb_msgs.specs.Readings.{is_extended, may_have_options}
-use Rattle.mdb_bus.specs.declared.format.Format.TheVariants.{Or, Open}
-use Rattle.mdb_bus.specs.inner.Reading.{AreReply, IsReadingIn, joint_fault, AreAlike, IsOpenOr, IsPlainList}
-use Rattle.mdb_bus.specs.ExtendedFormats.{AreSome, HaveFaults, IsInSome, long, short, HasOpenFault, IsFirst, IsReadOpen, readings}
+use Rattle.mdb_bus.specs.declared.format.Format.TheVariants.{Open}
 use Rattle.mdb_bus.specs.OpenReplies.{IsExtended}
+use Rattle.mdb_msgs.specs.declared.reply.Reply.TheVariants as replies
 
 -- for a command and a reading, data bytes have at most one reply
 abbrev pub OneReply : Type 0

@@ -1,14 +1,8 @@
 -- A row that a position leads on by extends the act list.
 use Rattle.std.proofs.Common.{◌+◌, rules, ◌⊎◌, arith, refl, ap, sym, subst, ◌∙◌, ◌≡◌, ◌<◌, ◌≤◌, ℕ, List, [], ◌∷◌, ◌++◌, inl, inr, Option, Some, None, length, length-append, append_assoc}
-use Rattle.mdb_bus.proofs.Words
-use Words.{append-nil, All-append, All-from_recursion, Event, Word, Break, Line, Controller}
-use Words.{Peripheral, IsByte, Act, Step, Say, IsTail, act_in, levels_if, with_act, Grown}
-use Words.{asked_device, situation_of, IsAt, Leads, act_after, asked_after, pieces_after, Asks}
-use Words.{levels_before, profile_of, Levels, Scope, Profile, Situation, break_least}
+use Rattle.mdb_bus.proofs.Words.{Act, act_after, act_in, acts_of, All-append, All-from_recursion, append-nil, ArePieces, Asked, asked_after, asked_device, Asks, AskTail, Break, break_least, BreakMayCome, Controller, Event, events_of, first_position, Grown, grown, InAsk, InBlockTime, InForeign, InRepeat, InReply, IsAt, IsByte, IsSaid, IsTail, last_of, Leads, left_by, left_open, Levels, levels_before, levels_if, levels_of, Line, MayCome, Opens, Peripheral, Piece, piece_after, piece_events, PieceFits, pieces_after, Position, position_after, position_of, Profile, profile_of, Quiet, RepeatTail, Replied, ReplyTail, Returned, Say, Scope, Situation, situation_of, Step, Whole, with_act, Word, WordLeads}
 use Rattle.mdb_bus.specs.declared.act.Act.TheVariants as acts
 use Rattle.mdb_bus.specs.shared.Step as step
-use Rattle.mdb_bus.specs.ActLists.{Piece, Whole, AskTail, ReplyTail, RepeatTail, Position, Quiet, InAsk, Asked, InReply, Replied, Returned, InRepeat, InForeign, ArePieces, BreakMayCome, InBlockTime, IsSaid, MayCome, PieceFits, acts_of, events_of, first_position, last_of, left_by, left_open, levels_of, piece_events, position_of}
-use Rattle.mdb_bus.specs.shared.Steps.{Opens, WordLeads, grown, piece_after, position_after}
 use Rattle.mdb_bus.proofs.Rows.{begins_block, say_byte, say_sum, say_word, spaced_more}
 use Rattle.mdb_bus.proofs.Lists.{at_first}
 use Rattle.mdb_bus.proofs.Verdicts.{sealed}

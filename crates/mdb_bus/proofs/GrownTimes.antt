@@ -1,14 +1,8 @@
 -- Haste, and the rows out of their time, after one row more.
 use Rattle.std.proofs.Common.{arith, refl, ap, sym, subst, ◌∙◌, ◌≡◌, ◌≢◌, ◌⊎◌, inl, inr, ◌+◌, ◌<◌, ℕ, List, [], ◌∷◌, ◌++◌, Bool, true, false, if◌then◌else◌, Option, Some, None}
-use Rattle.mdb_bus.proofs.Words.{lt-ltb, Event, Word, Break, Line, Controller, Peripheral, Device}
-use Rattle.mdb_bus.proofs.Words.{Blame, Scope, controller_words, Act, Say, Grown, IsTail}
-use Rattle.mdb_bus.proofs.Words.{came_early, haste_after, haste_with, is_in_haste, asked_device}
-use Rattle.mdb_bus.proofs.Words.{situation_of, block_most, Base, is_past, is_untimely, untimely_of}
-use Rattle.mdb_bus.proofs.Words.{untimely_sender, Step, Leads, pieces_after}
-use Rattle.mdb_bus.specs.declared.fault.Blame.TheVariants as blame
+use Rattle.mdb_bus.proofs.Words.{Act, ArePieces, asked_device, AskTail, Base, Blame, block_most, Break, came_early, Controller, controller_words, Device, Event, events_of, far_apart, Grown, haste_after, haste_with, InAsk, is_in_haste, is_past, is_untimely, IsSaid, IsTail, last_of, Leads, left_by, Line, lt-ltb, Peripheral, Piece, piece_events, pieces_after, Position, position_of, RepeatTail, ReplyTail, Say, Scope, sender_by, situation_of, Step, untimely_of, untimely_sender, Whole, with_rows, with_sender, with_untimely, Word}
 use Rattle.mdb_bus.specs.declared.untimely.Untimely.{Untimely}
-use Rattle.mdb_bus.specs.ActLists.{Piece, Whole, AskTail, ReplyTail, RepeatTail, Position, InAsk, ArePieces, IsSaid, events_of, last_of, left_by, piece_events, position_of}
-use Rattle.mdb_bus.specs.ExtendedTimes.{far_apart, sender_by, with_rows, with_sender, with_untimely}
+use Rattle.mdb_bus.specs.declared.fault.Blame.TheVariants as blame
 use Rattle.mdb_bus.specs.shared.Step as step
 use Rattle.mdb_bus.proofs.Sound.{rest_last}
 use Rattle.mdb_bus.proofs.Lists.{heard}

@@ -1,13 +1,11 @@
 -- The acts in which a device has a part, where further devices are left out: those of a device that
 -- stays followed stay, and a device that is left out has a part in breaks alone.
 use Rattle.std.proofs.Common.{ap, refl, sym, ◌∙◌, ◌≡◌, Bool, true, false, if◌then◌else◌, Option, Some, None, List, [], ◌∷◌}
-use Rattle.mdb_bus.proofs.Words.{Event, Device, First, Second, DeviceSet, has, Act, Scope}
-use Rattle.mdb_bus.proofs.Words.{device_in, IsFollowed, IsLeftOut, filter}
-use Rattle.mdb_msgs.specs.declared.command.Device.TheVariants as devices
+use Rattle.mdb_bus.proofs.Words.{Act, acts_of, acts_with, ArePieces, breaks_among, Device, device_in, DeviceSet, Event, filter, First, has, has_part, is_break, is_left_out, is_one_left_out, is_this, IsFollowed, IsLeftOut, Piece, piece_events, Scope, Second, Whole, with_foreign}
 use Rattle.mdb_msgs.specs.Devices.{same_device}
+use Rattle.mdb_bus.specs.LeavingOut.{leave_out}
+use Rattle.mdb_msgs.specs.declared.command.Device.TheVariants as devices
 use Rattle.mdb_bus.specs.declared.act.Act.TheVariants as acts
-use Rattle.mdb_bus.specs.ActLists.{Piece, Whole, ArePieces, acts_of, piece_events}
-use Rattle.mdb_bus.specs.LeavingOut.{acts_with, breaks_among, has_part, is_break, is_left_out, is_one_left_out, is_this, leave_out, with_foreign}
 use Rattle.mdb_bus.proofs.Named.{IsOneFollowed, in_act}
 use Rattle.mdb_bus.proofs.LeftOutOrder.{leaving}
 

@@ -1,19 +1,14 @@
 -- Pieces in order, where further devices are left out: what stays may stand where it stood, and
 -- what is of a device that is left out stands as foreign acts.
 use Rattle.std.proofs.Common.{arith, ap, refl, sym, subst, ◌∙◌, ◌≡◌, ◌++◌, inl, inr, Bool, true, false, if◌then◌else◌, List, [], ◌∷◌, Option, Some, None, append_assoc}
-use Rattle.mdb_bus.proofs.Words
-use Words.{cond_both, append-nil, NEW_BLOCK_GAP_MIN, Event, Word, Break, block_of, Command, Device}
-use Words.{First, Second, IsByte, command_bytes, device_of, has, Act, Levels, Reply, Profile}
-use Words.{Format, IsReadAs, format_by, levels_for, untold_format, Scope, IsForeign, reply_words}
-use Words.{device_in, IsFollowed, levels_before, profile_of, IsLeftOut, rest_after, spelled_low}
+use Rattle.mdb_bus.proofs.Words.{Act, append-nil, ArePieces, AreSpaced, AskTail, begin_left_out, block_of, BlockMayCome, Break, Command, command_bytes, cond_both, Device, device_in, device_of, Event, events_of, First, first_position, ForeignMayCome, Format, format_by, has, InAnswerTime, InForeign, is_left_out, is_one_left_out, IsByte, IsFollowed, IsForeign, IsInProfile, IsLeftOut, IsReadAs, IsSaid, last_of, LeavesOutMore, left_by, Levels, levels_before, levels_by, levels_for, levels_of, MayCome, NEW_BLOCK_GAP_MIN, NotBefore, Piece, piece_events, PieceFits, Position, position_of, position_without, Profile, profile_of, Quiet, RepeatTail, Reply, reply_words, ReplyTail, rest_after, Scope, Second, spelled_low, untold_format, Whole, with_foreign, Word}
+use Rattle.mdb_bus.specs.declared.levels.ReaderLevels.{ReaderLevels}
+use Rattle.mdb_bus.specs.LeavingOut.{leave_out}
 use Rattle.mdb_msgs.specs.declared.command.Command.TheVariants as commands
 use Rattle.mdb_msgs.specs.declared.command.ReaderCommand.TheVariants as readers
 use Rattle.mdb_bus.specs.declared.act.Act.TheVariants as acts
-use Rattle.mdb_bus.specs.declared.levels.ReaderLevels.{ReaderLevels}
 use Rattle.mdb_msgs.specs.declared.reply.Reply.TheVariants as replies
 use Rattle.mdb_bus.specs.declared.scope.Profile.TheVariants as profiles
-use Rattle.mdb_bus.specs.ActLists.{Piece, Whole, AskTail, ReplyTail, RepeatTail, Position, Quiet, InForeign, ArePieces, AreSpaced, BlockMayCome, ForeignMayCome, InAnswerTime, IsInProfile, IsSaid, MayCome, NotBefore, PieceFits, events_of, first_position, last_of, left_by, levels_by, levels_of, piece_events, position_of}
-use Rattle.mdb_bus.specs.LeavingOut.{LeavesOutMore, begin_left_out, is_left_out, is_one_left_out, leave_out, position_without, with_foreign}
 use Rattle.mdb_bus.proofs.Followed.{FirstTells, front_followed, plain_front}
 use Rattle.mdb_bus.proofs.LeftOutWords.{AreForeignWords, Becomes, answer_foreign, as_block, as_foreign, as_words, foreign_stays, peripheral_foreign, word_waits}
 use Rattle.mdb_bus.proofs.Lists.{all_front, at_first, last_push}

@@ -1,13 +1,8 @@
 -- What is said where further devices are left out: the words of a piece that stays, and those of
 -- one that becomes foreign acts.
 use Rattle.std.proofs.Common.{ap, refl, sym, subst, ◌∙◌, ◌≡◌, ◌<◌, ◌-◌, ◌+◌, arith, inl, inr, Bool, true, false, nat_le, le-leb, ℕ, List, [], ◌∷◌, Option, Some, None, All, slice_index, if◌then◌else◌}
-use Rattle.mdb_bus.proofs.Words.{AllByRecursion, false_from_ne_true, recursion_from_All, Event}
-use Rattle.mdb_bus.proofs.Words.{Word, Break, Controller, Peripheral, controller_words, Device}
-use Rattle.mdb_bus.proofs.Words.{Foreign, IsByte, has, device_at, is_to_one_of, Scope, WORD_GAP_MIN}
-use Rattle.mdb_bus.proofs.Words.{IsForeign, IsForeignOpening, IsForeignWord, Say, said_by}
-use Rattle.mdb_bus.proofs.Words.{needed_by, needed_in, profile_of, rest_after}
-use Rattle.mdb_bus.specs.ActLists.{Position, InForeign, BlockMayCome, ForeignMayCome, NotBefore}
-use Rattle.mdb_bus.specs.LeavingOut.{LeavesOutMore, begin_left_out}
+use Rattle.mdb_bus.proofs.Words.{AllByRecursion, begin_left_out, BlockMayCome, Break, Controller, controller_words, Device, Event, false_from_ne_true, Foreign, ForeignMayCome, has, InForeign, is_to_one_of, IsByte, IsForeign, IsForeignOpening, IsForeignWord, LeavesOutMore, needed_by, needed_in, NotBefore, Peripheral, Position, profile_of, recursion_from_All, rest_after, said_by, Say, Scope, Word, WORD_GAP_MIN}
+use Rattle.mdb_msgs.specs.Needs.{device_at}
 use Rattle.mdb_bus.proofs.Followed.{AreFollowed, needed_followed}
 use Rattle.mdb_bus.proofs.Rows.{begins_block}
 use Rattle.mdb_bus.proofs.Lists.{heard}

@@ -1,10 +1,6 @@
 -- Lists of events and of words, with their last element apart.
 use Rattle.std.proofs.Common.{arith, refl, ap, sym, subst, ◌∙◌, ◌≡◌, ◌≢◌, ◌+◌, ◌≤◌, ℕ, List, [], ◌∷◌, ◌++◌, Some, length, All, append_assoc, length-append}
-use Rattle.std.proofs.lemmas.List.{get_or_append_left, get_or-append-add, length-map}
-use Rattle.mdb_bus.proofs.Words.{Event, Word, Break, Line, Controller, controller_words}
-use Rattle.mdb_bus.proofs.Words.{peripheral_words, Say, said_by, Profile, Beginning, PowerOn}
-use Rattle.mdb_bus.proofs.Words.{Joined}
-use Rattle.mdb_bus.specs.ActLists.{Position, Quiet, InForeign, first_position, AreSpaced, InBlockTime, last_of}
+use Rattle.mdb_bus.proofs.Words.{AreSpaced, Beginning, Break, Controller, controller_words, Event, first_position, get_or-append-add, get_or_append_left, InBlockTime, InForeign, Joined, last_of, length-map, Line, peripheral_words, Position, PowerOn, Profile, Quiet, said_by, Say, Word}
 
 -- a recording begins in quiet or in foreign traffic
 pub at_first : (P : Position → Type 0) → P Quiet → P InForeign → (begins : Beginning)

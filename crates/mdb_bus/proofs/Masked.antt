@@ -1,9 +1,7 @@
 -- What the first bytes of a block tell of ENABLE OPTIONS, which a profile may leave out.
 use Rattle.std.proofs.Common.{arith, ap, refl, sym, ◌∙◌, ◌≡◌, ◌≢◌, ◌≤◌, ◌==◌, ◌%◌, ◌||◌, ◌&&◌, sum, inl, inr, ◌⊎◌, ℕ, Bool, true, false, List, [], ◌∷◌, ◌++◌, length, length-append, if◌then◌else◌}
-use Rattle.mdb_bus.proofs.Words.{cases_eq, append-nil, block_of, Command, Need, Foreign, More}
-use Rattle.mdb_bus.proofs.Words.{Spells, is_enable_options, begins_options, needed, Profile}
-use Rattle.mdb_bus.proofs.Words.{HasCommand, leaves_options, needed_by}
 use Rattle.std.proofs.lemmas.Bool.Decides.{nat_tests}
+use Rattle.mdb_bus.proofs.Words.{append-nil, begins_options, block_of, cases_eq, Command, Foreign, HasCommand, is_enable_options, leaves_options, More, Need, needed, needed_by, Profile, Spells}
 use Rattle.mdb_bus.proofs.Lists.{some_length}
 
 -- a law of mdb_msgs: the first two bytes of a command's block tell whether it is ENABLE OPTIONS

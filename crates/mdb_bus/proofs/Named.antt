@@ -1,14 +1,10 @@
 -- No act names a device that is left out, and no fault of the link is blamed on one.
 use Rattle.std.proofs.Common.{refl, ap, sym, ◌∙◌, ◌≡◌, ◌⊎◌, ◌&&◌, Bool, true, false, if◌then◌else◌, inl, inr, List, [], ◌∷◌, Option, Some, None}
-use Rattle.mdb_bus.proofs.Words.{Event, Word, Controller, Peripheral, Device, First, Second}
-use Rattle.mdb_bus.proofs.Words.{device_of, Act, Blame, Rule, Scope, device_in, IsLinkFault}
-use Rattle.mdb_bus.proofs.Words.{asked_device, blame_of, blame_on, fault_of, haste_of, is_excused}
-use Rattle.mdb_bus.proofs.Words.{IsFollowed, counted_as, wide_of, LinkFault}
+use Rattle.mdb_bus.proofs.Words.{Act, ArePieces, Asked, asked_device, Blame, blame_of, blame_on, Controller, counted_as, Device, device_in, device_of, Event, fault_of, First, haste_of, InRepeat, InReply, is_excused, IsFollowed, IsLinkFault, LinkFault, Peripheral, Piece, Position, position_of, RepeatTail, Replied, ReplyTail, Returned, Rule, Scope, Second, Whole, wide_of, Word}
 use Rattle.mdb_msgs.specs.declared.command.Device.TheVariants as device
 use Rattle.mdb_bus.specs.declared.act.Act.TheVariants as acts
 use Rattle.mdb_bus.specs.declared.fault.Blame.TheVariants as blame
 use Rattle.mdb_bus.specs.declared.fault.Rule.TheVariants as rule
-use Rattle.mdb_bus.specs.ActLists.{Piece, Whole, ReplyTail, RepeatTail, Position, Asked, InReply, Replied, Returned, InRepeat, ArePieces, position_of}
 use Rattle.mdb_bus.proofs.Lists.{at_first}
 
 -- the device of the command that is open at a position

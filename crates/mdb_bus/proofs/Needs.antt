@@ -1,9 +1,9 @@
 -- What the needs of one byte, of two and of more bytes have to do with each other.
 use Rattle.std.proofs.Common.{◌≡◌, ◌<◌, ◌≤◌, ◌%◌, ℕ, List, [], ◌∷◌, ◌++◌, length, Option, Some, None, arith, refl}
 use Rattle.std.proofs.lemmas.Grind.{common_steps}
-use Rattle.mdb_bus.proofs.Words.{Device, Need, More, Exactly, device_at, need_for, needed}
+use Rattle.mdb_bus.proofs.Words.{bill_need, changer_need, Device, Exactly, More, Need, need, need_for, needed, reader_need}
+use Rattle.mdb_msgs.specs.Needs.{device_at}
 use Rattle.mdb_msgs.specs.declared.command.Device.TheVariants.{Changer, Bill, Reader}
-use Rattle.mdb_msgs.specs.Needs.{bill_need, changer_need, need, reader_need}
 
 -- How the need of a first byte goes with that of two. What the first byte tells stays, and what it
 -- leaves to the second is told then.

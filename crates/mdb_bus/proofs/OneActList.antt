@@ -1,9 +1,6 @@
 -- A transcript has at most one act list, and with an act list each of its fronts has one.
 use Rattle.std.proofs.Common.{arith, refl, ap, sym, subst, ◌∙◌, ◌≡◌, List, [], ◌∷◌, ◌++◌, append_assoc, length, length-append}
-use Rattle.mdb_bus.proofs.Words.{append-nil, Event, Rule, RowBreaks, situation_of, act_after}
-use Rattle.mdb_bus.proofs.Words.{Grammar, Scope}
-use Rattle.mdb_bus.specs.ActLists.{ArePieces, IsActList, Piece, acts_of, events_of, position_of}
-use Rattle.mdb_bus.specs.Pieces.{GoesOnFrom, HasActList}
+use Rattle.mdb_bus.proofs.Words.{act_after, acts_of, append-nil, ArePieces, Event, events_of, GoesOnFrom, Grammar, HasActList, IsActList, Piece, position_of, RowBreaks, Rule, Scope, situation_of}
 use Rattle.mdb_bus.proofs.Backward.{Before, backward}
 use Rattle.mdb_bus.proofs.Forward.{forward}
 use Rattle.mdb_bus.proofs.OneStep.{one_step}

@@ -1,8 +1,6 @@
 -- A row has one fault.
 use Rattle.std.proofs.Common.{ap, sym, subst, ◌∙◌, ◌≡◌, List, [], ◌∷◌, ◌++◌}
-use Rattle.mdb_bus.proofs.Words.{recursion_from_All, AllByRecursion, Event, Blame, Rule}
-use Rattle.mdb_bus.proofs.Words.{situation_of, IsLinkFault, RowBreaks, fault_of, Scope}
-use Rattle.mdb_bus.specs.ActLists.{Piece}
+use Rattle.mdb_bus.proofs.Words.{AllByRecursion, Blame, Event, fault_of, IsLinkFault, Piece, recursion_from_All, RowBreaks, Rule, Scope, situation_of}
 
 -- of rules in an order, one is the first that is broken
 one_first : (Breaks : Rule → Type 0) (r s : Rule) (before other after rest : List Rule)

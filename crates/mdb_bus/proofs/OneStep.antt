@@ -1,11 +1,7 @@
 -- A row leads to one step at most.
 use Rattle.std.proofs.Common.{◌≤◌, arith, refl, ap, sym, ◌∙◌, ◌≡◌, ◌<◌, ◌⊎◌, inl, inr, ℕ, List, [], ◌∷◌, ◌++◌, Option, length}
-use Rattle.mdb_bus.proofs.Words.{Event, Word, Break, Line, Controller, Peripheral, Command, Exactly}
-use Rattle.mdb_bus.proofs.Words.{Foreign, Reply, Levels, Step, IsForeignOpening, reply_words}
-use Rattle.mdb_bus.proofs.Words.{Situation, Leads, Grammar, Asks, needed_in, Scope}
+use Rattle.mdb_bus.proofs.Words.{Answers, AnswersReply, Asked, Asks, BeginsRepeat, Break, Command, Controller, Event, Exactly, Foreign, GoesOnAsking, GoesOnForeign, GoesOnRepeating, GoesOnReplying, Grammar, InAsk, InForeign, InRepeat, InReply, IsAskFront, IsForeignOpening, IsRepeatFront, Leads, Levels, Line, needed_in, Opens, Peripheral, Position, Quiet, Replied, Reply, reply_words, Returned, Scope, Situation, Step, Word, WordLeads}
 use Rattle.mdb_bus.specs.shared.Step as step
-use Rattle.mdb_bus.specs.ActLists.{Asked, InAsk, InForeign, InRepeat, InReply, IsAskFront, IsRepeatFront, Position, Quiet, Replied, Returned}
-use Rattle.mdb_bus.specs.shared.Steps.{Answers, AnswersReply, BeginsRepeat, GoesOnAsking, GoesOnForeign, GoesOnRepeating, GoesOnReplying, Opens, WordLeads}
 use Rattle.mdb_bus.proofs.Lists.{nothing_after, some_length}
 use Rattle.mdb_bus.proofs.Stops.{front_short}
 

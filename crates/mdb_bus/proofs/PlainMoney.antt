@@ -1,14 +1,11 @@
 -- Where all options are known, the rule that counts is the first one that is broken.
 use Rattle.std.proofs.Common.{refl, ap, ◌∙◌, ◌≡◌, false, List, [], ◌∷◌}
-use Rattle.mdb_bus.proofs.Words.{cond_both, Command, First, Act, Rule, Levels, KnownOptions}
-use Rattle.mdb_bus.proofs.Words.{Scope, levels_before, profile_of, counted_as, first_known, wide_of}
-use Rattle.mdb_msgs.specs.declared.command.Command.TheVariants as commands
-use Rattle.mdb_msgs.specs.declared.command.ReaderUnit.{ReaderUnit}
 use Rattle.std.specs.Prelude.{Option, Some}
+use Rattle.mdb_bus.proofs.Words.{Act, all_known, amounts_to, Asked, asked_with_amounts, Command, cond_both, counted_as, First, first_known, InAsk, InReply, is_wide, known_after, known_by, known_of, KnownOptions, Levels, levels_before, levels_of, Piece, Position, profile_of, reader_asked, refuses, Rule, Scope, wide_at, wide_of}
+use Rattle.mdb_msgs.specs.declared.command.ReaderUnit.{ReaderUnit}
+use Rattle.mdb_msgs.specs.declared.command.Command.TheVariants as commands
 use Rattle.mdb_bus.specs.declared.act.Act.TheVariants as acts
 use Rattle.mdb_bus.specs.declared.fault.Rule.TheVariants as rule
-use Rattle.mdb_bus.specs.ActLists.{Asked, InAsk, InReply, Piece, Position, levels_of}
-use Rattle.mdb_bus.specs.ExtendedMoney.{all_known, amounts_to, asked_with_amounts, is_wide, known_after, known_by, known_of, reader_asked, refuses, wide_at}
 
 -- options that are all known stay so
 after_all : (command : Command) → known_after command all_known ≡ all_known

@@ -1,12 +1,8 @@
 -- The laws of mdb_msgs, put together, of the devices that are followed.
 use Rattle.std.proofs.Common.{refl, ap, ◌∙◌, ◌≡◌, ◌≢◌, ◌<◌, ℕ, List, [], ◌++◌, length, ◌&&◌, ◌%◌, Bool, true, false, All, sum}
-use Rattle.mdb_bus.proofs.Words.{block_of, Command, Exactly, Foreign, Reading, Reply, IsByte}
-use Rattle.mdb_bus.proofs.Words.{Spells, command_bytes, is_enable_options, begins_options, needed}
-use Rattle.mdb_bus.proofs.Words.{IsOpen, IsTold, TellsLength, IsIn, IsReplyTo, reply_bytes, Scope}
-use Rattle.mdb_bus.proofs.Words.{Asks, leaves_options, needed_in, profile_of}
-use Rattle.mdb_msgs.specs.Laws.{BlockHasOneReply, OpenIsAFront as PlainOpenIsAFront, OpenIsAnothersFront}
-use Rattle.mdb_bus.proofs.Masked.{TwoTell, block_known, front_known, known_need, unmasked}
+use Rattle.mdb_bus.proofs.Words.{Asks, begins_options, block_of, BlockHasOneReply, Command, command_bytes, Exactly, Foreign, is_enable_options, IsByte, IsIn, IsOpen, IsReplyTo, IsTold, leaves_options, needed, needed_in, OpenIsAnothersFront, PlainOpenIsAFront, profile_of, Reading, Reply, reply_bytes, Scope, Spells, TellsLength}
 use Rattle.mdb_bus.specs.shared.Grammar.{OpenIsAFront}
+use Rattle.mdb_bus.proofs.Masked.{TwoTell, block_known, front_known, known_need, unmasked}
 use Rattle.mdb_bus.proofs.Followed.{FirstTells, asks_followed, block_followed, needed_followed, still_followed, was_followed, within}
 use Rattle.mdb_bus.proofs.Lists.{not_empty, some_there}
 use Rattle.mdb_bus.proofs.Verdicts.{some_bytes}

@@ -1,9 +1,6 @@
 -- Lists of rows and of words, with one more at the end.
 use Rattle.std.proofs.Common.{arith, refl, ap, sym, subst, ◌∙◌, ◌≡◌, ◌≢◌, ◌+◌, ◌%◌, ℕ, List, [], ◌∷◌, ◌++◌, Some, sum, append_assoc}
-use Rattle.mdb_bus.proofs.Words.{map-append, Event, Word, Line, Controller, Peripheral, block_of}
-use Rattle.mdb_bus.proofs.Words.{controller_words, peripheral_words, IsBlockWord, Say, said_by}
-use Rattle.mdb_bus.proofs.Words.{Profile}
-use Rattle.mdb_bus.specs.ActLists.{AreSpaced, InBlockTime, last_of}
+use Rattle.mdb_bus.proofs.Words.{AreSpaced, block_of, Controller, controller_words, Event, InBlockTime, IsBlockWord, last_of, Line, map-append, Peripheral, peripheral_words, Profile, said_by, Say, Word}
 use Rattle.mdb_bus.proofs.Lists.{front_and_last, heard, last_push, peripheral_push}
 
 -- words with one more are said by events with one more

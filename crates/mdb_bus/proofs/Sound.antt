@@ -1,11 +1,8 @@
 -- Where pieces in order leave the bus: a block there has begun well, and a last row that is a break
 -- is a long one.
 use Rattle.std.proofs.Common.{refl, ◌≡◌, ℕ, List, [], ◌∷◌, ◌++◌, inl, inr, Some}
-use Rattle.mdb_bus.proofs.Words.{Event, Word, Break, Line, Controller, Peripheral, words_on, Act}
-use Rattle.mdb_bus.proofs.Words.{IsForeignWord, IsReply, Say, command_words, reply_words}
-use Rattle.mdb_bus.proofs.Words.{NamesAReply, IsSound, Scope, profile_of}
+use Rattle.mdb_bus.proofs.Words.{Act, ArePieces, AskTail, Break, command_words, Controller, Event, events_of, InRepeat, IsForeignWord, IsReply, IsSaid, IsSound, last_of, Line, NamesAReply, Peripheral, Piece, piece_events, Position, position_of, profile_of, RepeatTail, Replied, reply_words, ReplyTail, Returned, Say, Scope, Whole, Word, words_on}
 use Rattle.mdb_bus.specs.declared.act.Act.TheVariants as acts
-use Rattle.mdb_bus.specs.ActLists.{Piece, Whole, AskTail, ReplyTail, RepeatTail, Position, InRepeat, Replied, Returned, ArePieces, IsSaid, events_of, last_of, piece_events, position_of}
 use Rattle.mdb_bus.proofs.Stops.{LastIsLong, lasts}
 use Rattle.mdb_bus.proofs.Lists.{at_first}
 

@@ -1,29 +1,17 @@
 -- What is made of a word, position by position.
 use Rattle.std.proofs.Common.{rules, arith, refl, ap, sym, ◌∙◌, ◌≡◌, ◌≢◌, ◌+◌, ◌<◌, ◌≤◌, ◌%◌, ◌⊎◌, inl, inr, ℕ, zero, suc, List, [], ◌∷◌, ◌++◌, length, take, drop, slice_index, slice_get, sum, Option, Some, None, Result, Ok, Err, IfOk, OnOk, get_or, append_assoc, length-append, length-drop, Fits, w8, ◌&&◌, ◌↔◌, Bool, true, false, IsTrue}
-use Rattle.mdb_bus.proofs.Words
-use Words.{nil_from_length, same_from_push, All-append, All-from_recursion, WORD_GAP_MIN, Event}
-use Words.{Word, Controller, Peripheral, answer_byte, block_of, peripheral_words, Command, MsgFault}
-use Words.{Need, More, Exactly, Foreign, Outside, Reply, IsByte, Spells, command_bytes}
-use Words.{begins_options, needed, IsOpen, IsShort, Rule, Levels, Place, Judged, reply_words}
-use Words.{position_at, IsBefore, IsPast, LeavesProfile, OutOfOrder, RowBreaks, Situation}
-use Words.{WrongLength, IsFirstByPlace, place_of, IsJudged, IsSound, answer_most, block_most, Scope}
-use Words.{HasFault, format_for, Profile, Base, Extended, is_past, is_untimely, HasCommand}
-use Words.{leaves_options, needed_by, needed_in, profile_of}
-use Rattle.std.proofs.lemmas.List.Elements.{All-from_get_or}
 use Rattle.std.proofs.lemmas.Option.{slice_get-get_or, slice_get_past}
 use Rattle.std.specs.List.{All}
+use Rattle.mdb_bus.proofs.Words.{All-append, All-from_get_or, All-from_recursion, answer_byte, answer_most, Asked, Base, begins_options, Belongs, block_most, block_of, BytesHaveOneFault, Command, command_bytes, Controller, Counts, Covers, EnablesMore, Event, Exactly, Extended, Foreign, format_for, FrontIsOpen, HasCommand, HasFault, InAsk, InBlockTime, InReply, is_past, is_untimely, IsAskFront, IsBefore, IsByte, IsCommandFront, IsFirstByPlace, IsGoingOn, IsJudged, IsOpen, IsOpened, IsPast, IsRead, IsRepeatFront, IsReplyEnd, IsSettled, IsShort, IsSound, IsTimely, IsUnknownExpansion, Judged, leaves_options, LeavesProfile, Levels, MayAsk, More, MsgFault, Need, needed, needed_by, needed_in, nil_from_length, NotBefore, NotPast, OpenIsAnothersFront, OutOfOrder, Outside, Peripheral, peripheral_words, Place, place_of, Position, position_at, Profile, profile_of, Reply, reply_words, ReplyHasNoFault, RowBreaks, Rule, same_from_push, Scope, Situation, Spells, Word, WORD_GAP_MIN, WrongLength}
 use Rattle.mdb_blocks.specs.declared.answer.Answer.{Answer}
+use Rattle.mdb_msgs.specs.Answers.{HasDataAnswer}
+use Rattle.mdb_msgs.specs.Laws.{OpenIsAFront}
+use Rattle.mdb_bus.specs.declared.phase.Phase.{Phase}
 use Rattle.mdb_blocks.specs.declared.answer.Answer.TheVariants as answers
 use Rattle.mdb_msgs.specs.declared.fault.MsgFault.TheVariants as reading
-use Rattle.mdb_msgs.specs.Answers.{HasDataAnswer}
-use Rattle.mdb_msgs.specs.Commands.{EnablesMore}
-use Rattle.mdb_msgs.specs.Laws.{BytesHaveOneFault, FrontIsOpen, OpenIsAFront, OpenIsAnothersFront, ReplyHasNoFault}
 use Rattle.mdb_bus.specs.declared.fault.Rule.TheVariants as rule
 use Rattle.mdb_bus.specs.declared.judged.Judged.TheVariants as judged
-use Rattle.mdb_bus.specs.ActLists.{Asked, InAsk, InBlockTime, InReply, IsRepeatFront, NotBefore, NotPast, Position, IsAskFront}
-use Rattle.mdb_bus.specs.declared.phase.Phase.{Phase}
 use Rattle.mdb_bus.specs.declared.phase.Phase.TheVariants as phase
-use Rattle.mdb_bus.specs.shared.Steps.{Belongs, Counts, Covers, IsCommandFront, IsGoingOn, IsOpened, IsRead, IsReplyEnd, IsSettled, IsTimely, IsUnknownExpansion, MayAsk}
 use Rattle.mdb_bus.proofs.Needs.{at_least_two, at_most_32, not_left, stays, narrows}
 use Rattle.mdb_bus.proofs.FormatLaws.{none_as, one_bad, bad_length}
 use Rattle.mdb_bus.proofs.Masked.{AreKnown, TwoTell, another_known, begins_one, content_tells, front_known, known_front, known_need, more_known, none_of_both, one_need, options_more, unmasked}

@@ -1,7 +1,7 @@
 -- The names of std, of the crates below and of this crate's specs that its proofs share.
-pub use Rattle.std.proofs.lemmas.Bool.{cases_eq, cond_both, false_from_ne_true, lt-ltb}
-pub use Rattle.std.proofs.lemmas.List.{append-nil, map-append, nil_from_length, same_from_push}
-pub use Rattle.std.proofs.lemmas.List.Elements.{All-append, All-from_recursion, recursion_from_All}
+pub use Rattle.std.proofs.lemmas.Bool.{cases_eq, cond_both, false_from_ne_true, lt-leb, lt-ltb}
+pub use Rattle.std.proofs.lemmas.List.{append-nil, get_or-append-add, get_or_append_left, length-map, map-append, nil_from_length, same_from_push}
+pub use Rattle.std.proofs.lemmas.List.Elements.{All-append, All-from_get_or, All-from_recursion, recursion_from_All}
 pub use Rattle.std.specs.List.{AllByRecursion, filter, list_any}
 pub use Rattle.mdb_words.specs.declared.event.Event.{Event}
 pub use Rattle.mdb_words.specs.declared.event.Event.TheVariants.{Break, Word}
@@ -11,10 +11,12 @@ pub use Rattle.mdb_words.specs.declared.word.Line.TheVariants.{Controller, Perip
 pub use Rattle.mdb_blocks.specs.Answer.{answer_byte, answer_word}
 pub use Rattle.mdb_blocks.specs.Block.{block_of, controller_words, peripheral_words, words_on}
 pub use Rattle.mdb_msgs.proofs.CommandBytes.{spelled_low}
-pub use Rattle.mdb_msgs.specs.Commands.{IsByte, Spells, command_bytes, device_of, is_enable_options}
+pub use Rattle.mdb_msgs.specs.Commands.{bill_bytes, changer_bytes, command_bytes, device_of, EnablesMore, is_enable_options, IsByte, reader_address, reader_bytes, Spells}
 pub use Rattle.mdb_msgs.specs.DeviceSets.{has}
-pub use Rattle.mdb_msgs.specs.Needs.{begins_options, device_at, is_to_one_of, need_for, needed}
+pub use Rattle.mdb_msgs.specs.Laws.{BlockHasOneReply, BytesHaveOneFault, FrontIsOpen, OpenIsAFront as PlainOpenIsAFront, OpenIsAnothersFront, ReplyHasNoFault}
+pub use Rattle.mdb_msgs.specs.Needs.{begins_options, bill_need, changer_need, is_to_one_of, need, need_for, needed, reader_need}
 pub use Rattle.mdb_msgs.specs.OpenBlocks.{IsOpen, IsShort, IsTold, TellsLength}
+pub use Rattle.mdb_msgs.specs.Readings.{base, is_extended, may_have_options}
 pub use Rattle.mdb_msgs.specs.Replies.{HasMessages, IsIn, IsReadFault, IsReplyTo, reply_bytes}
 pub use Rattle.mdb_msgs.specs.declared.command.Command.{Command}
 pub use Rattle.mdb_msgs.specs.declared.command.Device.{Device}
@@ -25,31 +27,27 @@ pub use Rattle.mdb_msgs.specs.declared.need.Need.{Need}
 pub use Rattle.mdb_msgs.specs.declared.need.Need.TheVariants.{Exactly, Foreign, More, Outside}
 pub use Rattle.mdb_msgs.specs.declared.reading.Reading.{Reading}
 pub use Rattle.mdb_msgs.specs.declared.reply.Reply.{Reply}
-pub use Rattle.mdb_bus.specs.Acts.{IsAck, IsBlockWord, IsForeign, IsForeignOpening, IsForeignWord}
-pub use Rattle.mdb_bus.specs.Acts.{IsReply, Say, command_words, reply_words, said_by}
-pub use Rattle.mdb_bus.specs.Bus.{GoesOn, Grown, StandsFor, ended_act, position_at}
-pub use Rattle.mdb_bus.specs.ExtendedCounts.{counts, is_refusal, what_counts}
-pub use Rattle.mdb_bus.specs.ExtendedFormats.{untold_format}
-pub use Rattle.mdb_bus.specs.ExtendedHaste.{came_early, counted_in, haste_after, haste_by, haste_of}
-pub use Rattle.mdb_bus.specs.ExtendedHaste.{haste_with, is_excused, is_in_haste}
-pub use Rattle.mdb_bus.specs.ExtendedMoney.{counted_as, first_known, wide_of}
-pub use Rattle.mdb_bus.specs.ExtendedTimes.{is_past, is_untimely, untimely_of, untimely_sender}
-pub use Rattle.mdb_bus.specs.Formats.{HasFault, IsReadAs, format_by, format_for, levels_for}
-pub use Rattle.mdb_bus.specs.LeavingOut.{IsLeftOut, device_in}
-pub use Rattle.mdb_bus.specs.LinkFaults.{IsBefore, IsFirstBroken, IsLinkFault, IsOutside, IsPast}
-pub use Rattle.mdb_bus.specs.LinkFaults.{LeavesProfile, OutOfOrder, RowBreaks, Situation}
-pub use Rattle.mdb_bus.specs.LinkFaults.{WrongLength, asked_device, blame_of, blame_on, fault_at}
-pub use Rattle.mdb_bus.specs.LinkFaults.{fault_of, order, situation_of}
-pub use Rattle.mdb_bus.specs.Pieces.{IsTail, NamesAReply, act_in, levels_if, with_act}
-pub use Rattle.mdb_bus.specs.Scopes.{Asks, HasCommand, IsFollowed, leaves_options, levels_before}
-pub use Rattle.mdb_bus.specs.Scopes.{needed_by, needed_in, profile_of}
+pub use Rattle.mdb_bus.specs.ActLists.{acts_of, ArePieces, AreSpaced, Asked, AskTail, BlockMayCome, BreakMayCome, events_of, first_position, ForeignMayCome, InAnswerTime, InAsk, InBlockTime, InForeign, InRepeat, InReply, IsActList, IsAskFront, IsInProfile, IsPiece, IsRepeatFront, IsReplyFront, IsSaid, last_of, left_by, left_open, levels_after, levels_by, levels_of, MayCome, MayStand, NotBefore, NotPast, Piece, piece_events, PieceFits, Position, position_of, Quiet, RepeatTail, Replied, ReplyFits, ReplyTail, Returned, Whole}
+pub use Rattle.mdb_bus.specs.Acts.{command_words, IsAck, IsBlockWord, IsForeign, IsForeignOpening, IsForeignWord, IsReply, reply_words, said_by, Say}
+pub use Rattle.mdb_bus.specs.Bus.{ended_act, GoesOn, Grown, position_at, StandsFor}
+pub use Rattle.mdb_bus.specs.ExtendedCounts.{counts, is_refusal, may_restart, what_counts}
+pub use Rattle.mdb_bus.specs.ExtendedFormats.{AreSome, HasOpenFault, HaveFaults, IsFirst, IsInSome, IsReadOpen, long, readings, short, untold_format}
+pub use Rattle.mdb_bus.specs.ExtendedHaste.{came_early, counted_in, haste_after, haste_by, haste_of, haste_with, is_excused, is_in_haste}
+pub use Rattle.mdb_bus.specs.ExtendedMoney.{all_known, amounts_to, asked_with_amounts, counted_as, first_known, is_wide, known_after, known_by, known_if, known_of, reader_asked, refuses, wide_at, wide_of}
+pub use Rattle.mdb_bus.specs.ExtendedTimes.{counted_for, far_apart, is_past, is_untimely, sender_by, times_of, untimely_of, untimely_sender, with_rows, with_sender, with_untimely}
+pub use Rattle.mdb_bus.specs.Formats.{format_by, format_for, HasFault, IsReadAs, levels_for}
+pub use Rattle.mdb_bus.specs.LeavingOut.{acts_with, begin_left_out, breaks_among, device_in, has_part, is_break, is_left_out, is_one_left_out, is_this, IsLeftOut, LeavesOutMore, position_without, with_foreign}
+pub use Rattle.mdb_bus.specs.LinkFaults.{asked_device, blame_of, blame_on, fault_at, fault_of, IsBefore, IsFirstBroken, IsLinkFault, IsOutside, IsPast, LeavesProfile, order, OutOfOrder, RowBreaks, Situation, situation_of, WrongLength}
+pub use Rattle.mdb_bus.specs.Pieces.{act_in, GoesOnFrom, HasActList, IsTail, levels_if, NamesAReply, with_act}
+pub use Rattle.mdb_bus.specs.Scopes.{Asks, HasCommand, IsFollowed, leaves_options, levels_before, needed_by, needed_in, profile_of}
 pub use Rattle.mdb_bus.specs.Times.{answer_most, block_most, block_rest, break_least, rest_after}
+pub use Rattle.mdb_bus.specs.Wish.{HearsAsWished, HearsFreeAsWished, nothing_told, Wish}
 pub use Rattle.mdb_bus.specs.declared.act.Act.{Act}
 pub use Rattle.mdb_bus.specs.declared.fault.Blame.{Blame}
 pub use Rattle.mdb_bus.specs.declared.fault.LinkFault.{LinkFault}
 pub use Rattle.mdb_bus.specs.declared.fault.Rule.{Rule}
 pub use Rattle.mdb_bus.specs.declared.format.Format.{Format}
-pub use Rattle.mdb_bus.specs.declared.format.Format.TheVariants.{As}
+pub use Rattle.mdb_bus.specs.declared.format.Format.TheVariants.{As, Or}
 pub use Rattle.mdb_bus.specs.declared.judged.Judged.{Judged}
 pub use Rattle.mdb_bus.specs.declared.levels.Levels.{Levels}
 pub use Rattle.mdb_bus.specs.declared.options.KnownOptions.{KnownOptions}
@@ -59,9 +57,8 @@ pub use Rattle.mdb_bus.specs.declared.scope.Beginning.TheVariants.{Joined, Power
 pub use Rattle.mdb_bus.specs.declared.scope.Profile.{Profile}
 pub use Rattle.mdb_bus.specs.declared.scope.Profile.TheVariants.{Base, Extended}
 pub use Rattle.mdb_bus.specs.declared.scope.Scope.{Scope}
-pub use Rattle.mdb_bus.specs.inner.Reading.{varies}
+pub use Rattle.mdb_bus.specs.inner.Reading.{AreAlike, AreReply, IsOpenOr, IsPlainList, IsReadingIn, joint_fault, varies}
 pub use Rattle.mdb_bus.specs.shared.Grammar.{Grammar}
 pub use Rattle.mdb_bus.specs.shared.RulePlaces.{IsFirstByPlace, place_of}
 pub use Rattle.mdb_bus.specs.shared.Step.{EachStep, SomeStep, Step}
-pub use Rattle.mdb_bus.specs.shared.Steps.{HasAdvanced, IsAt, IsEnded, IsJudged, IsReadAt, IsSound}
-pub use Rattle.mdb_bus.specs.shared.Steps.{Leads, act_after, asked_after, pieces_after}
+pub use Rattle.mdb_bus.specs.shared.Steps.{act_after, Answers, AnswersReply, asked_after, BeginsRepeat, Belongs, Counts, Covers, GoesOnAsking, GoesOnForeign, GoesOnRepeating, GoesOnReplying, grown, HasAdvanced, IsAt, IsCommandFront, IsEnded, IsGoingOn, IsJudged, IsOpened, IsRead, IsReadAt, IsReplyEnd, IsSettled, IsSound, IsTimely, IsUnknownExpansion, Leads, MayAsk, Opens, piece_after, pieces_after, position_after, WordLeads}

@@ -1,5 +1,5 @@
 -- A row is judged as its judge does: a break, or a word of a line.
-use Rattle.mdb_bus.specs.Bus.{position_at}
+use Rattle.mdb_bus.proofs.Words.{position_at}
 use Rattle.mdb_bus.proofs.judging.judge.Goals as goal
 
 pub returns-in-Break-clause-judged : goal.returns-in-Break-clause-judged

@@ -1,5 +1,5 @@
 -- A word of the controller is judged at each phase as its judge there does.
-use Rattle.mdb_bus.proofs.Words.{Word, Controller}
+use Rattle.mdb_bus.proofs.Words.{Controller, Word}
 use Rattle.mdb_bus.proofs.Verdicts.{asking_followed, asking_known}
 use Rattle.mdb_bus.proofs.judging.judge_controller.Goals as goal
 

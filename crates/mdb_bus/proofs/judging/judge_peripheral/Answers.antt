@@ -1,5 +1,5 @@
 -- A word of a peripheral is judged at each phase as its judge there does.
-use Rattle.mdb_bus.proofs.Words.{Word, Peripheral}
+use Rattle.mdb_bus.proofs.Words.{Peripheral, Word}
 use Rattle.mdb_bus.proofs.judging.judge_peripheral.Goals as goal
 
 pub returns-in-Asked-clause-judged : goal.returns-in-Asked-clause-judged

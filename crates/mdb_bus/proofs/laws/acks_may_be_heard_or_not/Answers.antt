@@ -1,4 +1,4 @@
-use Rattle.mdb_bus.specs.Wish.{nothing_told}
+use Rattle.mdb_bus.proofs.Words.{nothing_told}
 use Rattle.mdb_bus.proofs.Fitting.{acks_wished}
 use Rattle.mdb_bus.proofs.laws.acks_may_be_heard_or_not.Goals as goal
 

@@ -1,5 +1,5 @@
 -- A row is judged, and the bus goes on, or the row breaks a rule.
-use Rattle.mdb_bus.specs.Bus.{ended_act}
+use Rattle.mdb_bus.proofs.Words.{ended_act}
 use Rattle.mdb_bus.proofs.Feed.{on_ok, read_breaks, read_goes_on, sound_at, stands_on}
 use Rattle.mdb_bus.proofs.Verdicts.{covers_same}
 use Rattle.mdb_bus.proofs.bus.Bus.step.Goals as goal

@@ -1,6 +1,6 @@
 -- A second byte is left out, makes the block foreign, or leaves a command open.
 use Rattle.std.proofs.Common.{rules, inl}
-use Rattle.mdb_bus.specs.Scopes.{profile_of}
+use Rattle.mdb_bus.proofs.Words.{profile_of}
 use Rattle.mdb_bus.proofs.Verdicts.{second_foreign, second_front, second_outside}
 use Rattle.mdb_bus.proofs.judging.asking.second_byte.Goals as goal
 

@@ -1,9 +1,7 @@
 -- A block has one command, so an ask of a POLL's block is that POLL.
 use Rattle.std.proofs.Common.{◌≡◌, ◌∙◌, ap, ℕ, List, Option, Some}
-use Rattle.mdb_bus.proofs.Words.{block_of, Spells, Command, Act, ended_act, position_at}
-use Rattle.mdb_bus.proofs.Words.{HasAdvanced, IsAt}
+use Rattle.mdb_bus.proofs.Words.{Act, Asked, block_of, Command, ended_act, HasAdvanced, InAsk, IsAt, Position, position_at, Spells}
 use Rattle.mdb_bus.specs.declared.act.Act.TheVariants as acts
-use Rattle.mdb_bus.specs.ActLists.{Position, InAsk, Asked}
 use Rattle.mdb_bus.specs.shared.Step as step
 use Rattle.mdb_bus.proofs.place.Place.end_ask.Goals as goal
 

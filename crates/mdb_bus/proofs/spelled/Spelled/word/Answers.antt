@@ -1,6 +1,6 @@
 -- A word of a spelled reply is that of its block.
 use Rattle.std.proofs.Common.{arith, ap, length}
-use Rattle.mdb_msgs.specs.Replies.{reply_bytes}
+use Rattle.mdb_bus.proofs.Words.{reply_bytes}
 use Rattle.mdb_bus.proofs.Verdicts.{word_after, word_there, words_count}
 use Rattle.mdb_bus.proofs.spelled.Spelled.word.Goals as goal
 
