@@ -3,9 +3,6 @@ use Rattle.std.proofs.Common.{arith, refl, sym, ◌∙◌, ◌≡◌, ◌<◌, �
 use Rattle.mdb_bus.proofs.Words.{bill_bytes, changer_bytes, Command, command_bytes, Device, More, need_for, needed_in, profile_of, reader_address, reader_bytes, Scope}
 use Rattle.mdb_msgs.specs.Needs.{device_at}
 use Rattle.mdb_msgs.specs.declared.command.Command.TheVariants.{Changer, Bill, Reader}
-use Rattle.mdb_msgs.specs.declared.command.ChangerCommand.{ChangerCommand}
-use Rattle.mdb_msgs.specs.declared.command.BillCommand.{BillCommand}
-use Rattle.mdb_msgs.specs.declared.command.ReaderCommand.{ReaderCommand}
 use Rattle.mdb_msgs.proofs.Addresses.{low}
 use Rattle.mdb_msgs.specs.declared.command.ChangerCommand.TheVariants as changer
 use Rattle.mdb_msgs.specs.declared.command.BillCommand.TheVariants as bill
@@ -14,22 +11,11 @@ use Rattle.mdb_bus.proofs.Masked.{one_need}
 use Rattle.mdb_bus.proofs.Followed.{within}
 
 -- a command has bytes
-changer_some : (command : ChangerCommand) → 1 ≤ length (changer_bytes command)
-changer_some changer.Reset = omega arith
-changer_some command = omega arith
-
-bill_some : (command : BillCommand) → 1 ≤ length (bill_bytes command)
-bill_some bill.Reset = omega arith
-bill_some command = omega arith
-
-reader_some : (address : ℕ) (command : ReaderCommand) → 1 ≤ length (reader_bytes address command)
-reader_some address reader.Reset = omega arith
-reader_some address command = omega arith
-
 pub command_some : (command : Command) → 1 ≤ length (command_bytes command)
-command_some (Changer command) = changer_some command
-command_some (Bill command) = bill_some command
-command_some (Reader unit command) = reader_some (reader_address unit) command
+command_some (Changer changer.Reset) = omega arith
+command_some (Bill bill.Reset) = omega arith
+command_some (Reader unit reader.Reset) = omega arith
+command_some command = omega arith
 
 -- a first byte that leaves its length to the second is a byte
 by_device : (first : ℕ) (device : Option Device) → device_at first ≡ device

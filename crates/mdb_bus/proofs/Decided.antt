@@ -8,13 +8,17 @@ abbrev StandFrom : ℕ → List Rule → Type 0
 StandFrom place [] = Unit {0}
 StandFrom place (r ∷ rules) = (place_of r ≡ place) × StandFrom (place + 1) rules
 
--- the rules of so many places have lower places
-below : (bound count place : ℕ) (rules : List Rule) → place + count ≤ bound → StandFrom place rules
-    → AllByRecursion (λ r. place_of r < bound) (take count rules)
-below bound zero place rules few stand = tt
-below bound (suc count) place [] few stand = tt
-below bound (suc count) place (r ∷ rules) few stand =
-    (omega (arith, few, stand.0), below bound count (place + 1) rules (omega (arith, few)) stand.1)
+-- so many of them are kept, where those that are broken have no place below a bound
+kept : (Breaks : Rule → Type 0) (bound : ℕ)
+    → ((other : Rule) → Breaks other → bound ≤ place_of other) → (count place : ℕ)
+    (rules : List Rule) → place + count ≤ bound → StandFrom place rules
+    → AllByRecursion (λ r. Breaks r → ⊥) (take count rules)
+kept Breaks bound first zero place rules few stand = tt
+kept Breaks bound first (suc count) place [] few stand = tt
+kept Breaks bound first (suc count) place (r ∷ rules) few stand = (
+  λ breaks. omega (arith, few, stand.0, first r breaks),
+  kept Breaks bound first count (place + 1) rules (omega (arith, few)) stand.1,
+)
 
 -- each rule stands at its place
 at_place : (r : Rule) → order ≡ take (place_of r - 1) order ++ r ∷ drop (place_of r) order
@@ -25,13 +29,6 @@ some_place : (r : Rule) → 1 ≤ place_of r
 some_place rule.Order = omega arith
 some_place r = omega arith
 
-not_below : (Breaks : Rule → Type 0) (bound : ℕ) (rules : List Rule)
-    → ((other : Rule) → Breaks other → bound ≤ place_of other)
-    → AllByRecursion (λ r. place_of r < bound) rules → AllByRecursion (λ r. Breaks r → ⊥) rules
-not_below Breaks bound [] first low = tt
-not_below Breaks bound (r ∷ rules) first low =
-    (λ breaks. omega (arith, low.0, first r breaks), not_below Breaks bound rules first low.1)
-
 pub by_place : (s : Situation) (row : Event) (broken : Rule) → IsFirstByPlace s row broken
     → IsFirstBroken s row broken
 by_place s row broken first = record {
@@ -40,7 +37,6 @@ by_place s row broken first = record {
   stands = at_place broken;
   breaks = first.breaks;
   keeps = All-from_recursion _ (take (place_of broken - 1) order)
-      (not_below (RowBreaks s row) (place_of broken) _ first.first
-      (below (place_of broken) (place_of broken - 1) 1 order
-      (omega (arith, some_place broken)) (omega arith)));
+      (kept (RowBreaks s row) (place_of broken) first.first (place_of broken - 1) 1 order
+      (omega (arith, some_place broken)) (omega arith));
 }

@@ -1,9 +1,9 @@
 -- What the needs of one byte, of two and of more bytes have to do with each other.
 use Rattle.std.proofs.Common.{◌≡◌, ◌<◌, ◌≤◌, ◌%◌, ℕ, List, [], ◌∷◌, ◌++◌, length, Option, Some, None, arith, refl}
 use Rattle.std.proofs.lemmas.Grind.{common_steps}
-use Rattle.mdb_bus.proofs.Words.{bill_need, changer_need, Device, Exactly, More, Need, need, need_for, needed, reader_need}
+use Rattle.mdb_bus.proofs.Words.{Device, Exactly, More, Need, need, need_for, needed}
 use Rattle.mdb_msgs.specs.Needs.{device_at}
-use Rattle.mdb_msgs.specs.declared.command.Device.TheVariants.{Changer, Bill, Reader}
+use Rattle.mdb_msgs.specs.declared.command.Device.TheVariants.{Changer}
 
 -- How the need of a first byte goes with that of two. What the first byte tells stays, and what it
 -- leaves to the second is told then.
@@ -13,73 +13,36 @@ pub record Narrows (told : Option ℕ → Need) : Type 0 where
   -- one that the second byte tells is at least 3
   pub left : (second n : ℕ) → told None ≡ More → told (Some second) ≡ Exactly n → 2 < n
   -- lengths are 2 to 32
-  pub least : (n : ℕ) → told None ≡ Exactly n → 2 ≤ n
-  pub least_two : (second n : ℕ) → told (Some second) ≡ Exactly n → 2 ≤ n
-  pub most : (n : ℕ) → told None ≡ Exactly n → n ≤ 32
-  pub most_two : (second n : ℕ) → told (Some second) ≡ Exactly n → n ≤ 32
+  pub lengths : (n : ℕ) → told None ≡ Exactly n → (2 ≤ n) × (n ≤ 32)
+  pub lengths_two : (second n : ℕ) → told (Some second) ≡ Exactly n → (2 ≤ n) × (n ≤ 32)
   -- two bytes leave nothing to a third
   pub done : (second : ℕ) → told (Some second) ≡ More → ⊥
 
-changer_narrows : (first : ℕ) → Narrows (changer_need first)
-changer_narrows first = record {
-  known = λ second n told. grind (arith, common_steps);
-  left = λ second n left told. grind (arith, common_steps);
-  least = λ n told. grind (arith, common_steps);
-  least_two = λ second n told. grind (arith, common_steps);
-  most = λ n told. grind (arith, common_steps);
-  most_two = λ second n told. grind (arith, common_steps);
-  done = λ second told. grind (arith, common_steps);
-}
-
-bill_narrows : (first : ℕ) → Narrows (bill_need first)
-bill_narrows first = record {
-  known = λ second n told. grind (arith, common_steps);
-  left = λ second n left told. grind (arith, common_steps);
-  least = λ n told. grind (arith, common_steps);
-  least_two = λ second n told. grind (arith, common_steps);
-  most = λ n told. grind (arith, common_steps);
-  most_two = λ second n told. grind (arith, common_steps);
-  done = λ second told. grind (arith, common_steps);
-}
-
-reader_narrows : (command : ℕ) → Narrows (reader_need command)
-reader_narrows command = record {
-  known = λ second n told. grind (arith, common_steps);
-  left = λ second n left told. grind (arith, common_steps);
-  least = λ n told. grind (arith, common_steps);
-  least_two = λ second n told. grind (arith, common_steps);
-  most = λ n told. grind (arith, common_steps);
-  most_two = λ second n told. grind (arith, common_steps);
-  done = λ second told. grind (arith, common_steps);
-}
-
 by_device : (first : ℕ) (device : Option Device) → Narrows (need_for device first)
-by_device first (Some Changer) = changer_narrows first
-by_device first (Some Bill) = bill_narrows first
-by_device first (Some (Reader unit)) = reader_narrows (first % 8)
-by_device first None = record {
-  known = λ second n told. cc told;
-  left = λ second n left told. cc told;
-  least = λ n told. cc told;
-  least_two = λ second n told. cc told;
-  most = λ n told. cc told;
-  most_two = λ second n told. cc told;
-  done = λ second told. cc told;
+by_device first (Some Changer) = record {
+  known = λ second n told. grind (arith, common_steps);
+  left = λ second n left told. grind (arith, common_steps);
+  lengths = λ n told. (grind (arith, common_steps), grind (arith, common_steps));
+  lengths_two = λ second n told. (grind (arith, common_steps), grind (arith, common_steps));
+  done = λ second told. grind (arith, common_steps);
+}
+by_device first device = record {
+  known = λ second n told. grind (arith, common_steps);
+  left = λ second n left told. grind (arith, common_steps);
+  lengths = λ n told. (grind (arith, common_steps), grind (arith, common_steps));
+  lengths_two = λ second n told. (grind (arith, common_steps), grind (arith, common_steps));
+  done = λ second told. grind (arith, common_steps);
 }
 
 pub narrows : (first : ℕ) → Narrows (need first)
 narrows first = by_device first (device_at first)
 
 -- a length is 2 to 32
-pub at_least_two : (bytes : List ℕ) (n : ℕ) → 0 < length bytes → needed bytes ≡ Exactly n → 2 ≤ n
-at_least_two [] n some told = absurd (omega arith)
-at_least_two (first ∷ []) n some told = (narrows first).least n told
-at_least_two (first ∷ second ∷ bytes) n some told = (narrows first).least_two second n told
-
-pub at_most_32 : (bytes : List ℕ) (n : ℕ) → 0 < length bytes → needed bytes ≡ Exactly n → n ≤ 32
-at_most_32 [] n some told = absurd (omega arith)
-at_most_32 (first ∷ []) n some told = (narrows first).most n told
-at_most_32 (first ∷ second ∷ bytes) n some told = (narrows first).most_two second n told
+pub from_2_to_32 : (bytes : List ℕ) (n : ℕ) → 0 < length bytes → needed bytes ≡ Exactly n
+    → (2 ≤ n) × (n ≤ 32)
+from_2_to_32 [] n some told = absurd (omega arith)
+from_2_to_32 (first ∷ []) n some told = (narrows first).lengths n told
+from_2_to_32 (first ∷ second ∷ bytes) n some told = (narrows first).lengths_two second n told
 
 -- two bytes tell what they and more bytes need
 pub stays : (bytes more : List ℕ) → 2 ≤ length bytes → needed (bytes ++ more) ≡ needed bytes

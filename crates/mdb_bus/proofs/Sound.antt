@@ -30,6 +30,10 @@ say_long line (w ∷ words) (Break at length ∷ []) says = cc
 say_long line [] (event ∷ next ∷ events) says = cc
 say_long line (w ∷ words) (event ∷ next ∷ events) says = say_long line words (next ∷ events) (cc)
 
+one_long : (line : Line) (word : ℕ) (events : List Event) → Say line (word ∷ []) events
+    → LastIsLong (last_of events)
+one_long line word events says = say_long line (word ∷ []) events says
+
 -- nor is a word of foreign traffic
 foreign_long : (event : Event) → IsForeignWord event → LastIsLong (Some event)
 foreign_long (Word at line word) further = tt
@@ -47,30 +51,18 @@ module _ (scope : Scope) where
 
   -- the last row of a piece that is a break is long
   piece_long : (piece : Piece) → IsSaid scope piece → LastIsLong (last_of (piece_events piece))
-  piece_long (Whole (acts.Ask command) events) said =
-      say_long Controller (command_words command) events said.1
-  piece_long (Whole (acts.Ack command) events) said = say_long Peripheral (_ ∷ []) events said
-  piece_long (Whole (acts.Nak command) events) said = say_long Peripheral (_ ∷ []) events said
-  piece_long (Whole (acts.Reply command reply) events) said =
-      say_long Peripheral (reply_words reply) events said.1
-  piece_long (Whole (acts.VmcAck command reply) events) said =
-      say_long Controller (_ ∷ []) events said
-  piece_long (Whole (acts.VmcNak command reply) events) said =
-      say_long Controller (_ ∷ []) events said
-  piece_long (Whole (acts.VmcRet command reply) events) said =
-      say_long Controller (_ ∷ []) events said
-  piece_long (Whole (acts.Repeat command reply) events) said =
-      say_long Peripheral (reply_words reply) events said
-  piece_long (Whole acts.Foreign events) (inl opening) =
-      say_long Controller (words_on Controller opening.0) events opening.2
+  piece_long (Whole (acts.Ask command) events) said = say_long Controller _ events said.1
+  piece_long (Whole (acts.Reply command reply) events) said = say_long Peripheral _ events said.1
+  piece_long (Whole (acts.Repeat command reply) events) said = say_long Peripheral _ events said
+  piece_long (Whole acts.Foreign events) (inl opening) = say_long Controller _ events opening.2
   piece_long (Whole acts.Foreign events) (inr further) =
       rw further.1 (foreign_long further.0 further.2)
   piece_long (Whole (acts.Break length) events) said =
       rw said.1 (lasts (profile_of scope.begins) length said.2)
-  piece_long (AskTail bytes events) said =
-      say_long Controller (words_on Controller bytes) events said.1
-  piece_long (ReplyTail command bytes events) said = say_long Peripheral bytes events said.1
-  piece_long (RepeatTail command reply words events) said = say_long Peripheral words events said.1
+  piece_long (Whole act events) said = one_long _ _ events said
+  piece_long (AskTail bytes events) said = say_long Controller _ events said.1
+  piece_long (ReplyTail command bytes events) said = say_long Peripheral _ events said.1
+  piece_long (RepeatTail command reply words events) said = say_long Peripheral _ events said.1
 
   -- the last row of pieces that is a break is long
   pub last_is_long : (pieces : List Piece) → ArePieces scope pieces

@@ -12,7 +12,7 @@ use Rattle.mdb_msgs.specs.declared.fault.MsgFault.TheVariants as reading
 use Rattle.mdb_bus.specs.declared.fault.Rule.TheVariants as rule
 use Rattle.mdb_bus.specs.declared.judged.Judged.TheVariants as judged
 use Rattle.mdb_bus.specs.declared.phase.Phase.TheVariants as phase
-use Rattle.mdb_bus.proofs.Needs.{at_least_two, at_most_32, not_left, stays, narrows}
+use Rattle.mdb_bus.proofs.Needs.{from_2_to_32, not_left, stays, narrows}
 use Rattle.mdb_bus.proofs.FormatLaws.{none_as, one_bad, bad_length}
 use Rattle.mdb_bus.proofs.Masked.{AreKnown, TwoTell, another_known, begins_one, content_tells, front_known, known_front, known_need, more_known, none_of_both, one_need, options_more, unmasked}
 use Rattle.mdb_bus.proofs.Followed.{AreFollowed, FirstTells, ask_front_followed, asks_followed, expansion_opens, front_followed, needed_followed, plain_front, still_followed, within}
@@ -95,7 +95,7 @@ second_short first byte (Exactly m) told is tell short other (inr exact) =
     let e : Exactly m ≡ Exactly exact.0 =
     sym ((narrows first).known byte m is) ∙ (tell ∙ exact.1) in
     let same : m ≡ exact.0 = cc in
-    let two = at_least_two (first ∷ []) m (omega arith) is in
+    let two = (from_2_to_32 (first ∷ []) m (omega arith) is).0 in
     let not_two : m ≡ 2 → ⊥ = λ at. other (ap Exactly at) in
     rw exact.1 (omega arith)
 second_short first byte alone told is tell short other (inr exact) = absurd short
@@ -117,7 +117,7 @@ further_end bytes told two is most begun = ended bytes _ two refl begun (rw is a
 -- bytes with which a command is open are few
 few_open : (bytes : List ℕ) (need : Need) → 0 < length bytes → needed bytes ≡ need
     → IsShort need (length bytes) → length bytes ≤ 32
-few_open bytes (Exactly n) some is short = omega (arith, short, at_most_32 bytes n some is)
+few_open bytes (Exactly n) some is short = omega (arith, short, (from_2_to_32 bytes n some is).1)
 few_open bytes More some is short = omega (arith, short)
 few_open bytes other some is short = absurd short
 
@@ -178,7 +178,7 @@ module _ (profile : Profile) where
       short : Wants told → IsOpen (byte ∷ [])
       short (inl more) = rw (is, more) refl
       short (inr exact) =
-          let two = at_least_two (byte ∷ []) exact.0 (omega arith) (is ∙ exact.1) in
+          let two = (from_2_to_32 (byte ∷ []) exact.0 (omega arith) (is ∙ exact.1)).0 in
           rw (is, exact.1) (omega arith)
 
   -- what two bytes make foreign, the first leaves to the second
