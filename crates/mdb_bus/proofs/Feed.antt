@@ -1,6 +1,6 @@
 -- The bus after a row: what it stands for, and why a row is refused.
 use Rattle.std.proofs.Common.{[], refl, ap, sym, subst, ◌∙◌, ◌≡◌, List, Option, Result, Ok, Err, IfOk, IfErr, OnOk, Bool, true, false, nat_lt, if◌then◌else◌, Some, None}
-use Rattle.mdb_bus.proofs.Words.{Act, act_after, act_in, Asked, asked_after, Base, Break, Command, Controller, device_of, EachStep, ended_act, Event, Extended, fault_at, fault_of, GoesOn, HasAdvanced, haste_after, haste_by, InAsk, is_untimely, IsAt, IsEnded, IsFirstBroken, IsFirstByPlace, IsJudged, IsLinkFault, IsReadAt, IsSound, Judged, known_by, known_if, known_of, KnownOptions, Leads, Levels, levels_after, levels_if, LinkFault, Peripheral, Piece, pieces_after, Place, Position, position_at, position_of, Profile, profile_of, Reply, Returned, Rule, situation_of, StandsFor, Step, untimely_sender, wide_at, with_act, Word}
+use Rattle.mdb_bus.proofs.Words.{Act, act_after, act_in, Asked, asked_after, Base, Break, Command, Controller, device_of, EachStep, ended_act, Event, Extended, fault_at, fault_of, GoesOn, HasAdvanced, haste_after, haste_by, InAsk, is_untimely, IsAt, IsEnded, IsFirstBroken, IsFirstByPlace, IsJudged, IsLinkFault, IsReadAt, IsSound, Judged, known_by, known_if, known_of, KnownOptions, Leads, Levels, levels_after, levels_if, LinkFault, Peripheral, Piece, pieces_after, Place, Position, position_at, position_of, Profile, profile_of, Reply, Returned, Rule, situation_of, StandsFor, Step, untimely_sender, wide_at, with_act, Word, levels_by}
 use Rattle.mdb_bus.specs.declared.bus.Bus.{Bus}
 use Rattle.mdb_bus.specs.inner.Gone.{HasGone, situation_at}
 use Rattle.mdb_bus.specs.declared.act.Act.TheVariants as acts
@@ -77,13 +77,9 @@ no_haste Extended position from row haste none timely =
         either (nat_lt word 256) _ timely
     after position (Word at Controller word) timely = either (nat_lt word 256) false refl
 
--- haste goes on as a row tells
-abbrev pub Hastens : Bus → Event → Bool → Type 0
-Hastens old row haste = haste ≡ haste_by (profile_of old.scope.begins)
-    (haste_after (position_at old.place) old.last row old.haste)
-
 module _ (old new : Bus) (haste : Bool) (pieces : List Piece) (row : Event)
-    (stands : StandsFor old pieces) (hastens : Hastens old row haste) where
+    (stands : StandsFor old pieces) (hastens : haste ≡ haste_by (profile_of old.scope.begins)
+    (haste_after (position_at old.place) old.last row old.haste)) where
   -- the bus stands for one row more, once its haste is told
   stands_by : (next : Step) (act : Option Act) → Leads (situation_at old) row next
       → (IsAt (position_at old.place) next → HasGone old next row new act)
@@ -171,39 +167,21 @@ ended_is : (ended : Bool) (act told : Act) → ended_act ended act ≡ Some told
 ended_is true act told is = cc
 ended_is false act told is = absurd (cc)
 
--- a step that ends neither an ask nor a reply
-abbrev IsQuiet : Step → Type 0
-IsQuiet (step.Ask command) = ⊥
-IsQuiet (step.Reply reply) = ⊥
-IsQuiet next = Unit {0}
-
--- tells no level
-tells_none : (profile : Profile) (at : Position) (next : Step) (levels : Levels) → IsQuiet next
-    → levels_if profile (act_after at next) levels ≡ levels
-tells_none profile at (step.Ask command) levels quiet = absurd quiet
-tells_none profile at (step.Reply reply) levels quiet = absurd quiet
-tells_none profile (InAsk bytes) next levels quiet = refl
-tells_none profile at next levels quiet = refl
-
--- a step that ends no ask, and no act that settles options
+-- a step that ends no act of which anything is kept
 abbrev IsIdle : Step → Type 0
+IsIdle (step.Ask command) = ⊥
+IsIdle (step.Reply reply) = ⊥
 IsIdle step.Ack = ⊥
 IsIdle (step.Break length) = ⊥
-IsIdle next = IsQuiet next
+IsIdle next = Unit {0}
 
--- settles none
-settles_none : (at : Position) (next : Step) (known : KnownOptions) → IsIdle next
-    → known_if (act_after at next) known ≡ known
-settles_none (InAsk bytes) (step.AskByte byte) known idle = refl
-settles_none at (step.AskByte byte) known idle = refl
-settles_none at next known idle = search
-
--- options that an act has settled are those after the step that ends it
-settled : (ended : Bool) (act told : Act) (before after : KnownOptions)
-    → ended_act ended act ≡ Some told → after ≡ known_by act before
-    → after ≡ known_if (ended_act ended act) before
-settled true act told before after is settles = settles
-settled false act told before after is settles = absurd (cc is)
+-- tells no level, and settles no options
+tells_none : (profile : Profile) (at : Position) (next : Step) (levels : Levels)
+    (known : KnownOptions) → IsIdle next → (levels_if profile (act_after at next) levels ≡ levels)
+    × (known_if (act_after at next) known ≡ known)
+tells_none profile (InAsk bytes) (step.AskByte byte) levels known idle = (refl, refl)
+tells_none profile at (step.AskByte byte) levels known idle = (refl, refl)
+tells_none profile at next levels known idle = search
 
 module _ (old new : Bus) (row : Event) (scope : new.scope ≡ old.scope) (last : new.last ≡ Some row)
   where
@@ -218,7 +196,26 @@ module _ (old new : Bus) (row : Event) (scope : new.scope ≡ old.scope) (last :
     abbrev Goes : Judged → Option Act → Type 0
     Goes found act = EachStep found row (λ next. IsAt At next → HasGone old next row new act)
 
-    -- by an ask, where it keeps what the act tells
+    -- by a step that ends an act, where what the act tells is kept
+    gone_by : (next : Step) (ended : Bool) (act told : Act) → act_after At next ≡ Some told
+        → (act ≡ told → new.levels ≡ levels_by (profile_of old.scope.begins) told old.levels)
+        → (act ≡ told → new.options ≡ known_by told old.options)
+        → (act ≡ told → new.asked ≡ asked_after old.asked next)
+        → HasAdvanced At next (position_at new.place) (ended_act ended act)
+        → HasGone old next row new (ended_act ended act)
+    gone_by next ended act told ends levels options asked advanced =
+        let is = advanced.act ∙ ends in
+        let same = ended_is ended act told is in
+        record {
+          scope = scope;
+          advanced = advanced;
+          last = last;
+          levels = rw is (levels same);
+          options = rw is (options same);
+          asked = asked same;
+        }
+
+    -- an ask
     pub gone_ask : (found : Judged) (place : Place) (ended : Bool) (act : Act) → found ≡ judged.Ask
         → new.place ≡ place → new.options ≡ old.options
         → ((command : Command) → act ≡ acts.Ask command
@@ -227,90 +224,62 @@ module _ (old new : Bus) (row : Event) (scope : new.scope ≡ old.scope) (last :
         → Advances place found (ended_act ended act) → Goes found (ended_act ended act)
     gone_ask found place ended act is there options levels asked advanced =
         rw is (λ command at.
-        let has : HasAdvanced At (step.Ask command) (position_at place) (ended_act ended act) =
-        (rw is at advanced) command at in
-        let ends = has.act ∙ asks At command at in
-        let told : act ≡ acts.Ask command = ended_is ended act (acts.Ask command) ends in
-        record {
-          scope = scope;
-          advanced = rw there has;
-          last = last;
-          levels = rw ends (levels command told);
-          options = rw ends options;
-          asked = asked command told;
-        })
+        gone_by (step.Ask command) ended act (acts.Ask command) (asks At command at)
+        (levels command) (λ same. options) (asked command)
+        (rw there ((rw is at advanced) command at)))
 
     module _ (levels : new.levels ≡ old.levels) where
-      -- by a step that tells no level
-      gone_quiet : (next : Step) (act : Option Act) → IsQuiet next
-          → new.options ≡ known_if act old.options → new.asked ≡ asked_after old.asked next
-          → HasAdvanced At next (position_at new.place) act → HasGone old next row new act
-      gone_quiet next act quiet options asked advanced = record {
-        scope = scope;
-        advanced = advanced;
-        last = last;
-        levels = rw (advanced.act, tells_none _ At next old.levels quiet)
-            levels;
-        options = options;
-        asked = asked;
-      }
-
-      -- and settles no options
-      gone_idle : (next : Step) (act : Option Act) → IsIdle next → IsQuiet next
-          → new.options ≡ old.options → new.asked ≡ asked_after old.asked next
-          → HasAdvanced At next (position_at new.place) act → HasGone old next row new act
-      gone_idle next act idle quiet options asked advanced =
-          gone_quiet next act quiet
-          (rw (advanced.act, settles_none At next old.options idle) options) asked advanced
-
-      -- or settles those that its act does
-      gone_settling : (next : Step) (ended : Bool) (act told : Act) → IsQuiet next
-          → act_after At next ≡ Some told → new.options ≡ known_by act old.options
-          → new.asked ≡ asked_after old.asked next → HasAdvanced At next (position_at new.place)
-          (ended_act ended act) → HasGone old next row new (ended_act ended act)
-      gone_settling next ended act told quiet ends options asked advanced =
-          gone_quiet next (ended_act ended act) quiet
-          (settled ended act told old.options new.options (advanced.act ∙ ends) options) asked
-          advanced
-
-      -- by an ACK
+      -- an ACK
       pub gone_ack : (found : Judged) (ended : Bool) (act : Act) → found ≡ judged.Ack
           → new.options ≡ known_by act old.options → new.asked ≡ old.asked
           → Advances new.place found (ended_act ended act) → Goes found (ended_act ended act)
       gone_ack found ended act is options asked advanced =
           rw is (λ at.
           let told = acked At at in
-          gone_settling step.Ack ended act (acts.Ack told.0) tt told.1 options asked
-          ((rw is at advanced) at))
+          gone_by step.Ack ended act (acts.Ack told.0) told.1 (λ same. levels)
+          (λ same. rw same at options) (λ same. asked) ((rw is at advanced) at))
 
-      -- by a break
+      -- a break
       pub gone_break : (found : Judged) (ended : Bool) (act : Act) → found ≡ judged.Break
           → new.options ≡ known_by act old.options → new.asked ≡ None
           → Advances new.place found (ended_act ended act) → Goes found (ended_act ended act)
       gone_break found ended act is options asked advanced =
           each_break found row _ is (λ start length there at.
-          gone_settling (step.Break length) ended act (acts.Break length) tt
-          (ap (λ (p : List Event → Piece). act_in (p [])) (break_after old.scope At length)) options
-          asked
+          gone_by (step.Break length) ended act (acts.Break length)
+          (ap (λ (p : List Event → Piece). act_in (p [])) (break_after old.scope At length))
+          (λ same. levels) (λ same. rw same at options) (λ same. asked)
           ((rw (is, there) at advanced) at))
 
-      -- by a foreign word
-      pub gone_foreign : (found : Judged) (act : Option Act) → found ≡ judged.Foreign
-          → new.options ≡ old.options → new.asked ≡ None → Advances new.place found act
-          → Goes found act
-      gone_foreign found act is options asked advanced =
-          rw is (λ at. gone_idle step.Foreign act tt tt options asked ((rw is at advanced) at))
+      module _ (options : new.options ≡ old.options) where
+        -- by a step that ends none of these
+        gone_idle : (next : Step) (act : Option Act) → IsIdle next
+            → new.asked ≡ asked_after old.asked next
+            → HasAdvanced At next (position_at new.place) act → HasGone old next row new act
+        gone_idle next act idle asked advanced =
+            let none = tells_none (profile_of old.scope.begins) At next old.levels old.options idle
+            in record {
+              scope = scope;
+              advanced = advanced;
+              last = last;
+              levels = rw (advanced.act, none.0) levels;
+              options = rw (advanced.act, none.1) options;
+              asked = asked;
+            }
 
-      -- by another step that changes neither the options nor the device that was asked
-      pub gone_on : (found : Judged) (act : Option Act) → (found ≡ judged.Ask → ⊥)
-          → (found ≡ judged.Ack → ⊥) → (found ≡ judged.Foreign → ⊥) → (found ≡ judged.Break → ⊥)
-          → new.options ≡ old.options → new.asked ≡ old.asked → Advances new.place found act
-          → Goes found act
-      gone_on judged.Ask act ask ack foreign pause options asked advanced = absurd (ask refl)
-      gone_on judged.Ack act ask ack foreign pause options asked advanced = absurd (ack refl)
-      gone_on judged.Foreign act ask ack foreign pause options asked advanced =
-          absurd (foreign refl)
-      gone_on judged.Break act ask ack foreign pause options asked advanced = absurd (pause refl)
-      gone_on judged.Reply act ask ack foreign pause options asked advanced = tt
-      gone_on found act ask ack foreign pause options asked advanced =
-          λ at. gone_idle _ act tt tt options asked (advanced at)
+        -- a foreign word
+        pub gone_foreign : (found : Judged) (act : Option Act) → found ≡ judged.Foreign
+            → new.asked ≡ None → Advances new.place found act → Goes found act
+        gone_foreign found act is asked advanced =
+            rw is (λ at. gone_idle step.Foreign act tt asked ((rw is at advanced) at))
+
+        -- another step, after which the device that was asked is the same
+        pub gone_on : (found : Judged) (act : Option Act) → (found ≡ judged.Ask → ⊥)
+            → (found ≡ judged.Ack → ⊥) → (found ≡ judged.Foreign → ⊥) → (found ≡ judged.Break → ⊥)
+            → new.asked ≡ old.asked → Advances new.place found act → Goes found act
+        gone_on judged.Ask act ask ack foreign pause asked advanced = absurd (ask refl)
+        gone_on judged.Ack act ask ack foreign pause asked advanced = absurd (ack refl)
+        gone_on judged.Foreign act ask ack foreign pause asked advanced = absurd (foreign refl)
+        gone_on judged.Break act ask ack foreign pause asked advanced = absurd (pause refl)
+        gone_on judged.Reply act ask ack foreign pause asked advanced = tt
+        gone_on found act ask ack foreign pause asked advanced =
+            λ at. gone_idle _ act tt asked (advanced at)

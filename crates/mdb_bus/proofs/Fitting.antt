@@ -33,12 +33,6 @@ abbrev AreAll : Loss → ℕ → ℕ → Bool → Type 0
 AreAll loss before count damaged = (row : ℕ) → before < row → row ≤ before + count
     → loss row ≡ damaged
 
--- losses that agree on all rows agree on those before the newest piece
-agree_before : (one other : Loss) (rows events : List Event)
-    → Agree one other (length (rows ++ events)) → Agree one other (length rows)
-agree_before one other rows events agree row h =
-    agree row (omega (arith, h, length-append rows events))
-
 module _ (first other : Loss) (second : Bool) (rows events : List Event)
     (agree : Agree (λ row. if leb row (length rows) then first row else second) other
     (length (rows ++ events))) where
@@ -175,8 +169,8 @@ module _ (scope : Scope) (wish : Wish) (loss : Loss) where
       )
   fits (piece ∷ pieces) tells agree are sparing =
       fits pieces nothing_told
-      (agree_before (damage wish pieces nothing_told) loss (events_of pieces) (piece_events piece)
-      agree) are.2 (nothing_sparing pieces)
+      (λ row h. agree row (omega (arith, h, length-append (events_of pieces) (piece_events piece))))
+      are.2 (nothing_sparing pieces)
 
 pub fitting : (scope : Scope) (pieces : List Piece) → ArePieces scope pieces → (wish : Wish)
     → (loss : Loss) × LossFits loss pieces × HearsFreeAsWished loss wish nothing_told pieces

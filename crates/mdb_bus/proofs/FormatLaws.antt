@@ -19,13 +19,10 @@ OneReply = (reading : Reading) (command : Command) (one other : Reply)
     → IsIn reading command one → IsIn reading command other → IsReplyTo command one
     → IsReplyTo command other → reply_bytes one ≡ reply_bytes other → one ≡ other
 
--- readings of the extended profile
-abbrev AreExtended : List Reading → Type 0
-AreExtended = AllByRecursion (λ reading. is_extended reading ≡ true)
-
 module _ (command : Command) where
   -- the first of readings of the extended profile is one of them
-  some_in : (list : List Reading) → AreExtended list → (reply : Reply) → IsFirst list command reply
+  some_in : (list : List Reading) → AllByRecursion (λ reading. is_extended reading ≡ true) list
+      → (reply : Reply) → IsFirst list command reply
       → IsInSome command reply
   some_in [] all reply is = absurd is
   some_in (reading ∷ list) all reply (inl is) = (reading, all.0, is)
@@ -356,8 +353,7 @@ told_in first second told reading command bytes reply is at (inr bad) =
 pub fault_of : (format : Format) (command : Command) (bytes : List ℕ) (fault : MsgFault)
     → IsReadingIn format command bytes (Err fault) → HasFault format command bytes fault
 fault_of (As given) command bytes fault is = cc is
-fault_of (Or first second) command bytes fault is = is
-fault_of Open command bytes fault is = is
+fault_of format command bytes fault is = is
 
 -- what is read in the reading that is chosen is read so in the format
 pub read_in : (format : Format) (command : Command) (bytes : List ℕ) (reading : Reading)
@@ -369,14 +365,10 @@ read_in format command bytes reading (Err fault) is found spelled only = tt
 read_in (As given) command bytes reading (Ok reply) is found spelled only =
     let same : reading ≡ given = cc is in
     rw same at found
-read_in (Or first second) command bytes reading (Ok reply) is found spelled only =
+read_in format command bytes reading (Ok reply) is found spelled only =
     let same : Ok reply ≡ Ok is.0 = only is.0 is.1.1 is.1.0 is.1.2 in
     let one : is.0 ≡ reply = cc same in
-    subst (IsReadAs (Or first second) command) one is.2
-read_in Open command bytes reading (Ok reply) is found spelled only =
-    let same : Ok reply ≡ Ok is.0 = only is.0 is.1.1 is.1.0 is.1.2 in
-    let one : is.0 ≡ reply = cc same in
-    subst (IsReadAs Open command) one is.2
+    subst (IsReadAs format command) one is.2
 
 -- and what has a fault in it has one in the format
 pub faulty_in : ReplyHasNoFault → (format : Format) (command : Command) (bytes : List ℕ)
@@ -388,7 +380,5 @@ faulty_in none format command bytes reading (Ok reply) is faulty = tt
 faulty_in none (As given) command bytes reading (Err fault) is faulty =
     let same : reading ≡ given = cc is in
     rw same at faulty
-faulty_in none (Or first second) command bytes reading (Err fault) is faulty =
-    absurd (none_bad_in none command reading bytes is.0 fault is.1 faulty)
-faulty_in none Open command bytes reading (Err fault) is faulty =
+faulty_in none format command bytes reading (Err fault) is faulty =
     absurd (none_bad_in none command reading bytes is.0 fault is.1 faulty)

@@ -26,12 +26,6 @@ module _ (scope : Scope) (pieces : List Piece) (row : Event) (next : Step) where
     pub asked : asked_device Made ≡ asked_after (asked_device pieces) next
     pub grown : Grown pieces row Ended Made
 
--- what a row goes on from: the pieces, or a tail, the newest of them
-abbrev GoesOnFromPieces : List Piece → List Event → List Piece → Type 0
-GoesOnFromPieces pieces begun rest =
-    ((begun ≡ []) × (pieces ≡ rest))
-    ⊎ ((tail : Piece) × IsTail tail × (piece_events tail ≡ begun) × (pieces ≡ tail ∷ rest))
-
 -- a position where no tail is open
 abbrev pub IsFree : Position → Type 0
 IsFree (InAsk bytes) = ⊥
@@ -83,7 +77,7 @@ module _ (scope : Scope) where
   adds position next is = search rules
 
   -- a tail has no effect on what pieces leave
-  no_effect : (tail : Piece) (pieces : List Piece) → IsTail tail
+  pub no_effect : (tail : Piece) (pieces : List Piece) → IsTail tail
       → (acts_of (tail ∷ pieces) ≡ acts_of pieces) × (Told (tail ∷ pieces) ≡ Told pieces)
       × (asked_device (tail ∷ pieces) ≡ asked_device pieces)
   no_effect (Whole act events) pieces open_end = absurd open_end
@@ -101,7 +95,9 @@ module _ (scope : Scope) where
         → events_of rest ++ begun ≡ events_of pieces
         → (acts_of pieces ≡ acts_of rest) × (Told pieces ≡ Told rest)
         × (asked_device pieces ≡ asked_device rest)
-        → GoesOnFromPieces pieces begun rest → Extended scope pieces row next
+        → ((begun ≡ []) × (pieces ≡ rest))
+        ⊎ ((tail : Piece) × IsTail tail × (piece_events tail ≡ begun) × (pieces ≡ tail ∷ rest))
+        → Extended scope pieces row next
     extended rest begun made are rows same from =
         let new = adds (position_of scope pieces) next at in
         let events : List Event = begun ++ row ∷ [] in
@@ -227,9 +223,6 @@ module _ (scope : Scope) where
         → WordLeads scope position from levels (Word at line word) line word next
         → Begins position from levels (Word at line word) next
     begins Quiet free Controller next leads = opens Quiet tt next leads
-    begins (Asked command) free Controller next leads = opens (Asked command) tt next leads
-    begins (Returned command reply) free Controller next leads =
-        opens (Returned command reply) tt next leads
     begins (Asked command) free Peripheral (step.ReplyByte byte) leads =
         let below : byte < 256 = omega (arith, leads.0, leads.1) in (
           (
@@ -246,8 +239,6 @@ module _ (scope : Scope) where
         )
     begins (Replied command reply) free Controller (step.AskByte byte) leads =
         opens (Replied command reply) tt (step.AskByte byte) leads
-    begins (Replied command reply) free Controller step.Foreign leads =
-        opens (Replied command reply) tt step.Foreign leads
     begins (Returned command reply) free Peripheral (step.RepeatWord said) leads =
         (rw (sym leads.0) (leads.1, refl), (refl, leads.2), tt)
     begins InForeign free Controller next (inl leads) = opens InForeign tt next leads
@@ -256,13 +247,12 @@ module _ (scope : Scope) where
     begins InForeign free Controller next (inr leads) = absurd leads.1
     begins InForeign free Peripheral step.Foreign leads =
         (inr (Word at Peripheral word, refl, tt), inr (tt, refl, leads), tt)
-    begins position free line next leads = search says
+    begins position free line next leads = search (says, opens)
 
     -- a word in a block goes on with its tail
     goes_on : (tail : Piece) → IsTail tail → IsSaid scope tail → (line : Line) (next : Step)
         → WordLeads scope (left_by tail) from levels (Word at line word) line word next
         → Longer tail from levels (Word at line word) next
-    goes_on (Whole act events) open_end said line next leads = absurd open_end
     goes_on (AskTail bytes events) open_end said Controller (step.AskByte byte) leads = (
       (leads.2, rw (sym leads.0) (say_byte bytes events at word said.0.some said.1)),
       tt,
@@ -321,7 +311,7 @@ module _ (scope : Scope) where
       leads.1,
       λ position before first others is comes. comes,
     )
-    goes_on tail open_end said line next leads = absurd leads
+    goes_on tail open_end said line next leads = search
 
   -- a break stands at each position
   breaks_off : (position : Position) (from : Option Event) (levels : Levels) (at length lasted : ℕ)

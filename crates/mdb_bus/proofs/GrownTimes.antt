@@ -4,8 +4,9 @@ use Rattle.mdb_bus.proofs.Words.{Act, ArePieces, asked_device, AskTail, Base, Bl
 use Rattle.mdb_bus.specs.declared.untimely.Untimely.{Untimely}
 use Rattle.mdb_bus.specs.declared.fault.Blame.TheVariants as blame
 use Rattle.mdb_bus.specs.shared.Step as step
-use Rattle.mdb_bus.proofs.Sound.{rest_last}
+use Rattle.mdb_bus.proofs.Sound.{rest_last, piece_some}
 use Rattle.mdb_bus.proofs.Lists.{heard}
+use Rattle.mdb_bus.proofs.Forward.{no_effect}
 
 -- who says a word says the first word of its side
 sender_of : (line : Line) (at word : ℕ) (words : List ℕ) (first : Event) (others : List Event)
@@ -30,9 +31,8 @@ haste_stays : (tail : Piece) (from : Option Event) (row : Event) (haste : Bool)
 haste_stays (AskTail bytes events) from (Word at Controller word) haste low =
     ap (λ b. if b then haste else came_early (InAsk bytes) from (Word at Controller word))
     (lt-ltb word 256 low)
-haste_stays (ReplyTail command bytes events) from (Word at Peripheral word) haste goes = refl
-haste_stays (RepeatTail command reply words events) from (Word at Peripheral word) haste goes = refl
-haste_stays tail from row haste goes = absurd goes
+haste_stays tail from (Word at Peripheral word) haste goes = search
+haste_stays tail from row haste goes = search
 
 -- haste after a piece is told by its first row alone
 with_more : (position : Position) (from : Option Event) (events : List Event) (row : Event)
@@ -87,15 +87,8 @@ far_more (event ∷ next ∷ events) row some =
 late_inside : (tail : Piece) (from : Option Event) (row : Event) → GoesOnWith tail row
     → is_untimely (left_by tail) from row ≡ is_past (block_most Base) from row
 late_inside (AskTail bytes events) from (Word at Controller word) goes = refl
-late_inside (ReplyTail command bytes events) from (Word at Peripheral word) goes = refl
-late_inside (RepeatTail command reply words events) from (Word at Peripheral word) goes = refl
-late_inside tail from row goes = absurd goes
-
--- a tail asks no other device
-asked_stays : (tail : Piece) (earlier : List Piece) → IsTail tail
-    → asked_device (tail ∷ earlier) ≡ asked_device earlier
-asked_stays (Whole act events) earlier open_end = absurd open_end
-asked_stays tail earlier open_end = refl
+late_inside tail from (Word at Peripheral word) goes = search
+late_inside tail from row goes = search
 
 -- what is told of grown pieces by the rows of the newest: of one row, and of a tail's with one more
 by_rows : {X : Type 0} (With : List Piece → List Event → X) (After : List Piece → X)
@@ -126,12 +119,6 @@ module _ (scope : Scope) where
   goes_on tail earlier at Controller word next open_end leads = search
   goes_on tail earlier at line word next open_end leads = search
 
-  -- a tail in order has events
-  some_events : (piece : Piece) (earlier : List Piece) → ArePieces scope (piece ∷ earlier)
-      → piece_events piece ≢ []
-  some_events piece earlier are none =
-      let clash : [] ≡ are.1.first ∷ are.1.others = sym none ∙ are.1.begins in cc
-
   -- haste after a row
   pub haste_on : (pieces : List Piece) (row : Event) (next : Step) (act : Option Act)
       → ArePieces scope pieces → Leads (situation_of scope pieces) row next
@@ -148,7 +135,7 @@ module _ (scope : Scope) where
       (λ tail earlier open_end same.
       with_more (position_of scope earlier) (Last earlier) (piece_events tail)
       (Word at line word) (is_in_haste scope earlier)
-      (some_events tail earlier (subst (ArePieces scope) same are))
+      (piece_some scope earlier tail (subst (ArePieces scope) same are).1)
       ∙ sym (haste_stays tail (Last (tail ∷ earlier)) (Word at line word)
       (is_in_haste scope (tail ∷ earlier)) (goes_on tail earlier at line word next open_end
       (subst (λ ps. Leads (situation_of scope ps) (Word at line word) next) same leads))))
@@ -188,7 +175,7 @@ module _ (scope : Scope) where
         are.1.begins,
         rest_last,
         late_inside tail (last_of (first ∷ others)) row goes,
-        asked_stays tail earlier open_end,
+        (no_effect scope tail earlier open_end).2,
         same_sender tail row first others asked are.0.said are.1.begins goes,
       ) (more_words (is_past (block_most Base) (last_of (first ∷ others)) row)
       (if is_untimely (position_of scope earlier) (Last earlier) first then 1 else 0)

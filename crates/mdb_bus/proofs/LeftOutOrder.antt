@@ -50,21 +50,14 @@ foreign_position scope first (next ∷ others) pieces =
     foreign_position scope next others (Whole acts.Foreign (first ∷ []) ∷ pieces)
 
 -- so does a piece that is left out; another leaves what it left
-after_piece : (scope : Scope) (out : Bool) (piece : Piece) (events : List Event) (first : Event)
-    (others : List Event) (rest : List Piece) → events ≡ first ∷ others
-    → position_of scope (if out then with_foreign events rest else piece ∷ rest)
-    ≡ (if out then InForeign else left_by piece)
-after_piece scope true piece events first others rest is =
-    rw is (foreign_position scope first others rest)
-after_piece scope false piece events first others rest is = refl
-
 pub where_without : (less more : Scope) (pieces : List Piece) → ArePieces less pieces
     → position_of more (leave_out more pieces) ≡ position_without more pieces
 where_without less more [] order = refl
 where_without less more (piece ∷ pieces) order =
     let stands = order.1 in
-    after_piece more (is_left_out more piece) piece (piece_events piece) stands.first stands.others
-    (leave_out more pieces) stands.begins
+    leaving more piece pieces (λ ps. position_of more ps ≡ position_without more (piece ∷ pieces))
+    (λ out. rw (stands.begins, out)
+    (foreign_position more stands.first stands.others (leave_out more pieces))) (λ kept. rw kept refl)
 
 -- what waits for an answer waits for a word
 rests_enough : (from : Option Event) (to : Event) → NotBefore NEW_BLOCK_GAP_MIN from to
@@ -102,18 +95,14 @@ piece_moves : (scope : Scope) (piece : Piece) (out : Bool) → is_left_out scope
     → Moves scope (left_by piece) (if out then InForeign else left_by piece)
 piece_moves scope piece true out = record {
   block = block_waits (profile_of scope.begins) (left_by piece);
-  stays = λ device is followed.
-      let both : true ≡ false = sym out ∙ (of_its_device scope piece device is ∙ followed) in
-      cc both;
+  stays = λ device is followed. let its = of_its_device scope piece device is in cc;
   leaves = λ device is also. refl;
   foreign = λ is. refl;
 }
 piece_moves scope piece false kept = record {
   block = λ from to comes. comes;
   stays = λ device is followed. refl;
-  leaves = λ device is also.
-      let both : false ≡ true = sym kept ∙ (of_its_device scope piece device is ∙ also) in
-      cc both;
+  leaves = λ device is also. let its = of_its_device scope piece device is in cc;
   foreign = λ is. is;
 }
 
@@ -208,16 +197,6 @@ module _ (scope : Scope) where
       (word_stands event pieces are (inr (event, refl, words.0))
       (inr (words.0, here, rw last (word_waits (Some from) event spaced.0.0))))
       refl (last_push (events_of pieces) event) spaced.1 words.1
-
-  -- and all words of what is left out
-  all_stand : (first : Event) (others : List Event) (pieces : List Piece) → ArePieces scope pieces
-      → Becomes scope (position_of scope pieces) (last_of (events_of pieces)) first others
-      → AreSpaced (profile_of scope.begins) (first ∷ others)
-      → ArePieces scope (with_foreign (first ∷ others) pieces)
-  all_stand first others pieces are become spaced =
-      words_stand first others (Whole acts.Foreign (first ∷ []) ∷ pieces)
-      (word_stands first pieces are become.act become.comes) refl
-      (last_push (events_of pieces) first) spaced become.words
 
 -- an act tells its own reader a level, and not the other
 told_another : (profile : Profile) (scope : Scope) (command : Command) (act : Act) (levels : Levels)
@@ -327,8 +306,7 @@ module _ (law : FirstTells) (less more : Scope) (wider : LeavesOutMore less more
         block = λ from to comes. rw (sym same) comes;
         stays = λ device is followed. sym same;
         leaves = λ device is out.
-            let none = at_first (λ p. device_at p ≡ None) refl refl less.begins in
-            let both : None ≡ Some device = sym none ∙ is in cc both;
+            let none = at_first (λ p. device_at p ≡ None) refl refl less.begins in cc;
         foreign = λ is. sym same ∙ is;
       }
   moves (piece ∷ pieces) order =
@@ -370,9 +348,15 @@ module _ (law : FirstTells) (less more : Scope) (wider : LeavesOutMore less more
       (levels_of (profile_of more.begins) (levels_before more) pieces) piece =
       rw (← wider.begins, ← wider.levels) stands.levels in
       leaving more piece pieces (ArePieces more)
-      (λ out. rw stands.begins (all_stand more stands.first stands.others rest before
-      (rw (same_rows more pieces) (becomes more _ _ from moved law less stands.first stands.others
-      piece out said stands.begins came)) (rw stands.begins at spaced))) (λ kept. (
+      (λ out.
+      let become = becomes more _ _ from moved law less stands.first stands.others piece out said
+      stands.begins came in
+      let here : List Piece = Whole acts.Foreign (stands.first ∷ []) ∷ rest in
+      rw stands.begins (words_stand more stands.first stands.others here
+      (word_stands more stands.first rest before become.act
+      (rw (same_rows more pieces) become.comes)) refl
+      (last_push (events_of rest) stands.first) (rw stands.begins at spaced) become.words))
+      (λ kept. (
         record { said = said_stays piece kept said; spaced = spaced },
         record {
           first = stands.first;

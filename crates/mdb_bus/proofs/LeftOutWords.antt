@@ -7,13 +7,6 @@ use Rattle.mdb_bus.proofs.Followed.{AreFollowed, needed_followed}
 use Rattle.mdb_bus.proofs.Rows.{begins_block}
 use Rattle.mdb_bus.proofs.Lists.{heard}
 
--- the first byte of a block to a device that is left out opens one by itself
-left_out_opens : (scope : Scope) (byte : ℕ) → is_to_one_of scope.without byte ≡ true
-    → IsForeignOpening scope (byte ∷ [])
-left_out_opens scope byte out =
-    ap (λ (left_out : Bool).
-    if left_out then Foreign else needed_by (profile_of scope.begins) (byte ∷ [])) out
-
 -- events are foreign words
 abbrev pub AreForeignWords : List Event → Type 0
 AreForeignWords [] = Unit {0}
@@ -119,7 +112,7 @@ module _ (scope : Scope) (position : Position) (from : Option Event) (first : Ev
   first_opens byte rest out low says comes =
       let one : said_by first ≡ Some (Controller, 256 + byte) = cc in
       record {
-        act = inl (byte ∷ [], left_out_opens scope byte out, ap (λ s. s ∷ []) one);
+        act = inl (byte ∷ [], rw out refl, ap (λ s. s ∷ []) one);
         comes = comes;
         words = low_words rest others low (cc);
       }

@@ -87,11 +87,6 @@ module _ (scope : Scope) (grammar : Grammar scope) where
         absurd (command_not_foreign (bytes ++ word ∷ []) command q.1 p.1)
     one_asking bytes one other p q = search arith
 
-    -- a command is answered with one step
-    one_answer : (command : Command) (one other : Step) → Answers scope command from to word one
-        → Answers scope command from to word other → one ≡ other
-    one_answer command one other p q = search arith
-
     -- a reply goes on with one step
     one_replying : (command : Command) (bytes : List ℕ) (one other : Step)
         → GoesOnReplying scope command bytes from levels to word one
@@ -106,19 +101,10 @@ module _ (scope : Scope) (grammar : Grammar scope) where
         → AnswersReply scope command reply from to word one
         → AnswersReply scope command reply from to word other → one ≡ other
     one_vmc_answer command reply step.VmcAck other p q = search arith
-    one_vmc_answer command reply step.VmcNak other p q = search arith
-    one_vmc_answer command reply step.VmcRet other p q = search arith
     one_vmc_answer command reply one step.VmcAck p q = search arith
-    one_vmc_answer command reply one step.VmcNak p q = search arith
-    one_vmc_answer command reply one step.VmcRet p q = search arith
-    one_vmc_answer command reply one other p q = one_opening (Replied command reply) one other p q
+    one_vmc_answer command reply one other p q = search (arith, one_opening)
 
-    -- a repeat begins with one step
-    one_repeat : (reply : Reply) (one other : Step) → BeginsRepeat scope reply from to word one
-        → BeginsRepeat scope reply from to word other → one ≡ other
-    one_repeat reply one other p q = search arith
-
-    -- it goes on with one step
+    -- a repeat goes on with one step
     one_repeating : (reply : Reply) (words : List ℕ) (one other : Step)
         → GoesOnRepeating scope reply words from to word one
         → GoesOnRepeating scope reply words from to word other → one ≡ other
@@ -133,37 +119,24 @@ module _ (scope : Scope) (grammar : Grammar scope) where
     is_foreign step.Foreign p = refl
     is_foreign next p = absurd p
 
-    one_after_foreign : (one other : Step)
-        → Opens scope InForeign from to word one ⊎ ((word < 256) × GoesOnForeign from to one)
-        → Opens scope InForeign from to word other ⊎ ((word < 256) × GoesOnForeign from to other)
-        → one ≡ other
-    one_after_foreign one other (inl p) (inl q) = one_opening InForeign one other p q
-    one_after_foreign one other (inl p) (inr q) =
-        absurd (omega (arith, q.0, opens_marked InForeign one p))
-    one_after_foreign one other (inr p) (inl q) =
-        absurd (omega (arith, p.0, opens_marked InForeign other q))
-    one_after_foreign one other (inr p) (inr q) = is_foreign one p.1 ∙ sym (is_foreign other q.1)
+    ruleset one_each = (arith, one_opening, one_asking, one_replying, one_repeating)
 
     -- a word leads to one step
     one_word : (position : Position) (line : Line) (one other : Step)
         → WordLeads scope position from levels to line word one
         → WordLeads scope position from levels to line word other → one ≡ other
-    one_word Quiet Controller one other p q = one_opening Quiet one other p q
-    one_word (InAsk bytes) Controller one other p q = one_asking bytes one other p q
-    one_word (Asked command) Controller one other p q = one_opening (Asked command) one other p q
-    one_word (Asked command) Peripheral one other p q = one_answer command one other p q
-    one_word (InReply command bytes) Peripheral one other p q =
-        one_replying command bytes one other p q
+    one_word InForeign Controller one other (inl p) (inl q) = one_opening InForeign one other p q
+    one_word InForeign Controller one other (inl p) (inr q) =
+        absurd (omega (arith, q.0, opens_marked InForeign one p))
+    one_word InForeign Controller one other (inr p) (inl q) =
+        absurd (omega (arith, p.0, opens_marked InForeign other q))
+    one_word InForeign Controller one other (inr p) (inr q) =
+        is_foreign one p.1 ∙ sym (is_foreign other q.1)
+    one_word InForeign Peripheral one other p q = is_foreign one p ∙ sym (is_foreign other q)
     one_word (Replied command reply) Controller one other p q =
         one_vmc_answer command reply one other p q
-    one_word (Returned command reply) Controller one other p q =
-        one_opening (Returned command reply) one other p q
-    one_word (Returned command reply) Peripheral one other p q = one_repeat reply one other p q
-    one_word (InRepeat command reply words) Peripheral one other p q =
-        one_repeating reply words one other p q
-    one_word InForeign Controller one other p q = one_after_foreign one other p q
-    one_word InForeign Peripheral one other p q = is_foreign one p ∙ sym (is_foreign other q)
-    one_word position line one other p q = absurd p
+    one_word position Controller one other p q = search one_each
+    one_word position Peripheral one other p q = search one_each
 
 -- a break leads to one step
 is_break : (s : Situation) (at length : ℕ) (next : Step) → Leads s (Break at length) next

@@ -3,19 +3,12 @@ use Rattle.std.proofs.Common.{arith, refl, ap, sym, subst, ◌∙◌, ◌≡◌,
 use Rattle.mdb_bus.proofs.Words.{AreSpaced, block_of, Controller, controller_words, Event, InBlockTime, IsBlockWord, last_of, Line, map-append, Peripheral, peripheral_words, Profile, said_by, Say, Word}
 use Rattle.mdb_bus.proofs.Lists.{front_and_last, heard, last_push, peripheral_push}
 
--- words with one more are said by events with one more
-say_push : (line : Line) (words : List ℕ) (events : List Event) (word : ℕ) (event : Event)
-    → Say line words events
-    → said_by event ≡ Some (line, word) → Say line (words ++ word ∷ []) (events ++ event ∷ [])
-say_push line words events word event says said =
-    let meant = map-append (λ w. Some (line, w)) words (word ∷ []) in
-    rw (map-append, says, said) (sym meant)
-
--- the same on one line, for a word as it stands in a row
+-- words with one more, as it stands in a row, are said by events with one more
 pub say_word : (line : Line) (words : List ℕ) (events : List Event) (at word : ℕ)
     → Say line words events → Say line (words ++ word ∷ []) (events ++ Word at line word ∷ [])
 say_word line words events at word says =
-    say_push line words events word (Word at line word) says refl
+    let meant = map-append (λ w. Some (line, w)) words (word ∷ []) in
+    rw (map-append, says) (sym meant)
 
 -- a block of the controller with one byte more
 pub say_byte : (bytes : List ℕ) (events : List Event) (at word : ℕ) → bytes ≢ []

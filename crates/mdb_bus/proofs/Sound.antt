@@ -1,7 +1,7 @@
 -- Where pieces in order leave the bus: a block there has begun well, and a last row that is a break
 -- is a long one.
-use Rattle.std.proofs.Common.{refl, ◌≡◌, ℕ, List, [], ◌∷◌, ◌++◌, inl, inr, Some}
-use Rattle.mdb_bus.proofs.Words.{Act, ArePieces, AskTail, Break, command_words, Controller, Event, events_of, InRepeat, IsForeignWord, IsReply, IsSaid, IsSound, last_of, Line, NamesAReply, Peripheral, Piece, piece_events, Position, position_of, profile_of, RepeatTail, Replied, reply_words, ReplyTail, Returned, Say, Scope, Whole, Word, words_on}
+use Rattle.std.proofs.Common.{refl, sym, ◌∙◌, ◌≢◌, ◌≡◌, ℕ, List, [], ◌∷◌, ◌++◌, inl, inr, Some}
+use Rattle.mdb_bus.proofs.Words.{Act, ArePieces, AskTail, Break, command_words, Controller, Event, events_of, InRepeat, IsForeignWord, IsReply, IsSaid, IsSound, last_of, Line, NamesAReply, Peripheral, Piece, piece_events, Position, position_of, profile_of, RepeatTail, Replied, reply_words, ReplyTail, Returned, Say, Scope, Whole, Word, words_on, MayStand}
 use Rattle.mdb_bus.specs.declared.act.Act.TheVariants as acts
 use Rattle.mdb_bus.proofs.Stops.{LastIsLong, lasts}
 use Rattle.mdb_bus.proofs.Lists.{at_first}
@@ -40,6 +40,12 @@ foreign_long (Word at line word) further = tt
 foreign_long (Break at length) further = absurd further
 
 module _ (scope : Scope) where
+  -- a piece has events
+  pub piece_some : (rest : List Piece) (piece : Piece) → MayStand scope rest piece
+      → piece_events piece ≢ []
+  piece_some rest piece stands none =
+      let clash : [] ≡ stands.first ∷ stands.others = sym none ∙ stands.begins in cc
+
   -- the position after pieces in order is sound
   pub is_sound : (pieces : List Piece) → ArePieces scope pieces
       → IsSound scope (position_of scope pieces)

@@ -14,8 +14,8 @@ use Rattle.mdb_bus.specs.declared.judged.Judged.TheVariants as judged
 use Rattle.mdb_bus.specs.declared.phase.Phase.TheVariants as phase
 use Rattle.mdb_bus.proofs.Needs.{from_2_to_32, not_left, stays, narrows}
 use Rattle.mdb_bus.proofs.FormatLaws.{none_as, one_bad, bad_length}
-use Rattle.mdb_bus.proofs.Masked.{AreKnown, TwoTell, another_known, begins_one, content_tells, front_known, known_front, known_need, more_known, none_of_both, one_need, options_more, unmasked}
-use Rattle.mdb_bus.proofs.Followed.{AreFollowed, FirstTells, ask_front_followed, asks_followed, expansion_opens, front_followed, needed_followed, plain_front, still_followed, within}
+use Rattle.mdb_bus.proofs.Masked.{AreKnown, TwoTell, another_known, begins_one, content_tells, known_front, known_need, more_known, none_of_both, one_need, options_more, unmasked}
+use Rattle.mdb_bus.proofs.Followed.{AreFollowed, FirstTells, asks_followed, expansion_opens, front_followed, needed_followed, plain_front, still_followed, within}
 use Rattle.mdb_bus.proofs.Lists.{not_empty, peripheral_push, some_length, some_there}
 
 -- a row that isn't early comes in time, and one that isn't late
@@ -56,12 +56,6 @@ block_timely times position from to result same near = search rules
 pub are_bytes : (bytes : List ℕ) → ((i : ℕ) → Fits w8 (get_or bytes i 0)) → All IsByte bytes
 are_bytes bytes low = All-from_get_or IsByte bytes 0 (λ i within. search (rules, low i))
 
--- a law of mdb_msgs: bytes that are as long as they need to be are those of a command
-abbrev pub WhatItNeeds : Type 0
-WhatItNeeds = (content : List ℕ) → All IsByte content
-    → needed content ≡ Exactly (length content + 1)
-    → (command : Command) × Spells command (block_of content)
-
 -- a need by which bytes leave a command open
 abbrev Wants : Need → Type 0
 Wants told = (told ≡ More) ⊎ ((n : ℕ) × (told ≡ Exactly n))
@@ -101,18 +95,14 @@ second_short first byte (Exactly m) told is tell short other (inr exact) =
 second_short first byte alone told is tell short other (inr exact) = absurd short
 
 -- where no further byte leaves a command open, the next one is its last
-ended : (bytes : List ℕ) (told : Need) → 2 ≤ length bytes → needed bytes ≡ told
-    → IsShort told (length bytes) → ((n : ℕ) → told ≡ Exactly n → n ≤ length bytes + 1)
-    → needed bytes ≡ Exactly (length bytes + 1)
-ended bytes More two is short most = absurd (not_left bytes two is)
-ended bytes (Exactly n) two is short most =
-    let e : n ≡ length bytes + 1 = omega (arith, most n refl, short) in is ∙ ap Exactly e
-ended bytes told two is short most = absurd short
-
-pub further_end : (bytes : List ℕ) (told : Need) → 2 ≤ length bytes → told ≡ needed bytes
+pub further_end : (bytes : List ℕ) (told : Need) → 2 ≤ length bytes → needed bytes ≡ told
     → ((n : ℕ) → told ≡ Exactly n → n ≤ length bytes + 1) → IsOpen bytes
     → needed bytes ≡ Exactly (length bytes + 1)
-further_end bytes told two is most begun = ended bytes _ two refl begun (rw is at most)
+further_end bytes More two is most begun = absurd (not_left bytes two is)
+further_end bytes (Exactly n) two is most begun =
+    let short : length bytes < n = rw is at begun in
+    let e : n ≡ length bytes + 1 = omega (arith, most n refl) in is ∙ ap Exactly e
+further_end bytes told two is most begun = absurd (rw is at begun)
 
 -- bytes with which a command is open are few
 few_open : (bytes : List ℕ) (need : Need) → 0 < length bytes → needed bytes ≡ need
@@ -254,8 +244,10 @@ begins_followed first law scope word one told same is wanting =
     plain.0)
 
 -- bytes that need their sum alone are with it the block of a command
-module _ (law : WhatItNeeds) (tell : TwoTell) (bytes : List ℕ) (word : ℕ) (some : 1 ≤ length bytes)
-    (low : All IsByte bytes) (told : needed bytes ≡ Exactly (length bytes + 1))
+module _ (law : (content : List ℕ) → All IsByte content
+    → needed content ≡ Exactly (length content + 1)
+    → (command : Command) × Spells command (block_of content)) (tell : TwoTell)
+    (bytes : List ℕ) (word : ℕ) (some : 1 ≤ length bytes) (low : All IsByte bytes) (told : needed bytes ≡ Exactly (length bytes + 1))
     (total : word ≡ sum bytes % 256) where
   ask_whole : (profile : Profile) → AreKnown profile bytes
       → (command : Command) × Spells command (block_of bytes) × Spells command (bytes ++ word ∷ [])
@@ -354,134 +346,119 @@ module _ (scope : Scope) (bytes : List ℕ) (from : Option Event) (at word : ℕ
     }
     going_on result h = absurd h
 
--- a marked word that is no answer's
-pub no_answer : (scope : Scope) (command : Command) (from : Option Event) (at word byte : ℕ)
-    (levels : Levels) → (OutOfOrder from (Word at Peripheral word) → ⊥)
-    → (IsBefore WORD_GAP_MIN from (Word at Peripheral word) → ⊥)
-    → (IsPast (answer_most (profile_of scope.begins)) from (Word at Peripheral word) → ⊥)
-    → 256 ≤ word → word < 512 → byte ≡ word % 256 → ((answer : Answer) → answer_byte answer ≢ byte)
-    → IsFirstByPlace
-    (record { scope = scope; position = Asked command; last = from; levels = levels })
-    (Word at Peripheral word) rule.Answer
-no_answer scope command from at word byte levels order early late marked small low none = record {
-  breaks = inl (
-    marked,
-    (λ ack. none answers.Ack (omega (arith, low, ack))),
-    (λ nak. none answers.Nak (omega (arith, low, nak))),
-  );
-  first = first;
-}
-  where
-    first : (other : Rule) → RowBreaks
-        (record { scope = scope; position = Asked command; last = from; levels = levels })
-        (Word at Peripheral word) other → place_of rule.Answer ≤ place_of other
-    first rule.Answer b = omega arith
-    first other b = search arith
-
--- a marked word that ends a reply, in its time
-module _ (scope : Scope) (one : BytesHaveOneFault) (none : ReplyHasNoFault) (command : Command)
-    (bytes : List ℕ) (from : Option Event) (at word : ℕ) (levels : Levels)
+-- a marked word of a peripheral, in its time
+module _ (scope : Scope) (command : Command) (from : Option Event) (at word : ℕ) (levels : Levels)
     (order : OutOfOrder from (Word at Peripheral word) → ⊥)
-    (early : IsBefore WORD_GAP_MIN from (Word at Peripheral word) → ⊥)
-    (late : IsPast (block_most (profile_of scope.begins)) from (Word at Peripheral word) → ⊥)
-    (marked : 256 ≤ word) where
-  abbrev Replying : Situation
-  Replying =
-      record { scope = scope; position = InReply command bytes; last = from; levels = levels }
-
+    (early : IsBefore WORD_GAP_MIN from (Word at Peripheral word) → ⊥) (marked : 256 ≤ word) where
   abbrev Told : Event
   Told = Word at Peripheral word
 
-  abbrev Bad : MsgFault → Type 0
-  Bad = HasFault (format_for scope.begins levels command) command bytes
+  abbrev At : Position → Situation
+  At position = record { scope = scope; position = position; last = from; levels = levels }
 
-  -- faults of its bytes are one
-  apart : (fault other : MsgFault) → (fault ≢ other) → Bad fault → Bad other → ⊥
-  apart fault other differ bad also = differ
-      (one_bad none command one (format_for scope.begins levels command) bytes fault other bad also)
-
-  -- it ends a reply of a right number of bytes
-  length_right : HasDataAnswer command (length bytes) → WrongLength (InReply command bytes) Told → ⊥
-  length_right count (inl wrong) = omega (arith, wrong.0)
-  length_right count (inr wrong) = wrong.1 count
-
-  -- what isn't read of an allowed number of bytes has no fault in that number
-  length_read : HasDataAnswer command (length bytes) → Bad reading.Length → ⊥
-  length_read has faulty =
-      let bad = (bad_length (format_for scope.begins levels command) command bytes faulty).1 in
-      let both : Some bad.0 ≡ Some has.0 = sym bad.1 ∙ has.1 in
-      let same : has.0 ≡ bad.0 = cc in
-      bad.2 (rw same at has.2)
-
-  -- the first of the rules that it breaks
-  replies_first : (broken : Rule) → RowBreaks Replying Told broken
-      → place_of broken ≤ place_of rule.Profile
-      → (WrongLength (InReply command bytes) Told → place_of broken ≤ place_of rule.Length)
-      → (word ≢ 256 + sum bytes % 256 → place_of broken ≤ place_of rule.Sum)
-      → (Bad reading.Answer → place_of broken ≤ place_of rule.Answer)
-      → (Bad reading.Message → place_of broken ≤ place_of rule.Message)
-      → IsFirstByPlace Replying Told broken
-  replies_first broken breaks most length sum answer message =
-      record { breaks = breaks; first = first }
+  -- one that is no answer
+  pub no_answer : (byte : ℕ) → (IsPast (answer_most (profile_of scope.begins)) from Told → ⊥)
+      → word < 512 → byte ≡ word % 256 → ((answer : Answer) → answer_byte answer ≢ byte)
+      → IsFirstByPlace (At (Asked command)) Told rule.Answer
+  no_answer byte late small low none = record {
+    breaks = inl (
+      marked,
+      (λ ack. none answers.Ack (omega (arith, low, ack))),
+      (λ nak. none answers.Nak (omega (arith, low, nak))),
+    );
+    first = first;
+  }
     where
-      first : (other : Rule) → RowBreaks Replying Told other → place_of broken ≤ place_of other
-      first rule.Length b = length b
-      first rule.Sum b = sum b.1
-      first rule.Answer b = answer b.1
-      first rule.Message b = message b.1
-      first other b = search
+      first : (other : Rule) → RowBreaks (At (Asked command)) Told other
+          → place_of rule.Answer ≤ place_of other
+      first rule.Answer b = omega arith
+      first other b = search arith
 
-  -- the reply, read
-  reply_read : (result : Result Reply Rule) → HasDataAnswer command (length bytes)
-      → word ≡ 256 + sum bytes % 256 → IsRead scope.begins command bytes levels result
-      → IsSettled Replying Told result
-  reply_read result has total read = by result read
-    where
-      first : (broken : Rule) → RowBreaks Replying Told broken
-          → place_of broken ≤ place_of rule.Profile
-          → (Bad reading.Answer → place_of broken ≤ place_of rule.Answer)
-          → (Bad reading.Message → place_of broken ≤ place_of rule.Message)
-          → IsFirstByPlace Replying Told broken
-      first broken breaks most = replies_first broken breaks most
-          (λ b. absurd (length_right has b)) (λ b. absurd (b total))
+  -- one that ends a reply
+  module _ (one : BytesHaveOneFault) (none : ReplyHasNoFault) (bytes : List ℕ)
+      (late : IsPast (block_most (profile_of scope.begins)) from Told → ⊥) where
+    abbrev Replying : Situation
+    Replying = At (InReply command bytes)
 
-      faultless : (h : LeavesProfile scope.begins command bytes levels) (fault : MsgFault)
-          → Bad fault → ⊥
-      faultless h fault bad = none_as none command (format_for scope.begins levels command) h.0
-          fault h.1.answers h.3 (rw h.2 at bad)
+    abbrev Bad : MsgFault → Type 0
+    Bad = HasFault (format_for scope.begins levels command) command bytes
 
-      by : (result : Result Reply Rule) → IsRead scope.begins command bytes levels result
-          → IsSettled Replying Told result
-      by (Ok reply) h = (
-        total,
-        h.0,
-        h.1,
-        h.2,
-        (in_time WORD_GAP_MIN from Told early, not_late _ from Told late),
-      )
-      by (Err rule.Length) h = absurd (length_read has h)
-      by (Err rule.Answer) h =
-          first rule.Answer (marked, h) (omega arith) (λ b. omega arith) (λ b. omega arith)
-      by (Err rule.Message) h = first rule.Message (marked, h) (omega arith)
-          (λ b. absurd (apart reading.Answer reading.Message (λ e. cc) b h)) (λ b. omega arith)
-      by (Err rule.Profile) (inl h) = first rule.Profile (marked, inl h) (omega arith)
-          (λ b. absurd (apart reading.Answer reading.Profile (λ e. cc) b h))
-          (λ b. absurd (apart reading.Message reading.Profile (λ e. cc) b h))
-      by (Err rule.Profile) (inr h) = first rule.Profile (marked, inr h) (omega arith)
-          (λ b. absurd (faultless h reading.Answer b)) (λ b. absurd (faultless h reading.Message b))
-      by result h = absurd h
+    -- faults of its bytes are one
+    apart : (fault other : MsgFault) → (fault ≢ other) → Bad fault → Bad other → ⊥
+    apart fault other differ bad also = differ (one_bad none command one
+        (format_for scope.begins levels command) bytes fault other bad also)
 
-  -- what is made of that word
-  pub reply_ended : (result : Result Judged Rule) → IsReplyEnd command bytes word result
-      → IsJudged Replying Told result
-  reply_ended (Ok judged.Reply) h = λ result is. reply_read result h.0 h.1 is
-  reply_ended (Err rule.Length) h =
-      replies_first rule.Length (inr (marked, h)) (omega arith) (λ b. omega arith)
-      (λ b. omega arith) (λ b. omega arith) (λ b. omega arith)
-  reply_ended (Err rule.Sum) h =
-      replies_first rule.Sum (marked, h.1) (omega arith) (λ b. absurd (length_right h.0 b))
-      (λ b. omega arith) (λ b. omega arith) (λ b. omega arith)
-  reply_ended result h = absurd h
+    -- it ends a reply of a right number of bytes
+    length_right : HasDataAnswer command (length bytes) → WrongLength (InReply command bytes) Told
+        → ⊥
+    length_right count (inl wrong) = omega (arith, wrong.0)
+    length_right count (inr wrong) = wrong.1 count
+
+    -- the first of the rules that it breaks
+    replies_first : (broken : Rule) → RowBreaks Replying Told broken
+        → place_of broken ≤ place_of rule.Profile
+        → (WrongLength (InReply command bytes) Told → place_of broken ≤ place_of rule.Length)
+        → (word ≢ 256 + sum bytes % 256 → place_of broken ≤ place_of rule.Sum)
+        → (Bad reading.Answer → place_of broken ≤ place_of rule.Answer)
+        → (Bad reading.Message → place_of broken ≤ place_of rule.Message)
+        → IsFirstByPlace Replying Told broken
+    replies_first broken breaks most length sum answer message =
+        record { breaks = breaks; first = first }
+      where
+        first : (other : Rule) → RowBreaks Replying Told other → place_of broken ≤ place_of other
+        first rule.Length b = length b
+        first rule.Sum b = sum b.1
+        first rule.Answer b = answer b.1
+        first rule.Message b = message b.1
+        first other b = search
+
+    -- the reply, read of a right number of bytes with their sum
+    module _ (has : HasDataAnswer command (length bytes)) (total : word ≡ 256 + sum bytes % 256)
+      where
+        first : (broken : Rule) → RowBreaks Replying Told broken
+            → place_of broken ≤ place_of rule.Profile
+            → (Bad reading.Answer → place_of broken ≤ place_of rule.Answer)
+            → (Bad reading.Message → place_of broken ≤ place_of rule.Message)
+            → IsFirstByPlace Replying Told broken
+        first broken breaks most = replies_first broken breaks most
+            (λ b. absurd (length_right has b)) (λ b. absurd (b total))
+
+        faultless : LeavesProfile scope.begins command bytes levels → (fault : MsgFault) → Bad fault
+            → ⊥
+        faultless h fault bad = none_as none command (format_for scope.begins levels command) h.0
+            fault h.1.answers h.3 (rw h.2 at bad)
+
+        reply_read : (result : Result Reply Rule) → IsRead scope.begins command bytes levels result
+            → IsSettled Replying Told result
+        reply_read (Ok reply) h =
+            (total, h.0, h.1, h.2, (in_time WORD_GAP_MIN from Told early, not_late _ from Told late))
+        reply_read (Err rule.Length) h =
+            let bad = (bad_length (format_for scope.begins levels command) command bytes h).1 in
+            let both : Some bad.0 ≡ Some has.0 = sym bad.1 ∙ has.1 in
+            let same : has.0 ≡ bad.0 = cc in
+            absurd (bad.2 (rw same at has.2))
+        reply_read (Err rule.Answer) h =
+            first rule.Answer (marked, h) (omega arith) (λ b. omega arith) (λ b. omega arith)
+        reply_read (Err rule.Message) h = first rule.Message (marked, h) (omega arith)
+            (λ b. absurd (apart reading.Answer reading.Message (λ e. cc) b h)) (λ b. omega arith)
+        reply_read (Err rule.Profile) (inl h) = first rule.Profile (marked, inl h) (omega arith)
+            (λ b. absurd (apart reading.Answer reading.Profile (λ e. cc) b h))
+            (λ b. absurd (apart reading.Message reading.Profile (λ e. cc) b h))
+        reply_read (Err rule.Profile) (inr h) = first rule.Profile (marked, inr h) (omega arith)
+            (λ b. absurd (faultless h reading.Answer b)) (λ b. absurd (faultless h reading.Message b))
+        reply_read result h = absurd h
+
+    -- what is made of that word
+    pub reply_ended : (result : Result Judged Rule) → IsReplyEnd command bytes word result
+        → IsJudged Replying Told result
+    reply_ended (Ok judged.Reply) h = reply_read h.0 h.1
+    reply_ended (Err rule.Length) h =
+        replies_first rule.Length (inr (marked, h)) (omega arith) (λ b. omega arith)
+        (λ b. omega arith) (λ b. omega arith) (λ b. omega arith)
+    reply_ended (Err rule.Sum) h =
+        replies_first rule.Sum (marked, h.1) (omega arith) (λ b. absurd (length_right h.0 b))
+        (λ b. omega arith) (λ b. omega arith) (λ b. omega arith)
+    reply_ended result h = absurd h
 
 -- the word at an index splits words
 split_at : (words : List ℕ) (n word : ℕ) → slice_get words n ≡ Some word
@@ -536,20 +513,6 @@ module _ (bytes content block : List ℕ) (i : ℕ) (same : content ≡ bytes)
   pub word_after : length block ≤ i → None ≡ slice_get (peripheral_words (block_of bytes)) i
   word_after past = sym (slice_get_past (peripheral_words (block_of bytes)) i
       (omega (arith, past, words_count bytes, long)))
-
--- inside a block of the controller, the bytes so far begin an ask to a device that is followed
-pub asking_followed : FirstTells → (scope : Scope) (place : Place) → place.phase ≡ phase.InAsk
-    → IsSound scope (position_at place) → AreFollowed scope place.bytes
-asking_followed law scope place asking sound =
-    ask_front_followed law scope place.bytes (rw asking at sound)
-
--- and of a command that the profile has
-pub asking_known : TwoTell → (scope : Scope) (place : Place) → place.phase ≡ phase.InAsk
-    → IsSound scope (position_at place) → AreKnown (profile_of scope.begins) place.bytes
-asking_known law scope place asking sound =
-    let front : IsAskFront scope place.bytes = rw asking at sound in
-    front_known law (profile_of scope.begins) place.bytes front.rest front.command front.some
-    front.spelled.spells front.spelled.known
 
 -- what was judged of a word that may begin a block
 pub opened_belongs : (scope : Scope) → FrontIsOpen → (least : ℕ) (from : Option Event) (at word : ℕ)

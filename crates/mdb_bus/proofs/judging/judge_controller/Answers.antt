@@ -1,18 +1,19 @@
 -- A word of the controller is judged at each phase as its judge there does.
-use Rattle.mdb_bus.proofs.Words.{Controller, Word}
-use Rattle.mdb_bus.proofs.Verdicts.{asking_followed, asking_known}
+use Rattle.mdb_bus.proofs.Words.{Controller, IsAskFront, Word}
+use Rattle.mdb_bus.proofs.Followed.{ask_front_followed}
+use Rattle.mdb_bus.proofs.Masked.{front_known}
 use Rattle.mdb_bus.proofs.judging.judge_controller.Goals as goal
 
 pub returns-in-InAsk : goal.returns-in-InAsk
-returns-in-InAsk c =
-    let scope = c.args.scope.now in
-    let place = c.args.place.now in record {
-      judged = λ levels sound. rw c.in-InAsk.is (c.go_on_asking.ensures.judged levels
-          (asking_known c.first_two_bytes_tell_enable_options.ensures scope place c.in-InAsk.is
-          sound)
-          (asking_followed c.first_byte_tells_the_device.ensures scope place c.in-InAsk.is sound));
-      belongs = rw c.in-InAsk.is c.go_on_asking.ensures.belongs;
-    }
+returns-in-InAsk c = record {
+  judged = λ levels sound.
+      let front : IsAskFront c.args.scope.now c.args.place.now.bytes = rw c.in-InAsk.is at sound in
+      rw c.in-InAsk.is (c.go_on_asking.ensures.judged levels
+      (front_known c.first_two_bytes_tell_enable_options.ensures _ _ front.rest front.command
+      front.some front.spelled.spells front.spelled.known)
+      (ask_front_followed c.first_byte_tells_the_device.ensures _ _ front));
+  belongs = rw c.in-InAsk.is c.go_on_asking.ensures.belongs;
+}
 
 pub returns-in-InReply-clause-judged : goal.returns-in-InReply-clause-judged
 returns-in-InReply-clause-judged c =

@@ -19,8 +19,8 @@ returns-in-Ack-clause-gone c =
 
 pub returns-in-Foreign-clause-gone : goal.returns-in-Foreign-clause-gone
 returns-in-Foreign-clause-gone c =
-    gone_foreign c.args.self.now _ c.args.event.now refl refl refl c.args.judged
-    (ended_act c.advance-ended.result c.advance-ended.new.act) c.in-Foreign.is refl refl
+    gone_foreign c.args.self.now _ c.args.event.now refl refl refl refl c.args.judged
+    (ended_act c.advance-ended.result c.advance-ended.new.act) c.in-Foreign.is refl
     c.advance-ended.ensures.advanced
 
 pub returns-in-Break-clause-gone : goal.returns-in-Break-clause-gone
@@ -31,7 +31,7 @@ returns-in-Break-clause-gone c =
 
 pub returns-in_default-clause-gone : goal.returns-in_default-clause-gone
 returns-in_default-clause-gone c =
-    gone_on c.args.self.now _ c.args.event.now refl refl refl c.args.judged
+    gone_on c.args.self.now _ c.args.event.now refl refl refl refl c.args.judged
     (ended_act c.advance-ended.result c.advance-ended.new.act) c.in_default.not-Ask
-    c.in_default.not-Ack c.in_default.not-Foreign c.in_default.not-Break refl refl
+    c.in_default.not-Ack c.in_default.not-Foreign c.in_default.not-Break refl
     c.advance-ended.ensures.advanced

@@ -5,10 +5,8 @@ use Rattle.mdb_bus.proofs.judging.answering.answer.Goals as goal
 pub returns-in-None-clause-judged : goal.returns-in-None-clause-judged
 returns-in-None-clause-judged c =
     λ scope levels. record {
-      judged = λ by. no_answer scope c.args.command.now c.args.last.now c.args.at
-          c.args.word c.byte.result levels
-          c.requires (search rules) (search rules) (search rules) c.marked.ensures.range
-          c.byte.ensures.value
-          c.in-None.ensures.none;
+      judged = λ by. no_answer scope c.args.command.now c.args.last.now c.args.at c.args.word levels
+          c.requires (search rules) (search rules) c.byte.result (search rules)
+          c.marked.ensures.range c.byte.ensures.value c.in-None.ensures.none;
       timely = tt;
     }

@@ -28,5 +28,5 @@ judge_end_of_ask-requires-clause-last c =
           (sym w.in-Exactly.is ∙ exact) (omega (arith, w.if-so_far-length.false))
       | in_default-via-in_default w ↦ absurd (search rules)
     ]) in
-    let told = c.need_of.ensures ∙ ap needed (sym c.requires.is) in
+    let told = ap needed c.requires.is ∙ sym c.need_of.ensures in
     further_end c.args.bytes.now c.need_of.result (omega arith) told most c.requires.begun
