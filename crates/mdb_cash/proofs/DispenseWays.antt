@@ -1,22 +1,14 @@
 -- The ways that a DISPENSE may go in a recording that begins in mid-session.
-use Rattle.std.proofs.Common.{◌≡◌, ◌↔◌, ◌⊎◌, ◌&&◌, inl, inr, ℕ, Bool, true, false, List, [], ◌∷◌, Option, Some, None, refl, ap, sym, ◌∙◌, if◌then◌else◌}
-use Rattle.std.proofs.lemmas.Bool.{eq-eqb}
-use Rattle.mdb_msgs.specs.declared.command.Command.TheVariants.{Changer}
+use Rattle.mdb_cash.proofs.Words.{◌≡◌, ◌↔◌, ◌⊎◌, inl, inr, ℕ, Bool, true, false, List, [], ◌∷◌, Option, Some, None, refl, sym, ◌∙◌, if◌then◌else◌, eq-eqb, Changer, CashBox, ChangerState, Choice, Gains, dispensed_value, is_last, machine, any_asked, some_told}
 use Rattle.mdb_msgs.specs.declared.command.ChangerCommand.TheVariants as changer
 use Rattle.mdb_msgs.specs.declared.setups.Setups.{Setups}
 use Rattle.mdb_bus.specs.declared.act.Act.{Act}
 use Rattle.mdb_bus.specs.declared.act.Act.TheVariants as acts
 use Rattle.mdb_bus.specs.declared.scope.Beginning.TheVariants.{Joined}
 use Rattle.mdb_bus.specs.declared.scope.Profile.{Profile}
-use Rattle.mdb_cash.specs.declared.changer.activity.ChangerActivity.TheVariants.{CashBox}
-use Rattle.mdb_cash.specs.declared.changer.state.ChangerState.{ChangerState}
-use Rattle.mdb_machine.specs.declared.choice.Choice.{Choice}
-use Rattle.mdb_machine.specs.declared.gains.Gains.{Gains}
-use Rattle.mdb_cash.specs.Changer.{dispensed_value, is_last, machine}
 use Rattle.mdb_cash.specs.ChangerFacts.{tables}
 use Rattle.mdb_machine.specs.Gains.{controller_gains, in_slots, no_gains}
 use Rattle.mdb_machine.specs.MidSession.{AsksNone, facts_recorded}
-use Rattle.mdb_machine.proofs.MidSession.{any_asked, some_told}
 
 module _ (setups : Setups) (profile : Profile) (so_far : List Act) (coins : ℕ) (choice : Choice)
     (before after : ChangerState) (gains : Gains) where
@@ -52,7 +44,7 @@ module _ (setups : Setups) (profile : Profile) (so_far : List Act) (coins : ℕ)
       asking : (asked : Option ℕ) → after ≡ before
           → gains ≡ (if is_last asked coins then no_gains else paid) → Asks
       asking asked same gained =
-          let some = any_asked (CashBox 0) tables setups profile so_far before.holds asked none in
+          let some = any_asked tables setups profile so_far (CashBox 0) before.holds asked none in
           record {
             facts = some.0;
             allowed = some.1;
@@ -69,7 +61,7 @@ module _ (setups : Setups) (profile : Profile) (so_far : List Act) (coins : ℕ)
   free_way free = (
     λ step. (step.step.0, rw (free, step.allowed.setup) at step.step.1),
     λ way.
-        let some = some_told (CashBox 0) tables setups profile so_far before.holds in
+        let some = some_told tables setups profile so_far (CashBox 0) before.holds in
         record {
           facts = some.0;
           allowed = some.1;

@@ -1,12 +1,7 @@
 -- What new messages of the validator leave in escrow, for the functions of its code.
-use Rattle.std.proofs.Common.{◌≡◌, ◌∙◌, ◌↔◌, ℕ, true, List, [], ◌∷◌, Some, refl, ap, sym, subst}
-use Rattle.mdb_cash.specs.declared.bill.activity.BillActivity.{BillActivity}
+use Rattle.mdb_cash.proofs.Words.{◌≡◌, ◌∙◌, ◌↔◌, ℕ, true, List, [], ◌∷◌, Some, refl, ap, sym, BillActivity, BillType, Escrow, MayReturn, MayStack, MovesBill, MovesBills, StacksBill, same_type}
 use Rattle.mdb_cash.specs.declared.bill.activity.BillActivity.TheVariants as activity
-use Rattle.mdb_cash.specs.declared.bill.state.BillType.{BillType}
-use Rattle.mdb_cash.specs.declared.bill.state.Escrow.{Escrow}
 use Rattle.mdb_cash.specs.declared.bill.state.Escrow.TheVariants.{Empty, Waiting}
-use Rattle.mdb_cash.specs.Bill.{MayReturn, MayStack, MovesBill, MovesBills, StacksBill}
-use Rattle.mdb_cash.specs.shared.BillCodes.{same_type}
 use Rattle.mdb_cash.specs.BillFacts.{Facts}
 use Rattle.mdb_machine.specs.Pair.{IsOnly}
 

@@ -1,3 +1,4 @@
+pub mod Words
 pub mod DispenseWays
 pub mod Escrows
 pub mod Wider

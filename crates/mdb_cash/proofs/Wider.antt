@@ -1,21 +1,14 @@
 -- What changer and validator may do by the base profile, they may do by the extended one.
-use Rattle.std.proofs.Common.{ℕ, Bool, List, [], ◌∷◌, refl}
+use Rattle.mdb_cash.proofs.Words.{ℕ, Bool, List, [], ◌∷◌, refl, BillActivity, Escrow, Dispensed, ChangerState, Choice, Gains, AreAmong, Widens, enabling}
 use Rattle.std.specs.List.{AllByRecursion}
 use Rattle.mdb_msgs.specs.declared.command.ChangerCommand.{ChangerCommand}
 use Rattle.mdb_msgs.specs.declared.command.ChangerCommand.TheVariants as commands
-use Rattle.mdb_cash.specs.declared.bill.activity.BillActivity.{BillActivity}
 use Rattle.mdb_cash.specs.declared.bill.activity.BillActivity.TheVariants as activity
-use Rattle.mdb_cash.specs.declared.bill.state.Escrow.{Escrow}
 use Rattle.mdb_cash.specs.declared.changer.activity.ChangerActivity.{ChangerActivity}
-use Rattle.mdb_cash.specs.declared.changer.activity.ChangerActivity.TheVariants.{CashBox, Dispensed, Tube}
-use Rattle.mdb_cash.specs.declared.changer.state.ChangerState.{ChangerState}
-use Rattle.mdb_machine.specs.declared.choice.Choice.{Choice}
-use Rattle.mdb_machine.specs.declared.gains.Gains.{Gains}
 use Rattle.mdb_cash.specs.Bill as bill
 use Rattle.mdb_cash.specs.BillFacts as bill_facts
 use Rattle.mdb_cash.specs.Changer as changer
 use Rattle.mdb_cash.specs.ChangerFacts.{Facts}
-use Rattle.mdb_machine.proofs.Wider.{AreAmong, Widens, enabling}
 
 asks : (facts : Facts) (more : ℕ → Bool) (command : ChangerCommand) (before after : ChangerState)
     (gains : Gains) → changer.AskStep facts command before after gains

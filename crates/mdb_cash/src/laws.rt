@@ -40,6 +40,7 @@ ghost use Rattle.mdb_machine.specs.Pair.{IsBreak, own_acts};
 
 /// What is known of the changer after acts, and the amounts without a value that they tell of it,
 /// depend on its own acts among them alone.
+#[tactic(auto, using(crate::specs::shared::ChangerWays::same_facts, crate::specs::shared::ChangerWays::same_unvalued))]
 pub fn the_changers_facts_are_of_its_own_acts()
     ensures known { (begins : Beginning) (acts other : List Act)
         → own_acts devices.Changer acts ≡ own_acts devices.Changer other
@@ -51,6 +52,7 @@ pub fn the_changers_facts_are_of_its_own_acts()
 
 /// What is known of the validator after acts, and the amounts without a value that they tell of it,
 /// depend on its own acts among them alone.
+#[tactic(auto, using(crate::specs::shared::BillWays::same_facts, crate::specs::shared::BillWays::same_unvalued))]
 pub fn the_validators_facts_are_of_its_own_acts()
     ensures known { (begins : Beginning) (acts other : List Act)
         → own_acts devices.Bill acts ≡ own_acts devices.Bill other
@@ -62,6 +64,7 @@ pub fn the_validators_facts_are_of_its_own_acts()
 
 /// Where the changer has a part in no acts but breaks, its setup table is that of no act, and no
 /// amount of it is reported.
+#[tactic(auto, using(crate::specs::shared::ChangerWays::no_setup, crate::specs::shared::ChangerWays::none_told))]
 pub fn breaks_tell_nothing_of_the_changer()
     ensures setup { (begins : Beginning) (acts : List Act)
         → All IsBreak (own_acts devices.Changer acts)
@@ -72,6 +75,7 @@ pub fn breaks_tell_nothing_of_the_changer()
 
 /// Where the validator has a part in no acts but breaks, its setup table is that of no act, and no
 /// amount of it is reported.
+#[tactic(auto, using(crate::specs::shared::BillWays::no_setup, crate::specs::shared::BillWays::none_told))]
 pub fn breaks_tell_nothing_of_the_validator()
     ensures setup { (begins : Beginning) (acts : List Act)
         → All IsBreak (own_acts devices.Bill acts)

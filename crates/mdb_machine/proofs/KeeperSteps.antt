@@ -1,5 +1,5 @@
 -- The steps of a device that keeps messages, as the code finds them.
-use Rattle.mdb_machine.proofs.Words.{◌≡◌, ◌∙◌, ◌↔◌, ◌&&◌, ◌==◌, not, ℕ, Bool, true, false, List, [], ◌∷◌, Option, None, Some, refl, ap, sym, subst, length, map, arith, if◌then◌else◌, OnFalse, eqb-true, Command, Reply, Act, Choice, Plain, Lost, Restart, Again, Gains, Part, CanStand, Stays, controller_gains, device_gains, no_gains, Facts, Tables, Conduct, KeeperStep, ReplyStep, VmcAckStep, worth, MayBeRead, HasNews, has_reset, held, holds_acked, holds_after, holds_read, kept_of, IsSummary, IsOnly, IsOnlyStep, ForOwn}
+use Rattle.mdb_machine.proofs.Words.{◌≡◌, ◌∙◌, ◌↔◌, ◌&&◌, ◌==◌, not, ℕ, Bool, true, false, List, [], ◌∷◌, None, Some, refl, ap, sym, subst, length, map, arith, if◌then◌else◌, OnFalse, eqb-true, Command, Reply, Act, Choice, Plain, Lost, Restart, Again, Gains, Part, CanStand, Stays, controller_gains, device_gains, no_gains, Facts, Tables, Conduct, KeeperStep, ReplyStep, VmcAckStep, worth, MayBeRead, HasNews, has_reset, held, holds_acked, holds_after, holds_read, kept_of, IsSummary, IsOnly, IsOnlyStep}
 use Rattle.mdb_bus.specs.declared.act.Act.TheVariants as acts
 use Rattle.mdb_machine.proofs.KeptLists.{HasNewsOnly, free_acked, only_news}
 
@@ -104,14 +104,6 @@ module _ {Own Setup Asked M State : Type 0} {conduct : Conduct Own Setup Asked M
         gained = rw (gains_are, kept_is, poll_is) refl;
       } in
       (step, λ other more its. (its.to ∙ sym step.to, its.gained ∙ sym step.gained))
-
--- a step by a command of the device
-pub by_own : {Own State : Type 0} {command : Option Own} {own : Own}
-    (Step : Own → State → State → Gains → Type 0) (before : State) (only : Option (State × Gains))
-    → command ≡ Some own
-    → IsOnlyStep (Step own before) only → IsOnlyStep (ForOwn command Step before) only
-by_own {Own} Step before only is step =
-    subst (λ (c : Option Own). IsOnlyStep (ForOwn c Step before) only) (sym is) step
 
 -- the acts that no device has a step by
 module _ {Own Setup Asked M State : Type 0} (tables : Tables Own Setup Asked M)

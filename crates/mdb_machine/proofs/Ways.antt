@@ -80,49 +80,46 @@ step_as {gains = gains} each is = record {
   step = each is.before is.after gains is.step;
 }
 
--- the steps by the one other choice that there is
-pub by_other : {State : Type 0} (device : Device) (act : Act) (code_of : State → ℕ)
-    (Step : Choice → State → State → Gains → Type 0) (code : ℕ) (choice : Choice)
-    (step : Option (ℕ × Gains)) → CanStand act choice × (choice ≢ Plain)
-    → ((any : Choice) → CanStand act any → any ≢ Plain → (before after : State) (gains : Gains)
-    → Step any before after gains → Step choice before after gains)
-    → ((next : ℕ) (gains : Gains) → (step ≡ Some (next, gains))
-    ↔ IsChosenStep device act code_of Step choice code next gains)
-    → (next : ℕ) (gains : Gains) → (step ≡ Some (next, gains))
-    ↔ IsOtherMove act code_of Step code next gains
-by_other device act code_of Step code choice step stands leads steps next gains = (
-  λ made. (choice, stands.0, stands.1, ((steps next gains).0 made).1),
-  λ move.
-      (steps next gains).1 (inl stands.0, step_as (leads move.0 move.1 move.2) move.3),
-)
+module _ {State : Type 0} (device : Device) (act : Act) (code_of : State → ℕ)
+    (Step : Choice → State → State → Gains → Type 0) (code : ℕ) where
+  -- the step by a choice, if there is one, with the code after it
+  abbrev IsChosen : Choice → Option (ℕ × Gains) → Type 0
+  IsChosen choice step = (next : ℕ) (gains : Gains)
+      → (step ≡ Some (next, gains)) ↔ IsChosenStep device act code_of Step choice code next gains
 
--- the plain step and the one by the other choice are the moves
-pub both_moves : {State : Type 0} (device : Device) (act : Act) (code_of : State → ℕ)
-    (Step : Choice → State → State → Gains → Type 0) (code : ℕ) (plain other : Option (ℕ × Gains))
-    (items : List (ℕ × Gains))
-    → ((next : ℕ) (gains : Gains) → (plain ≡ Some (next, gains))
-    ↔ IsChosenStep device act code_of Step Plain code next gains)
-    → ((next : ℕ) (gains : Gains) → (other ≡ Some (next, gains))
-    ↔ IsOtherMove act code_of Step code next gains)
-    → ((move : ℕ × Gains) → Contains items move ↔ ((plain ≡ Some move) ⊎ (other ≡ Some move)))
-    → (next : ℕ) (gains : Gains) → Contains items (next, gains)
-    ↔ IsMove act code_of Step code next gains
-both_moves device act code_of Step code plain other items plain_is other_is lists next gains = (
-  λ among.
-      elim ((lists (next, gains)).0 among) [
-        | inl is ↦ (Plain, tt, ((plain_is next gains).0 is).1)
-        | inr is ↦ let move = (other_is next gains).0 is in (move.0, move.1, move.3)
-      ],
-  λ move.
-      (lists (next, gains)).1
-      (elim (plain_or_not move.0) [
-        | inl same ↦ inl ((plain_is next gains).1 (
-          inl tt,
-          subst (λ c. IsStep code_of (Step c) code next gains) same move.2,
-        ))
-        | inr not ↦ inr ((other_is next gains).1 (move.0, move.1, not, move.2))
-      ]),
-)
+  -- and that by any choice but the plain one
+  abbrev IsOther : Option (ℕ × Gains) → Type 0
+  IsOther step = (next : ℕ) (gains : Gains)
+      → (step ≡ Some (next, gains)) ↔ IsOtherMove act code_of Step code next gains
+
+  -- the steps by the one other choice that there is
+  pub by_other : (choice : Choice) (step : Option (ℕ × Gains))
+      → CanStand act choice × (choice ≢ Plain)
+      → ((any : Choice) → CanStand act any → any ≢ Plain → (before after : State) (gains : Gains)
+      → Step any before after gains → Step choice before after gains)
+      → IsChosen choice step → IsOther step
+  by_other choice step stands leads steps next gains = (
+    λ made. (choice, stands.0, stands.1, ((steps next gains).0 made).1),
+    λ move.
+        (steps next gains).1 (inl stands.0, step_as (leads move.0 move.1 move.2) move.3),
+  )
+
+  -- the plain step and the one by the other choice are the moves
+  pub both_moves : (plain other : Option (ℕ × Gains)) (items : List (ℕ × Gains))
+      → IsChosen Plain plain → IsOther other
+      → ((move : ℕ × Gains) → Contains items move ↔ ((plain ≡ Some move) ⊎ (other ≡ Some move)))
+      → (next : ℕ) (gains : Gains) → Contains items (next, gains)
+      ↔ IsMove act code_of Step code next gains
+  both_moves plain other items plain_is other_is lists next gains = (
+    λ among. elim ((lists (next, gains)).0 among) [
+      | inl is ↦ (Plain, tt, ((plain_is next gains).0 is).1)
+      | inr is ↦ let move = (other_is next gains).0 is in (move.0, move.1, move.3)
+    ],
+    λ move. (lists (next, gains)).1 (elim (plain_or_not move.0) [
+      | inl same ↦ inl ((plain_is next gains).1 (inl tt, rw same at move.2))
+      | inr not ↦ inr ((other_is next gains).1 (move.0, move.1, not, move.2))
+    ]),
+  )
 
 -- each move is small
 pub small_moves : (Small : ℕ → Gains → Type 0) (one other : Option (ℕ × Gains))

@@ -1,6 +1,6 @@
 -- That a device that keeps messages may do by the extended profile what it may do by the base one:
 -- the types that are enabled by this are enabled by that too. Lists of acts stand newest first.
-use Rattle.mdb_machine.proofs.Words.{◌≡◌, ◌∙◌, ℕ, Bool, true, false, not, ◌&&◌, ◌||◌, List, [], ◌∷◌, Option, Some, None, refl, ap, sym, subst, ltb, option_map, if◌then◌else◌, list_any, Command, Setups, Act, PowerOn, Joined, Choice, Gains, Part, Effect, disables, enabled_of, enables, known_enabled, Facts, KnownFacts, Tables, asked_by, effect_of, known_of, parts_by, AckStep, Conduct, KeeperStep, ReplyStep, StepKnowing, VmcAckStep, Allows, known_by, AllowsPast, acts_from, effect_by, last_list, last_told, powers_on, same_known_past}
+use Rattle.mdb_machine.proofs.Words.{◌≡◌, ◌∙◌, ℕ, Bool, true, false, not, ◌&&◌, ◌||◌, List, [], ◌∷◌, Option, Some, None, refl, ap, sym, subst, ltb, option_map, if◌then◌else◌, list_any, Command, Setups, Act, PowerOn, Joined, Choice, Gains, Part, Effect, disables, enabled_of, enables, known_enabled, Facts, KnownFacts, Tables, asked_by, effect_of, known_of, parts_by, AckStep, Conduct, KeeperStep, ReplyStep, StepKnowing, VmcAckStep, Allows, known_by, AllowsPast, acts_from, effect_by, last_list, last_told, powers_on, same_known_past, or_cases, or_left, or_right, and_right, and_parts, inl, inr}
 use Rattle.mdb_bus.specs.declared.act.Act.TheVariants as acts
 use Rattle.mdb_bus.specs.declared.scope.Profile.TheVariants.{Base, Extended}
 use Rattle.mdb_machine.specs.shared.KeeperPlain.{as_for_own}
@@ -111,25 +111,14 @@ any_of_all p ends (act ∷ so_far) any =
 
 either_more : (a b c d : Bool) → (a ≡ true → b ≡ true) → (c ≡ true → d ≡ true)
     → (a || c) ≡ true → (b || d) ≡ true
-either_more true b c d one other is = ap (λ x. x || d) (one refl)
-either_more false b c d one other is = ap (λ x. b || x) (other is) ∙ or_true b
-  where
-    or_true : (b : Bool) → (b || true) ≡ true
-    or_true true = refl
-    or_true false = refl
-
-second : (a b : Bool) → (a && b) ≡ true → b ≡ true
-second true b is = is
-second false b is = absurd cc
+either_more a b c d one other is =
+    elim (or_cases a c is)
+    [ inl first ↦ or_left b d (one first) | inr second ↦ or_right b d (other second) ]
 
 -- by the extended profile no act ends them, so all acts count
 module _ (effect : Command → Effect) where
   never_ends : (act : Act) → disables Extended effect act ≡ false
-  never_ends act = either (powers_on effect act)
-    where
-      either : (b : Bool) → (b && false) ≡ false
-      either true = refl
-      either false = refl
+  never_ends act = and_right (powers_on effect act) false refl
 
   all_from : (so_far : List Act) → acts_from (disables Extended effect) so_far ≡ so_far
   all_from [] = refl
@@ -156,7 +145,7 @@ module _ (effect : Command → Effect) where
   joined_wider setups so_far kind = either_more (enabled_of Base effect so_far kind) _
       (not (list_any (disables Base effect) so_far) && ltb kind 16) _ (enabled_wider so_far kind)
       (λ is. ap (λ b. not b && ltb kind 16) (none_ends so_far)
-      ∙ second (not (list_any (disables Base effect) so_far)) (ltb kind 16) is)
+      ∙ (and_parts (not (list_any (disables Base effect) so_far)) (ltb kind 16) is).1)
 
 -- Steps of a machine.
 

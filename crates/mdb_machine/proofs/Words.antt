@@ -3,7 +3,7 @@ pub use Rattle.arrayvec.specs.ArrayVec.{array_vec_len}
 pub use Rattle.std.proofs.Common.{[], ap, arith, bit_or, Bool, drop, false, get_or, IfNone, IfSome, if◌then◌else◌, inl, inr, IsTrue, length, List, ltb, map, max, None, not, Option, option_and_then, option_map, refl, slice_index, Some, subst, suc, sum_by, sym, take, true, unwrap_or, zero, ℕ, ◌%◌, ◌&&◌, ◌*◌, ◌++◌, ◌+◌, ◌/◌, ◌<◌, ◌==◌, ◌^◌, ◌||◌, ◌↔◌, ◌∙◌, ◌∷◌, ◌≡◌, ◌≢◌, ◌≤◌, ◌⊎◌}
 pub use Rattle.std.proofs.Math.Path.{fun_ext}
 pub use Rattle.std.proofs.Math.Seq.{drop-append_seam, take-append_seam, take-length}
-pub use Rattle.std.proofs.lemmas.Bool.{cases_lt, eqb-true, le-ltb, lt-ltb}
+pub use Rattle.std.proofs.lemmas.Bool.{cases_lt, eqb-true, le-ltb, lt-ltb, or_cases, or_left, or_right, and_right, and_parts}
 pub use Rattle.std.proofs.lemmas.List.{length-append, length-take-le, map_more, take-append-drop, take_more}
 pub use Rattle.std.proofs.lemmas.List.Elements.{All-from_recursion, Contains-append_left, Contains-push, Contains-push_cases, filter_map-append, recursion_from_All}
 pub use Rattle.std.proofs.lemmas.Option.{none-some, same_Some}

@@ -2,7 +2,7 @@ use Rattle.mdb_cash.specs.Bill as bill
 use Rattle.mdb_cash.specs.BillFacts as bill_facts
 use Rattle.mdb_cash.specs.Changer as changer
 use Rattle.mdb_cash.specs.ChangerFacts as changer_facts
-use Rattle.mdb_machine.proofs.Wider.{steps_from_power_on, steps_in_mid_session}
+use Rattle.mdb_cash.proofs.Words.{steps_from_power_on, steps_in_mid_session}
 use Rattle.mdb_cash.proofs.Wider.{bill_widens, changer_widens}
 use Rattle.mdb_cash.proofs.laws.by_the_extended_profile_each_step_by_the_base_profile_is_one.Goals as goal
 

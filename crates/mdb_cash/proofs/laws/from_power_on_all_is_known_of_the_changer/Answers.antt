@@ -1,6 +1,6 @@
+use Rattle.mdb_cash.proofs.Words.{power_on_known, power_on_steps}
 use Rattle.mdb_cash.specs.Changer.{conduct}
 use Rattle.mdb_cash.specs.ChangerFacts.{tables}
-use Rattle.mdb_machine.proofs.PowerOn.{power_on_known, power_on_steps}
 use Rattle.mdb_cash.proofs.laws.from_power_on_all_is_known_of_the_changer.Goals as goal
 
 pub returns-clause-facts : goal.returns-clause-facts

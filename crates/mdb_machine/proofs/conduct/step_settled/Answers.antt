@@ -5,4 +5,4 @@ pub returns-clause-step : goal.returns-clause-step
 returns-clause-step g c =
     settled_only g.met.K.Conduct.some_kept g.K.Keeper.tables g.K.Conduct.conduct
     g.met.K.Conduct.overlooks c.args.known.now
-    c.args.act.now c.args.choice c.args.before c.step.result c.requires c.step.ensures.step
+    c.args.act.now c.args.choice c.args.before c.requires c.step.result c.step.ensures.step

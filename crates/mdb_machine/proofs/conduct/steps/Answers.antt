@@ -6,10 +6,9 @@ pub returns-then-settles-clause-steps : goal.returns-then-settles-clause-steps
 returns-then-settles-clause-steps g c =
     settled_steps g.met.K.Conduct.some_kept g.K.Keeper.tables g.K.Conduct.conduct
     g.met.K.Conduct.overlooks
-    c.args.known.now c.args.act.now c.args.choice c.args.before c.step.result
-    c.new-steps.result.items
-    c.add_step.new.steps.items (sym c.settles.ensures ∙ c.if-settles.true) c.step.ensures.step
-    c.new-steps.ensures c.add_step.ensures.items
+    c.args.known.now c.args.act.now c.args.choice c.args.before
+    (sym c.settles.ensures ∙ c.if-settles.true) c.step.result c.new-steps.result.items
+    c.add_step.new.steps.items c.step.ensures.step c.new-steps.ensures c.add_step.ensures.items
 
 pub returns-then-settles-clause-small : goal.returns-then-settles-clause-small
 returns-then-settles-clause-small g c =

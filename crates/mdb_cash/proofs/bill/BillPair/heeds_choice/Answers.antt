@@ -1,6 +1,6 @@
+use Rattle.mdb_cash.proofs.Words.{unheeded_knowing}
 use Rattle.mdb_cash.specs.Bill.{conduct}
 use Rattle.mdb_cash.specs.BillFacts.{tables}
-use Rattle.mdb_machine.proofs.Knowing.{unheeded_knowing}
 use Rattle.mdb_cash.proofs.bill.BillPair.heeds_choice.Goals as goal
 
 pub returns : goal.returns

@@ -1,7 +1,6 @@
+use Rattle.mdb_cash.proofs.Words.{Stacked, rests_knowing}
 use Rattle.mdb_cash.specs.Bill.{conduct}
 use Rattle.mdb_cash.specs.BillFacts.{tables}
-use Rattle.mdb_cash.specs.declared.bill.activity.BillActivity.TheVariants.{Stacked}
-use Rattle.mdb_machine.proofs.Knowing.{rests_knowing}
 use Rattle.mdb_cash.proofs.bill.BillPair.rests.Goals as goal
 
 pub returns : goal.returns

@@ -1,5 +1,4 @@
-use Rattle.std.proofs.Common.{refl, sym, ◌∙◌, inl, inr}
-use Rattle.mdb_machine.specs.KeeperValues.{facts_in}
+use Rattle.mdb_cash.proofs.Words.{refl, sym, ◌∙◌, inl, inr, facts_in}
 use Rattle.mdb_cash.proofs.Escrows.{puts, returns, returns_not}
 use Rattle.mdb_cash.proofs.bill.conduct.move_bill.Goals as goal
 

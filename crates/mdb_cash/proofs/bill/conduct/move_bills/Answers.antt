@@ -1,7 +1,6 @@
-use Rattle.std.proofs.Common.{◌≡◌, drop, length, arith, ap, ◌∙◌}
+use Rattle.mdb_cash.proofs.Words.{◌≡◌, drop, length, arith, ap, ◌∙◌, Stacked}
 use Rattle.std.proofs.Math.Seq.{drop-length}
 use Rattle.std.proofs.lemmas.List.{drop_more}
-use Rattle.mdb_cash.specs.declared.bill.activity.BillActivity.TheVariants.{Stacked}
 use Rattle.mdb_cash.proofs.Escrows.{leaves_all, leaves_more, leaves_none}
 use Rattle.mdb_cash.proofs.bill.conduct.move_bills.Goals as goal
 

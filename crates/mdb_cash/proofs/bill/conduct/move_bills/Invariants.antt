@@ -1,5 +1,4 @@
-use Rattle.std.proofs.Common.{drop}
-use Rattle.mdb_machine.specs.KeeperValues.{facts_in}
+use Rattle.mdb_cash.proofs.Words.{drop, facts_in}
 use Rattle.mdb_cash.proofs.Escrows.{Leaves}
 use Rattle.mdb_cash.proofs.bill.conduct.move_bills.Given as goal
 

@@ -1,5 +1,4 @@
-use Rattle.std.proofs.Common.{refl, sym, ◌∙◌}
-use Rattle.mdb_machine.specs.KeeperValues.{facts_in}
+use Rattle.mdb_cash.proofs.Words.{refl, sym, ◌∙◌, facts_in}
 use Rattle.mdb_cash.proofs.Escrows.{stacks, stacks_not}
 use Rattle.mdb_cash.proofs.bill.conduct.stack_bill.Goals as goal
 use Rattle.mdb_cash.proofs.bill.conduct.stack_bill.Goals.{else-is_enabled-via-then-is_enabled+else-may_stack, else-is_enabled-via-else-is_enabled}

@@ -1,11 +1,10 @@
 -- An ACK of no messages leaves the state.
-use Rattle.std.proofs.Common.{◌≡◌, refl, rules}
+use Rattle.mdb_cash.proofs.Words.{◌≡◌, refl, rules, idle}
 use Rattle.mdb_msgs.specs.declared.command.Command.TheVariants as commands
 use Rattle.mdb_bus.specs.declared.act.Act.TheVariants as acts
 use Rattle.mdb_cash.specs.Bill.{conduct}
 use Rattle.mdb_cash.specs.BillFacts.{tables}
 use Rattle.mdb_cash.specs.BillMessages.{part_of}
-use Rattle.mdb_machine.proofs.KeeperSteps.{idle}
 use Rattle.mdb_cash.proofs.bill.matters.concerns.Goals as goal
 
 pub returns-in-VmcAck-Bill-default-clause-still : goal.returns-in-VmcAck-Bill-default-clause-still

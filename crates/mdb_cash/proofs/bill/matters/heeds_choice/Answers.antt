@@ -1,11 +1,10 @@
 -- A choice is heeded where it may lead elsewhere than the plain one.
-use Rattle.std.proofs.Common.{◌≡◌, refl, rules}
+use Rattle.mdb_cash.proofs.Words.{◌≡◌, refl, rules, unheard, unread}
 use Rattle.mdb_msgs.specs.declared.command.Command.TheVariants as commands
 use Rattle.mdb_bus.specs.declared.act.Act.TheVariants as acts
 use Rattle.mdb_cash.specs.Bill.{conduct}
 use Rattle.mdb_cash.specs.BillFacts.{tables}
 use Rattle.mdb_cash.specs.BillMessages.{part_of}
-use Rattle.mdb_machine.proofs.KeeperSteps.{unheard, unread}
 use Rattle.mdb_cash.proofs.bill.matters.heeds_choice.Goals as goal
 
 pub returns-in-Reply-Bill-default : goal.returns-in-Reply-Bill-default

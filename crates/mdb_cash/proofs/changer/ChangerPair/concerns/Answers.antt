@@ -1,7 +1,6 @@
+use Rattle.mdb_cash.proofs.Words.{CashBox, still_knowing}
 use Rattle.mdb_cash.specs.Changer.{conduct}
 use Rattle.mdb_cash.specs.ChangerFacts.{tables}
-use Rattle.mdb_cash.specs.declared.changer.activity.ChangerActivity.TheVariants.{CashBox}
-use Rattle.mdb_machine.proofs.Knowing.{still_knowing}
 use Rattle.mdb_cash.proofs.changer.ChangerPair.concerns.Goals as goal
 
 pub returns-clause-still : goal.returns-clause-still

@@ -1,6 +1,6 @@
+use Rattle.mdb_cash.proofs.Words.{unheeded_knowing}
 use Rattle.mdb_cash.specs.Changer.{conduct}
 use Rattle.mdb_cash.specs.ChangerFacts.{tables}
-use Rattle.mdb_machine.proofs.Knowing.{unheeded_knowing}
 use Rattle.mdb_cash.proofs.changer.ChangerPair.heeds_choice.Goals as goal
 
 pub returns : goal.returns

@@ -1,7 +1,6 @@
+use Rattle.mdb_cash.proofs.Words.{CashBox, rests_knowing}
 use Rattle.mdb_cash.specs.Changer.{conduct}
 use Rattle.mdb_cash.specs.ChangerFacts.{tables}
-use Rattle.mdb_cash.specs.declared.changer.activity.ChangerActivity.TheVariants.{CashBox}
-use Rattle.mdb_machine.proofs.Knowing.{rests_knowing}
 use Rattle.mdb_cash.proofs.changer.ChangerPair.rests.Goals as goal
 
 pub returns : goal.returns

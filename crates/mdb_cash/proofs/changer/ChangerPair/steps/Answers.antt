@@ -1,7 +1,6 @@
 -- The steps by codes are those after what is known of the acts.
-use Rattle.std.proofs.Common.{sym}
+use Rattle.mdb_cash.proofs.Words.{sym, coded_below, steps_coded}
 use Rattle.mdb_cash.specs.shared.ChangerCodes.{apart, below, code_of}
-use Rattle.mdb_machine.proofs.StepCodes.{coded_below, steps_coded}
 use Rattle.mdb_cash.proofs.changer.ChangerPair.steps.Goals as goal
 
 pub returns-clause-steps : goal.returns-clause-steps

@@ -1,7 +1,4 @@
-use Rattle.std.proofs.Common.{ap, sym, ◌∙◌}
-use Rattle.std.proofs.lemmas.Bool.{eq-eqb, eqb-true}
-use Rattle.mdb_cash.specs.declared.bill.state.BillType.{BillType}
-use Rattle.mdb_cash.specs.shared.BillCodes.{same_type}
+use Rattle.mdb_cash.proofs.Words.{ap, sym, ◌∙◌, eq-eqb, eqb-true, BillType, same_type}
 use Rattle.mdb_cash.proofs.bill.state.BillType.is.Goals as goal
 
 pub returns : goal.returns

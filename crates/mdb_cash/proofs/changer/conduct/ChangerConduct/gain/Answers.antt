@@ -1,5 +1,4 @@
-use Rattle.std.proofs.Common.{arith, subst, sym, ◌<◌, ◌^◌, [], ◌∷◌}
-use Rattle.mdb_machine.proofs.Slots.{below_at}
+use Rattle.mdb_cash.proofs.Words.{arith, subst, sym, ◌<◌, ◌^◌, [], ◌∷◌, below_at}
 use Rattle.mdb_cash.proofs.changer.conduct.ChangerConduct.gain.Goals as goal
 
 pub returns-clause-small : goal.returns-clause-small

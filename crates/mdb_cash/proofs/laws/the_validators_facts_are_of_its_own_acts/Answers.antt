@@ -1,8 +1,0 @@
-use Rattle.mdb_cash.specs.shared.BillWays.{same_facts, same_unvalued}
-use Rattle.mdb_cash.proofs.laws.the_validators_facts_are_of_its_own_acts.Goals as goal
-
-pub returns-clause-known : goal.returns-clause-known
-returns-clause-known c = same_facts
-
-pub returns-clause-unvalued : goal.returns-clause-unvalued
-returns-clause-unvalued c = same_unvalued
