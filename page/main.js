@@ -1,6 +1,6 @@
 // @ts-check
 // Puts the parts of the page together, and takes its own events.
-import {start} from "./checker/checker.js";
+import {start, warmUp} from "./checker/checker.js";
 import {forgetClock} from "./clock.js";
 import {by, h} from "./elements.js";
 import {examplesSection, take} from "./files/files.js";
@@ -89,4 +89,4 @@ by("part-go").addEventListener("click", checkPart);
 by("setups").addEventListener("input", () => showSetupFault(null));
 forgetClock();
 showWay();
-start().catch((fault) => trouble(fault.message, false));
+start().then(warmUp, (fault) => trouble(fault.message, false));

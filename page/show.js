@@ -3,30 +3,38 @@
 import {showVerdict} from "./card/card.js";
 import {faultSection} from "./card/fault.js";
 import {takeUnjudged} from "./card/unjudged.js";
-import {noteSetups} from "./checker/acts.js";
-import {ANSWERS, asAtFirst, asRead} from "./checker/answers.js";
+import {Acts, noteSetups} from "./checker/acts.js";
+import {ANSWERS, asAtFirst, reportOf} from "./checker/answers.js";
 import {clock, setClock, startClock} from "./clock.js";
 import {announce, by} from "./elements.js";
 import {figures, recordSection, showSum} from "./files/evidence.js";
 import {actsSection, drawActs} from "./list/acts.js";
 import {actsPlace, contents, jumpBar, putActsPlace} from "./list/jumps.js";
-import {tellSection} from "./list/statement.js";
+import {statementOf, tellSection} from "./list/statement.js";
 import {timeSection} from "./list/timeline.js";
 import {beforeSection, devicesSection, moneySection} from "./money/money.js";
+import {openMoneyOf} from "./money/open-list.js";
 import {noteUntold} from "./money/untold.js";
 import {isWorking, state} from "./run/now.js";
 import {addSurvey} from "./survey/survey.js";
 
-function takeActs(it) {
-  Object.assign(it, asRead(it));
+// Looks at the acts of an answer, which may not be there yet.
+/** @type {(it: Answer) => void} */
+export function lookAt(it) {
+  it.list = new Acts(it.acts, it.listed);
   noteSetups(it.list, it.way.given, it.hole, it.found);
   noteUntold(it.list, it.found);
-  takeUnjudged(it);
+  statementOf(it);
+  openMoneyOf(it);
 }
 
 /** @type {(it: Answer) => void} */
 export function show(it) {
-  if (!it.list) takeActs(it);
+  if (!it.list) lookAt(it);
+  if (!("report" in it)) {
+    it.report = reportOf(it);
+    takeUnjudged(it);
+  }
   startClock(it);
   const parts = [];
   showVerdict(asAtFirst(it));

@@ -62,8 +62,9 @@ async function judged(bytes, options) {
   wasm = undefined;
   Object.assign(layout, worker.layout);
   for (const {told, news} of heard) if (told === "news") addPiece(found, news);
-  const {acts, lines, ms, ...said} = heard.find(({told}) => told === "done" || told === "fault");
-  return {said, state: {found, list: acts && new Acts(acts, said.listed)}};
+  const {acts, ...listing} = heard.find(({told}) => told === "listed") ?? {};
+  const {lines, ms, ...told} = heard.find(({told}) => told === "done" || told === "fault");
+  return {said: {...listing, ...told}, state: {found, list: acts && new Acts(acts, listing.listed)}};
 }
 
 // A survey of the recording that was judged last, so many faults at a time.

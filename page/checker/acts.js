@@ -13,8 +13,8 @@ export const ASK = 0, ACK = 1, NAK = 2, REPLY = 3, VMC_ACK = 4, VMC_NAK = 5, VMC
              BREAK = 9, CUT = 10;
 // The address byte of POLL, by device.
 export const POLLS = [0, 0x0B, 0x33, 0x12, 0x62];
-// A block has so many words at most.
-const MOST_WORDS = 36;
+// A block has so many words at most, and an answer that tells a set-up so many at least.
+const MOST_WORDS = 36, SHORTEST_SETUP = 8;
 
 /** @type {(bytes: ByteList, i: number) => number} */
 export const two = (bytes, i) => bytes[i] * 256 + bytes[i + 1];
@@ -132,8 +132,8 @@ export function worth(setup, type) {
 
 // The set-up that an answer of a device tells, if it tells one. `at` is the act that it is.
 function setupIn(acts, at) {
+  if (acts.kind(at) !== REPLY || acts.bytes(at).length < SHORTEST_SETUP) return null;
   const device = acts.device(at);
-  if (acts.kind(at) !== REPLY || !device) return null;
   const ask = acts.askOf(at), command = ask >= 0 ? acts.byte(ask, 0) : 0;
   const isTold = device > 2 || command === (device === 1 ? 0x09 : 0x31);
   return isTold ? readSetup(device, acts.bytes(at), acts.reading(at)) : null;

@@ -17,13 +17,12 @@ export const ANSWERS = {
 /** @type {(it: Answer) => boolean} */
 export const isUnfollowedEnd = ({answer, text}) => answer === ANSWERS.NO && readReport(text).rule === "Profile";
 
+/** @type {(told: Answer) => Report | null} */
+export const reportOf = ({answer, text}) => answer <= ANSWERS.NO ? readReport(text) : null;
+
 // An answer with what is read of it.
 /** @type {(told: Answer) => Answer} */
-export const asRead = (told) => ({
-  ...told,
-  list: new Acts(told.acts, told.listed),
-  report: told.answer <= ANSWERS.NO ? readReport(told.text) : null
-});
+export const asRead = (told) => ({...told, list: new Acts(told.acts, told.listed), report: reportOf(told)});
 
 // What is wrong with a row that is none, by the module's number of it.
 export const ROW_FAULTS = ["FieldCount", "BadTime", "BadLine", "BadValue"];

@@ -1,11 +1,11 @@
 // @ts-check
 // The module, and a worker that runs it on a recording.
-import {MODULE, WORKER} from "built";
+import {EXAMPLES, MODULE, WORKER} from "built";
 
 import {NO_BLOCK, SetupFault} from "../run/options.js";
 
 import {DEVICES} from "./acts.js";
-import {readLayout} from "./layout.js";
+import {layout, readLayout} from "./layout.js";
 import {addPiece, noNews} from "./news.js";
 
 // The module, once it is there.
@@ -66,23 +66,42 @@ export class Checker {
       addPiece(asked.found, data.news);
       return;
     }
+    if (data.told === "listed") {
+      asked.listing = {...data, found: asked.found};
+      asked.look?.(asked.listing);
+      return;
+    }
     this.waiting.delete(data.number);
     if (data.told === "done")
-      asked.done({...data, found: asked.found});
+      asked.done({found: asked.found, ...asked.listing, ...data});
     else
       asked.failed(data.device ? faultOf(data) : new Error(data.words));
   }
-  ask(message, progress) {
+  // `look` takes what is listed before the answer is there.
+  ask(message, progress, look) {
     const number = ++this.number, first = this.first;
     this.first = {};
     return new Promise((done, failed) => {
-      this.waiting.set(number, {done, failed, progress, found: noNews()});
+      this.waiting.set(number, {done, failed, progress, look, found: noNews()});
       this.worker.postMessage({...first, ...message, number});
     });
   }
   end() {
     URL.revokeObjectURL(this.url);
     this.worker.terminate();
+  }
+}
+
+// Runs the module on the examples, by the extended profile, so that the first recording takes less time: what the
+// browser compiled is of all workers.
+/** @type {() => Promise<void>} */
+export async function warmUp() {
+  const warm = new Uint8Array(layout.options.size);
+  warm[layout.options.extended] = 1;
+  for (const {name, text} of EXAMPLES) {
+    const it = new Checker(new File([text], name));
+    await it.ask({warm}).catch(() => {});
+    it.end();
   }
 }
 

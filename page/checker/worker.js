@@ -34,6 +34,8 @@ const MOST_RISES = 20000;
 const PIECE = 1 << 22;
 // So many bytes are checked first, to know how quick this computer is.
 const FRONT = 1 << 20;
+// For so many milliseconds the module runs before it is needed.
+const WARM_UP = 100;
 
 // A survey lists no acts. Its faults and its lines lie where those would.
 function surveyPlaces() {
@@ -143,7 +145,13 @@ function lines(offset, row) {
   return found;
 }
 
-// Checks the recording, and lists its acts and news. The page reads the news while the rows are checked.
+// Gives the page the acts, and what their rows order to be paid out. Its news have come before.
+function sayListed() {
+  const text = new Uint8Array(call.memory.buffer, at.text, size), {foreign, ...listing} = listAll();
+  say({told: "listed", ...listing, orders: ordersIn(text, foreign)}, moved(listing.acts));
+}
+
+// Lists the acts and news of the recording, and checks it. The page looks at the acts while the rows are checked.
 function judge(options) {
   setOptions(options);
   let most = 0;
@@ -153,7 +161,9 @@ function judge(options) {
     most = (performance.now() - begin) * (size / FRONT);
   }
   tell("Listing", 0, most);
-  const begin = performance.now(), {foreign, ...listing} = listAll(), listed = performance.now();
+  const begin = performance.now();
+  sayListed();
+  const listed = performance.now();
   tell("Checking", 0, most);
   const answer = check(size), end = told(), text = answer < 2 ? answerText() : "";
   const checked = performance.now();
@@ -172,16 +182,13 @@ function judge(options) {
     offset: end.offset,
     fault: end.fault,
     lines: stops ? lines(end.offset, end.row) : [],
-    ...listing,
-    orders: ordersIn(recording, foreign),
     // When the last row of the file began: what isn't read goes up to there.
     until: timeAt(recording, rowBefore(recording, size)),
     spoken: spokenIn(recording),
     size,
     ms: {read, check: checked - listed, before: summed - checked, list: listed - begin},
     memory: call.memory.buffer.byteLength
-  },
-      moved(listing.acts));
+  });
 }
 
 // What is told of the ranges that an answer left open, after that answer: what opens them, the sums if nothing was lost
@@ -192,6 +199,17 @@ function lookCloser({options, answer, length, devices}) {
   const replayed = replay(length), rises = answer === 0 ? listRises() : null;
   const weights = Object.fromEntries(devices.map((device) => [device, weigh(device, length)]));
   say({told: "done", replayed, rises, weights, ms: performance.now() - begin});
+}
+
+// Runs the module on the recording for a while: the browser compiles better what has run often.
+function warmUp(options) {
+  const begin = performance.now();
+  setOptions(options);
+  while (performance.now() - begin < WARM_UP) {
+    list(at.room, 0, at.roomNews);
+    check(size);
+  }
+  say({told: "done"});
 }
 
 // Whether the module takes one block of the options alone.
@@ -330,8 +348,10 @@ function sumUp() {
 
 // Answers what a message asks for. One that asks for nothing has the recording read for its checksum.
 /** @type {(asked: Record<string, any>) => void} */
-function answer({options, late, isDevice, closer, surveyed, relisted, about}) {
-  if (closer)
+function answer({options, warm, late, isDevice, closer, surveyed, relisted, about}) {
+  if (warm)
+    warmUp(warm);
+  else if (closer)
     lookCloser(closer);
   else if (surveyed)
     judgeSurvey(surveyed);

@@ -271,13 +271,11 @@ export function lacksWords(it) {
 // may mean something else.
 /** @type {(it: Answer) => OpenEntry[]} */
 export function openMoneyOf(it) {
-  if (it.openMoney) return it.openMoney;
   const cuts = it.cuts ?? (it.link.answer === ANSWERS.NO ? [it.link.row] : []);
-  const all = it.listed ?
+  it.openMoney ??= it.listed ?
       openMoney(it.list, {hole: it.hole, cuts, choices: choicesOf(it), orders: it.orders, lost: lostSales(it)}) :
       [];
-  it.openMoney = all.filter(({device}) => !device || device !== it.unjudged);
-  return it.openMoney;
+  return it.openMoney.filter(({device}) => !device || device !== it.unjudged);
 }
 
 // The rows at which a payout by the changer's choice ends the acts, or those of a survey.

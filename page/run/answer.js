@@ -5,15 +5,16 @@ import {Checker, module, start} from "../checker/checker.js";
 import {shownName} from "../texts.js";
 
 // What the module answers to a recording that is taken in a way. A no that a late beginning may explain is asked a
-// second time, as of a machine that was running already.
+// second time, as of a machine that was running already. `look` looks at what is listed before the answer is there.
 /**
  * @param {Checker} checker
  * @param {Way} way
  * @param {(it: Progress) => void} [progress]
+ * @param {(it: Answer) => void} [look]
  * @returns {Promise<Answer>}
  */
-export async function answerOf(checker, way, progress) {
-  const told = await checker.ask({options: way.bytes}, progress);
+export async function answerOf(checker, way, progress, look) {
+  const told = await checker.ask({options: way.bytes}, progress, (it) => look?.(Object.assign(it, {way})));
   const late = asksLate(told, way) ? await checker.ask({late: way.late.bytes, isDevice: told.row > 1}, progress) : null;
   return {...told, late, way};
 }

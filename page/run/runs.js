@@ -10,7 +10,7 @@ import {figures, showSum} from "../files/evidence.js";
 import {askToImport, recordingOf} from "../import/panel.js";
 import {beforeSection} from "../money/money.js";
 import {openDevices} from "../money/weights.js";
-import {show, showAgain} from "../show.js";
+import {lookAt, show, showAgain} from "../show.js";
 import {shownName} from "../texts.js";
 
 import {answerOf} from "./answer.js";
@@ -53,9 +53,8 @@ async function answerNow(isNow) {
   if (!isNow()) return null;
   const way = options(), isKept = !isFresh(way) && lastKey === way.key;
   lastKey = way.key;
-  const told = await answerOf(readyChecker(), way, (it) => {
-    if (isNow()) progress(it);
-  });
+  const ifNow = (then) => (it) => isNow() && then(it);
+  const told = await answerOf(readyChecker(), way, ifNow(progress), ifNow(lookAt));
   if (!isNow()) return null;
   return {...told, file, key: way.key, isKept, name: shownName(file.name), when: new Date(), sum: checker.sum};
 }
