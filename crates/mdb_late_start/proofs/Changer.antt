@@ -1,8 +1,5 @@
 -- What the changer does, it may do in mid-session: what is so of its conduct.
-use Rattle.std.proofs.Common.{◌≡◌, ◌⊎◌, inl, inr, ℕ, ◌<◌, true, false, List, [], ◌∷◌, refl, ap, sym, ◌∙◌, ◌&&◌, if◌then◌else◌, map}
-use Rattle.mdb_late_start.proofs.Words.{AllByRecursion, Command, Reply, Setups, IsReply, Beginning}
-use Rattle.mdb_late_start.proofs.Words.{Choice, Gains, kept_of, MayJoinLate, controller_gains}
-use Rattle.mdb_late_start.proofs.Words.{device_gains, in_slots, no_gains}
+use Rattle.mdb_late_start.proofs.Words.{◌≡◌, ◌⊎◌, inl, inr, ℕ, ◌<◌, true, false, List, [], ◌∷◌, refl, ap, sym, ◌∙◌, ◌&&◌, if◌then◌else◌, map, AllByRecursion, Command, Reply, Setups, IsReply, Beginning, Choice, Gains, kept_of, MayJoinLate, controller_gains, device_gains, in_slots, no_gains}
 use Rattle.mdb_msgs.specs.declared.command.Device.TheVariants as devices
 use Rattle.mdb_msgs.specs.declared.reply.Reply.TheVariants as replies
 use Rattle.mdb_late_start.proofs.Keepers.{AlsoSteps, IsEnabledIn, IsSteady, as_it_is, in_end, recorded, step_in_end, told_first, told_on}

@@ -1,19 +1,15 @@
 -- What is known of a device that keeps messages, in the end of a recording by itself and in the
 -- whole of it: what the end knows, the whole knows too, and a type that is enabled in the whole
 -- is enabled in the end. Lists of acts stand newest first.
-use Rattle.std.proofs.Common.{◌≡◌, ℕ, ◌<◌, Bool, true, false, not, ◌&&◌, ◌||◌, List, [], ◌∷◌, ◌++◌, Option, Some, None, refl, ap, sym, ◌∙◌, option_map, if◌then◌else◌}
+use Rattle.mdb_late_start.proofs.Words.{common_steps, arith, ◌≡◌, ℕ, ◌<◌, Bool, true, false, not, ◌&&◌, ◌||◌, List, [], ◌∷◌, ◌++◌, Option, Some, None, refl, ap, sym, ◌∙◌, option_map, list_any, append-nil, Command, Setups, Act, Beginning, PowerOn, Joined, profile_of, Part, has_reset, kept_of, Known, Is, known_before, last_list, last_told, or_else, unless_empty, IsNothingOr, first_of_three, Tables, known_by, acts_from, effect_by, known_past, powers_on, runs_on}
 use Rattle.std.specs.Prelude.{ltb}
-use Rattle.mdb_late_start.proofs.Words.{list_any, append-nil, Command, Setups, Act, Beginning}
-use Rattle.mdb_late_start.proofs.Words.{PowerOn, Joined, profile_of, Part, has_reset, kept_of}
-use Rattle.mdb_late_start.proofs.Words.{Known, Is, known_before, last_list, last_told, or_else}
-use Rattle.mdb_late_start.proofs.Words.{unless_empty, IsNothingOr, first_of_three}
+use Rattle.std.proofs.Math.Bool.{or-true}
 use Rattle.std.proofs.lemmas.Bool.{lt-ltb}
 use Rattle.std.proofs.lemmas.List.Folds.{list_any-append}
 use Rattle.mdb_machine.specs.declared.past.Effect.{Effect}
 use Rattle.mdb_machine.specs.Enabled.{disables, enabled_of, enables, known_enabled}
-use Rattle.mdb_machine.specs.Keeper.{KnownFacts, Tables, asked_by, effect_of, known_of, parts_by}
-use Rattle.mdb_machine.specs.Known.{Unknown, known_by}
-use Rattle.mdb_machine.specs.Past.{acts_from, effect_by, known_past, powers_on, runs_on}
+use Rattle.mdb_machine.specs.Keeper.{KnownFacts, asked_by, effect_of, known_of, parts_by}
+use Rattle.mdb_machine.specs.Known.{Unknown}
 
 -- what one knows, the other knows too
 abbrev pub Covers : {X : Type 0} → Known X → Known X → Type 0
@@ -47,15 +43,7 @@ from_end : (powers : Act → Bool) (later front : List Act) → list_any powers 
     → acts_from powers (later ++ front) ≡ acts_from powers later
 from_end powers [] front some = absurd cc
 from_end powers (act ∷ later) front some =
-    at_act (powers act) some (from_end powers later front)
-  where
-    at_act : (b : Bool) → (b || list_any powers later) ≡ true
-        → (list_any powers later ≡ true
-        → acts_from powers (later ++ front) ≡ acts_from powers later)
-        → act ∷ (if b then [] else acts_from powers (later ++ front))
-        ≡ act ∷ (if b then [] else acts_from powers later)
-    at_act true any more = refl
-    at_act false any more = ap (λ acts. act ∷ acts) (more any)
+    grind (arith, common_steps, from_end powers later front)
 
 -- after a boundary in the end, the device of the whole runs on no longer
 runs_no_more : (begins : Beginning) (ends : Act → Bool) (later front : List Act)
@@ -64,17 +52,12 @@ runs_no_more (PowerOn profile) ends later front some = refl
 runs_no_more (Joined setups profile) ends later front some =
     ap not (list_any-append ends later front ∙ ap (λ b. b || list_any ends front) some)
 
--- whatever the first is
-or_true : (b : Bool) → (b || true) ≡ true
-or_true true = refl
-or_true false = refl
-
 -- whether a type is enabled in the end, from whether it is in the whole: `any` is whether there is
 -- a boundary in the end
 end_enables : (any whole end runs full : Bool) → (any ≡ true → whole ≡ end)
     → (any ≡ true → runs ≡ false) → full ≡ true → (whole || (runs && full)) ≡ true
     → (end || (not any && full)) ≡ true
-end_enables false whole end runs full same stops ones is = rw ones (or_true end)
+end_enables false whole end runs full same stops ones is = rw ones (or-true end)
 end_enables true whole end runs full same stops ones is = rw (same refl, stops refl) at is
 
 -- whether a reset message is owed in the whole, from whether it is in the end

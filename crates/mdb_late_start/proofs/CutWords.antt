@@ -1,20 +1,55 @@
 -- The words of pieces where a transcript is cut: all but the first of a piece are foreign words,
--- and the first is one, or begins a block or a break.
-use Rattle.std.proofs.Common.{arith, sym, ◌∙◌, ◌≡◌, ◌++◌, ◌⊎◌, inl, inr, ℕ, List, [], ◌∷◌, ◌+◌, Option}
-use Rattle.mdb_late_start.proofs.Words.{AllByRecursion, Event, Break, Controller, Peripheral, Scope}
-use Rattle.mdb_late_start.proofs.Words.{IsBlockWord, IsForeign, IsForeignWord, Say, reply_words}
-use Rattle.mdb_late_start.proofs.Words.{IsBreakEvent, AreForeignWords, word_waits, block_waits}
-use Rattle.mdb_late_start.proofs.Words.{Profile, profile_of, rest_after}
-use Rattle.mdb_words.specs.declared.limits.TheConstants.{WORD_GAP_MIN}
-use Rattle.mdb_blocks.specs.Answer.{answer_word}
-use Rattle.mdb_blocks.specs.Block.{block_of, controller_words}
-use Rattle.mdb_blocks.specs.declared.answer.Answer.TheVariants as answers
-use Rattle.mdb_msgs.specs.Commands.{IsByte, command_bytes}
+-- and the first is one, or begins a block or a break. What is said is said where a recording begins
+-- otherwise, and where other levels were told before it.
+use Rattle.mdb_late_start.proofs.Words.{◌≡◌, inl, inr, ℕ, List, [], ◌∷◌, ◌++◌, Levels, Beginning, Scope, profile_of, Command, IsForeignOpening, Piece, Whole, AskTail, IsSaid, Asks, InAnswerTime, arith, sym, ◌∙◌, ◌⊎◌, ◌+◌, Option, AllByRecursion, Event, Break, Controller, IsBlockWord, IsForeign, IsForeignWord, Say, reply_words, IsBreakEvent, AreForeignWords, word_waits, block_waits, Profile, rest_after, ReplyTail, RepeatTail, Position, InForeign, MayCome, NotBefore, piece_events, Quiet, low_words, peripheral_foreign, answer_foreign, heard}
 use Rattle.mdb_bus.specs.declared.act.Act.TheVariants as acts
-use Rattle.mdb_bus.specs.ActLists.{Piece, Whole, AskTail, ReplyTail, RepeatTail, Position, InForeign, ForeignMayCome, IsSaid, MayCome, NotBefore, piece_events, Quiet}
+use Rattle.mdb_blocks.specs.Block.{block_of, controller_words}
+use Rattle.mdb_msgs.specs.Commands.{IsByte, command_bytes}
 use Rattle.mdb_msgs.proofs.CommandBytes.{begun_low, whole_low}
-use Rattle.mdb_bus.proofs.LeftOutWords.{low_words, peripheral_foreign, answer_foreign}
-use Rattle.mdb_bus.proofs.Lists.{heard}
+
+-- a recording that begins so, with these levels told before, and with the same devices left out
+abbrev pub begun_so : Beginning → Levels → Scope → Scope
+begun_so begins levels scope =
+    record { begins = begins; without = scope.without; levels = levels }
+
+module _ (begins : Beginning) (levels : Levels) (scope : Scope)
+    (same : profile_of begins ≡ profile_of scope.begins) where
+  -- a foreign opening is one in such a recording, too
+  opening_stays : (bytes : List ℕ) → IsForeignOpening scope bytes
+      → IsForeignOpening (begun_so begins levels scope) bytes
+  opening_stays (first ∷ []) opening = rw same opening
+  opening_stays (first ∷ second ∷ []) opening = rw same opening
+  opening_stays bytes opening = opening
+
+  -- what spells a command does so
+  asks_stays : (command : Command) (bytes : List ℕ) → Asks scope command bytes
+      → Asks (begun_so begins levels scope) command bytes
+  asks_stays command bytes asks = record {
+    spells = asks.spells;
+    known = rw same asks.known;
+    followed = asks.followed;
+  }
+
+  -- and all that is said
+  pub said_stays : (piece : Piece) → IsSaid scope piece
+      → IsSaid (begun_so begins levels scope) piece
+  said_stays (Whole (acts.Ask command) events) said = (asks_stays command _ said.0, said.1)
+  said_stays (Whole acts.Foreign events) (inl opens) =
+      inl (opens.0, opening_stays opens.0 opens.1, opens.2)
+  said_stays (Whole acts.Foreign events) (inr further) = inr further
+  said_stays (Whole (acts.Break length) events) said = (said.0, said.1, rw same said.2)
+  said_stays (AskTail bytes events) said =
+      let front = said.0 in (
+        record {
+          some = front.some;
+          command = front.command;
+          rest = front.rest;
+          open_end = front.open_end;
+          spelled = asks_stays front.command (bytes ++ front.rest) front.spelled;
+        },
+        said.1,
+      )
+  said_stays piece said = said
 
 -- so are those of two lists together
 pub foreign_both : (events others : List Event) → AreForeignWords events → AreForeignWords others
@@ -54,15 +89,6 @@ foreign_others scope first others (inl (byte ∷ next ∷ third ∷ bytes, openi
 foreign_others scope first others (inr further) =
     let alone : [] ≡ others = cc further.1 in rw (← alone) tt
 
--- How a piece may go on from a cut: all its events but the first are foreign words, and the first
--- is one, too, or the piece may come in foreign traffic, and begins anew.
-pub record Kind (profile : Profile) (piece : Piece) (from : Option Event) (first : Event)
-    (others : List Event)
-    : Type 0 where
-  pub words : AreForeignWords others
-  pub way : (IsForeignWord first × NotBefore (rest_after from) from first)
-      ⊎ ((IsBlockWord first ⊎ IsBreakEvent first) × MayCome profile piece InForeign from first)
-
 -- a piece is a foreign act
 abbrev pub IsForeignAct : Piece → Type 0
 IsForeignAct (Whole acts.Foreign events) = Unit {0}
@@ -74,19 +100,33 @@ IsFree Quiet = Unit {0}
 IsFree InForeign = Unit {0}
 IsFree position = ⊥
 
+-- How a piece may go on from a cut: all its events but the first are foreign words. The first is
+-- one, too, and where nothing else is open the piece is a further foreign act. Or the piece may
+-- come in foreign traffic, and begins anew.
+pub record Kind (profile : Profile) (piece : Piece) (position : Position) (from : Option Event)
+    (first : Event) (others : List Event) : Type 0 where
+  pub words : AreForeignWords others
+  pub way : (IsForeignWord first × NotBefore (rest_after from) from first
+      × (IsFree position → IsForeignAct piece × (position ≡ InForeign)))
+      ⊎ ((IsBlockWord first ⊎ IsBreakEvent first) × MayCome profile piece InForeign from first)
+
 -- each piece is of such a kind
 module _ (scope : Scope) (position : Position) (from : Option Event) (first : Event)
     (others : List Event) where
   abbrev profile : Profile
   profile = profile_of scope.begins
 
-  -- a piece of foreign words goes on as these
-  plain : (piece : Piece) → piece_events piece ≡ first ∷ others
-      → AreForeignWords (piece_events piece) → NotBefore WORD_GAP_MIN from first
-      → Kind profile piece from first others
-  plain piece are words late =
+  -- a piece of foreign words goes on as these, where it answers something
+  plain : {other : Position} (piece : Piece) → piece_events piece ≡ first ∷ others
+      → AreForeignWords (piece_events piece) → (position ≡ other) × InAnswerTime profile from first
+      → (IsFree other → IsForeignAct piece × (position ≡ InForeign))
+      → Kind profile piece position from first others
+  plain piece are words comes busy =
       let its : AreForeignWords (first ∷ others) = rw are at words in
-      record { words = its.1; way = inl (its.0, word_waits from first late) }
+      record {
+        words = its.1;
+        way = inl (its.0, word_waits from first comes.1.0, λ free. busy (rw comes.0 at free));
+      }
 
   -- a block begins anew
   block : (bytes : List ℕ) (events : List Event) → events ≡ first ∷ others
@@ -96,16 +136,8 @@ module _ (scope : Scope) (position : Position) (from : Option Event) (first : Ev
       let its : Say Controller (controller_words bytes) (first ∷ others) = rw are at says in
       (block_words bytes first others low its, block_begins bytes first others its)
 
-  -- a foreign act may come in foreign traffic where it opens a block, and is a foreign word else
-  foreign_way : ForeignMayCome profile position from first
-      → (IsForeignWord first × NotBefore (rest_after from) from first)
-      ⊎ ((IsBlockWord first ⊎ IsBreakEvent first) × ForeignMayCome profile InForeign from first)
-  foreign_way (inl opens) =
-      inr (inl opens.0, inl (opens.0, block_waits profile position from first opens.1))
-  foreign_way (inr further) = inl (further.0, further.2)
-
   pub kind : (piece : Piece) → IsSaid scope piece → piece_events piece ≡ first ∷ others
-      → MayCome profile piece position from first → Kind profile piece from first others
+      → MayCome profile piece position from first → Kind profile piece position from first others
   kind (Whole (acts.Ask command) events) said are comes =
       let bytes = block_of (command_bytes command) in
       let its = block bytes events are (whole_low command bytes said.0.spells) said.1 in
@@ -113,23 +145,27 @@ module _ (scope : Scope) (position : Position) (from : Option Event) (first : Ev
         words = its.0;
         way = inr (inl its.1, block_waits profile position from first comes);
       }
-  kind (Whole (acts.Ack command) events) said are comes = plain _ are
-      (peripheral_foreign (answer_word Peripheral answers.Ack ∷ []) events said) comes.1.0
-  kind (Whole (acts.Nak command) events) said are comes = plain _ are
-      (peripheral_foreign (answer_word Peripheral answers.Nak ∷ []) events said) comes.1.0
+  kind (Whole (acts.Ack command) events) said are comes =
+      plain _ are (peripheral_foreign (_ ∷ []) events said) comes (λ free. absurd free)
+  kind (Whole (acts.Nak command) events) said are comes =
+      plain _ are (peripheral_foreign (_ ∷ []) events said) comes (λ free. absurd free)
   kind (Whole (acts.Reply command reply) events) said are comes =
-      plain _ are (peripheral_foreign (reply_words reply) events said.1) comes.1.0
-  kind (Whole (acts.VmcAck command reply) events) said are comes = plain _ are
-      (answer_foreign (answer_word Controller answers.Ack) events (omega arith) said) comes.1.0
-  kind (Whole (acts.VmcNak command reply) events) said are comes = plain _ are
-      (answer_foreign (answer_word Controller answers.Nak) events (omega arith) said) comes.1.0
-  kind (Whole (acts.VmcRet command reply) events) said are comes = plain _ are
-      (answer_foreign (answer_word Controller answers.Ret) events (omega arith) said) comes.1.0
+      plain _ are (peripheral_foreign (reply_words reply) events said.1) comes (λ free. absurd free)
+  kind (Whole (acts.VmcAck command reply) events) said are comes =
+      plain _ are (answer_foreign 0x00 events (omega arith) said) comes (λ free. absurd free)
+  kind (Whole (acts.VmcNak command reply) events) said are comes =
+      plain _ are (answer_foreign 0xFF events (omega arith) said) comes (λ free. absurd free)
+  kind (Whole (acts.VmcRet command reply) events) said are comes =
+      plain _ are (answer_foreign 0xAA events (omega arith) said) comes (λ free. absurd free)
   kind (Whole (acts.Repeat command reply) events) said are comes =
-      plain _ are (peripheral_foreign (reply_words reply) events said) comes.1.0
-  kind (Whole acts.Foreign events) said are comes = record {
+      plain _ are (peripheral_foreign (reply_words reply) events said) comes (λ free. absurd free)
+  kind (Whole acts.Foreign events) said are (inl opens) = record {
     words = foreign_others scope first others (rw are at said);
-    way = foreign_way comes;
+    way = inr (inl opens.0, inl (opens.0, block_waits profile position from first opens.1));
+  }
+  kind (Whole acts.Foreign events) said are (inr further) = record {
+    words = foreign_others scope first others (rw are at said);
+    way = inl (further.0, further.2, λ free. (tt, further.1));
   }
   kind (Whole (acts.Break length) events) said are comes =
       let is : first ∷ others ≡ Break said.0 length ∷ [] = sym are ∙ said.1 in
@@ -145,23 +181,16 @@ module _ (scope : Scope) (position : Position) (from : Option Event) (first : Ev
         way = inr (inl its.1, block_waits profile position from first comes);
       }
   kind (ReplyTail command bytes events) said are comes =
-      plain _ are (peripheral_foreign bytes events said.1) comes.1.0
+      plain _ are (peripheral_foreign bytes events said.1) comes (λ free. absurd free)
   kind (RepeatTail command reply words events) said are comes =
-      plain _ are (peripheral_foreign words events said.1) comes.1.0
+      plain _ are (peripheral_foreign words events said.1) comes (λ free. absurd free)
 
   -- where nothing is open a piece begins anew, or is a further word of foreign traffic
   pub first_anew : (piece : Piece) → IsSaid scope piece → piece_events piece ≡ first ∷ others
       → MayCome profile piece position from first → IsFree position
       → (IsBlockWord first ⊎ IsBreakEvent first)
       ⊎ (IsForeignAct piece × (position ≡ InForeign))
-  first_anew (Whole (acts.Ask command) events) said are comes free =
-      inl (inl (block_begins (block_of (command_bytes command)) first others (rw are at said.1)))
-  first_anew (Whole acts.Foreign events) said are (inl opens) free = inl (inl opens.0)
-  first_anew (Whole acts.Foreign events) said are (inr further) free = inr (tt, further.1)
-  first_anew (Whole (acts.Break length) events) said are comes free =
-      let is : first ∷ others ≡ Break said.0 length ∷ [] = sym are ∙ said.1 in
-      let same : first ≡ Break said.0 length = cc in
-      inl (inr (rw same tt))
-  first_anew (AskTail bytes events) said are comes free =
-      inl (inl (block_begins bytes first others (rw are at said.1)))
-  first_anew piece said are comes free = absurd (rw comes.0 at free)
+  first_anew piece said are comes free = elim (kind piece said are comes).way [
+    | inl further ↦ inr (further.2 free)
+    | inr anew ↦ inl anew.0
+  ]

@@ -1,38 +1,27 @@
 -- The end of a transcript has an act list of its own, as a recording that begins in mid-session:
 -- the pieces that begin in it stand there as they stood, and what is left of the others stands as
 -- foreign words.
-use Rattle.std.proofs.Common.{ap, refl, sym, subst, ◌∙◌, ◌≡◌, ◌≢◌, ◌++◌, ◌⊎◌, arith, inl, inr, List, [], ◌∷◌, All, Option, Some, None, append_assoc, ℕ}
-use Rattle.mdb_late_start.proofs.Words
-use Words.{append-nil, AllByRecursion, All-from_recursion, Event, Word, Break, Controller, Setups}
-use Words.{Joined, Scope, IsBlockWord, IsForeignWord, with_foreign, levels_before, no_levels}
-use Words.{profile_of, BeginAnew, IsBreakEvent, SplitsAt, joined_with, IsNothingOr, last_push}
-use Words.{foreign_rows, AreForeignWords, word_waits, answer_most, rest_after, Profile}
+use Rattle.mdb_late_start.proofs.Words.{MayBeReadAlone, ap, refl, sym, subst, ◌∙◌, ◌≡◌, ◌≢◌, ◌++◌, ◌⊎◌, arith, inl, inr, List, [], ◌∷◌, All, Option, Some, None, append_assoc, ℕ, append-nil, AllByRecursion, All-from_recursion, Event, Word, Break, Controller, Setups, Joined, Scope, IsBlockWord, IsForeignWord, with_foreign, levels_before, no_levels, profile_of, BeginAnew, IsBreakEvent, SplitsAt, joined_with, IsNothingOr, last_push, foreign_rows, AreForeignWords, word_waits, rest_after, Profile, Piece, Whole, Position, InAsk, InForeign, ArePieces, AreSpaced, BlockMayCome, IsActList, MayCome, NotBefore, PieceFits, events_of, last_of, levels_of, piece_events, position_of, NotPast}
 use Rattle.mdb_bus.specs.declared.act.Act.TheVariants as acts
-use Rattle.mdb_bus.specs.ActLists.{Piece, Whole, AskTail, Position, InAsk, InReply, InRepeat, InForeign, ArePieces, AreSpaced, BlockMayCome, IsActList, MayCome, NotBefore, PieceFits, events_of, last_of, levels_of, piece_events, position_of, NotPast}
-use Rattle.mdb_late_start.proofs.CutWords.{Kind, foreign_both, foreign_end, kind}
-use Rattle.mdb_late_start.proofs.Said.{said_stays}
+use Rattle.mdb_late_start.proofs.CutWords.{Kind, foreign_both, foreign_end, kind, said_stays}
 
 -- A list of two parts is divided at another place: in the first part, or after an element of the
 -- second.
 abbrev IsDivided : {X : Type 0} → List X → List X → List X → List X → Type 0
 IsDivided {X = X} xs ys front end =
     ((middle : List X) × (xs ≡ front ++ middle) × (end ≡ middle ++ ys))
-    ⊎ ((x : X) × (middle : List X) × (front ≡ xs ++ x ∷ middle) × (ys ≡ x ∷ middle ++ end))
-
--- so are lists with one element more in front
-divided_later : {X : Type 0} (x y : X) (xs ys front end : List X) → x ≡ y
-    → IsDivided xs ys front end → IsDivided (x ∷ xs) ys (y ∷ front) end
-divided_later x y xs ys front end same (inl (middle, before, after)) = inl (middle, cc, after)
-divided_later x y xs ys front end same (inr (z, middle, before, after)) = inr (z, middle, cc, after)
+    ⊎ ((x : X) × (middle : List X) × (ys ≡ x ∷ middle ++ end))
 
 -- a list that is put together in two ways is divided so
 divide : {X : Type 0} (xs ys front end : List X) → xs ++ ys ≡ front ++ end
     → IsDivided xs ys front end
 divide [] ys [] end is = inl ([], refl, sym is)
-divide [] ys (y ∷ front) end is = inr (y, front, refl, is)
+divide [] ys (y ∷ front) end is = inr (y, front, is)
 divide (x ∷ xs) ys [] end is = inl (x ∷ xs, refl, sym is)
-divide (x ∷ xs) ys (y ∷ front) end is =
-    divided_later x y xs ys front end (cc) (divide xs ys front end (cc))
+divide (x ∷ xs) ys (y ∷ front) end is = elim (divide xs ys front end (cc)) [
+  | inl (middle, before, after) ↦ inl (middle, cc, after)
+  | inr inside ↦ inr inside
+]
 
 -- what is the same is none or the same
 pub none_or_same : {X : Type 0} (here : Option X) → IsNothingOr here here
@@ -50,9 +39,7 @@ last_in_end (x ∷ y ∷ front) end = last_in_end (y ∷ front) end
 block_first : (profile : Profile) (position : Position) (from : Option Event) (to : Event)
     → BlockMayCome profile position from to → BlockMayCome profile position None to
 block_first profile (InAsk bytes) from to comes = comes
-block_first profile (InReply command bytes) from to comes = comes
-block_first profile (InRepeat command reply words) from to comes = comes
-block_first profile position from to comes = tt
+block_first profile position from to comes = search
 
 -- a word in time is in time where none stands before it
 none_late : (most : Option ℕ) (to : Event) → NotPast most None to
@@ -62,17 +49,11 @@ none_late (Some most) to = tt
 -- and so may each piece
 comes_first : (profile : Profile) (piece : Piece) (position : Position) (from : Option Event)
     (to : Event) → MayCome profile piece position from to → MayCome profile piece position None to
-comes_first profile (Whole (acts.Ask command) events) position from to comes =
-    block_first profile position from to comes
 comes_first profile (Whole acts.Foreign events) position from to (inl opens) =
     inl (opens.0, block_first profile position from to opens.1)
 comes_first profile (Whole acts.Foreign events) position from to (inr further) =
     inr (further.0, further.1, tt)
-comes_first profile (Whole (acts.Break length) events) position from to comes = tt
-comes_first profile (AskTail bytes events) position from to comes =
-    block_first profile position from to comes
-comes_first profile piece position from to comes =
-    (comes.0, (tt, none_late (answer_most profile) to))
+comes_first profile piece position from to comes = search (arith, block_first, none_late)
 
 -- so it may come after no row, or the same
 comes_after : (profile : Profile) (piece : Piece) (position : Position) (here there : Option Event)
@@ -195,8 +176,8 @@ module _ (scope : Scope) where
 
   module _ (piece : Piece) (pieces : List Piece) (are : ArePieces scope (piece ∷ pieces)) where
     -- how a piece may go on from a cut
-    its_kind : Kind (profile_of scope.begins) piece (last_of (events_of pieces)) are.1.first
-        are.1.others
+    its_kind : Kind (profile_of scope.begins) piece (position_of scope pieces)
+        (last_of (events_of pieces)) are.1.first are.1.others
     its_kind = kind scope (position_of scope pieces) (last_of (events_of pieces)) are.1.first
         are.1.others piece are.0.said are.1.begins are.1.comes
 
@@ -237,7 +218,7 @@ module _ (scope : Scope) where
             order = ap (λ ps. piece ∷ ps) passed.order;
             rows = passed.rows;
           }
-      pass_on earlier (inr (event, middle, rows, ends)) =
+      pass_on earlier (inr (event, middle, ends)) =
           absurd (goes_on middle end (words_inside piece pieces are event middle end ends) anew)
 
 module _ (scope : Scope) (setups : Setups) where
@@ -434,7 +415,7 @@ module _ (scope : Scope) (setups : Setups) where
           let cut = earlier middle (its ++ more) (parts ∙ append_assoc middle its more) rows in
           rw ends (stands_in_end front middle piece pieces are cut rows
           (fit middle more piece pieces parts cut are) cut.later refl)
-      cut_on earlier (inr (event, middle, rows, ends)) =
+      cut_on earlier (inr (event, middle, ends)) =
           cut_inside front end piece pieces are whole event middle ends
 
   -- the end of a transcript has an act list of its own, where all pieces fit
@@ -454,3 +435,9 @@ module _ (scope : Scope) (setups : Setups) where
         act_list = record { in_order = cut.stand; whole = cut.whole };
         clean = λ anew. none_anew cut.words (events_of cut.later) cut.foreign (rw rows at anew);
       }
+
+-- what the law of cuts says
+abbrev pub CutsLaw : Type 0
+CutsLaw = (scope : Scope) (setups : Setups) (front end : List Event) (pieces : List Piece)
+    → MayBeReadAlone scope setups front end → IsActList scope pieces (front ++ end)
+    → SplitsAt scope setups front end pieces

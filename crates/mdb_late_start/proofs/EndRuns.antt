@@ -1,17 +1,9 @@
 -- Runs of ends. Lists of pieces are written newest first, lists of events oldest first.
-use Rattle.std.proofs.Common.{ap, sym, ◌∙◌, ◌≡◌, ◌++◌, List, [], ◌∷◌}
-use Rattle.mdb_late_start.proofs.Words
-use Words.{append-nil, append_cancel_right, Event, Device, Setups, Levels, Beginning, Joined, Scope}
-use Words.{with_foreign, no_levels, profile_of, Arrives, machine_of, unvalued_of, AllSums}
-use Words.{IsReached, Run, States, Sums, MayBeReadAlone, BeginAnew, Passes, both_sums}
-use Words.{TellsOnlyWhatIsSo, AreToldBy, WereTold, told_later, EndLaws}
-use Rattle.mdb_bus.specs.ActLists.{Piece, Whole, ArePieces, IsActList, acts_of}
+use Rattle.mdb_late_start.proofs.Words.{ap, sym, ◌∙◌, ◌≡◌, ◌++◌, List, [], ◌∷◌, append-nil, append_cancel_right, Event, Device, Setups, Levels, Joined, Scope, with_foreign, no_levels, profile_of, unvalued_of, AllSums, IsReached, Run, States, MayBeReadAlone, BeginAnew, Passes, both_sums, TellsOnlyWhatIsSo, AreToldBy, WereTold, told_later, EndLaws, Piece, ArePieces, IsActList, acts_of}
 use Rattle.mdb_follow.specs.Tables.{EachArrives}
-use Rattle.mdb_late_start.proofs.Answering.{all_answer}
-use Rattle.mdb_late_start.proofs.Foreign.{after_foreign, words_are}
+use Rattle.mdb_late_start.proofs.InEnds.{all_answer, in_end, acts_in_two, in_two, after_foreign, words_are}
 use Rattle.mdb_late_start.proofs.Cutting.{pass_at}
-use Rattle.mdb_late_start.proofs.InEnds.{AllName, InEnd, holds_there, in_end, name_later}
-use Rattle.mdb_late_start.proofs.Onward.{acts_in_two, all_in_two, each_goes_on, in_two}
+use Rattle.mdb_late_start.proofs.ToldCuts.{front_list}
 
 -- pieces in front are in order
 pub front_in_order : (scope : Scope) (later before : List Piece)
@@ -25,7 +17,7 @@ pub passes_front : (scope : Scope) (front end : List Event) (sums : AllSums)
     → Passes scope (front ++ end) sums run front
 passes_front scope front end sums run anew =
     let cut = pass_at scope run.pieces front end run.act_list.in_order run.act_list.whole anew in
-    let two = all_in_two scope.begins run.loss cut.later cut.before run.states sums
+    let two = in_two scope.begins run.loss cut.later cut.before run.states sums
     (rw cut.order at run.way) in
     record {
       later = cut.later;
@@ -39,14 +31,6 @@ passes_front scope front end sums run anew =
     }
 
 module _ (laws : EndLaws) where
-  -- acts of pieces in order name replies of their commands
-  pub all_name : (scope : Scope) (pieces : List Piece) → ArePieces scope pieces
-      → AllName (acts_of pieces)
-  all_name scope [] are = tt
-  all_name scope (Whole act events ∷ pieces) are =
-      (laws.names scope act events pieces are, all_name scope pieces are.2)
-  all_name scope (piece ∷ pieces) are = all_name scope pieces are.2
-
   -- a run of an act list, by ways of each device
   pub run_by : (scope : Scope) (rows : List Event) (pieces : List Piece) (states : States)
       (sums : AllSums) → IsActList scope pieces rows
@@ -61,25 +45,6 @@ module _ (laws : EndLaws) where
         states = states;
         way = found.2;
       }
-
-  -- the way of a device in an end that begins with foreign words
-  its_way : (begins : Beginning) (setups : Setups) (device : Device) (later before : List Piece)
-      (words : List Event) (states : States) (sums : AllSums) → AllName (acts_of later)
-      → EachArrives begins (acts_of (later ++ before)) states sums
-      → (gained : Sums) × Arrives (machine_of (Joined setups (profile_of begins)) device)
-      (acts_of (later ++ with_foreign words [])) (states device) gained
-  its_way begins setups device later before words states sums name ways =
-      let two = in_two (machine_of begins device) (acts_of later) (acts_of before) (states device)
-      (sums device) (rw (acts_in_two later before) at (ways device)) in
-      let law = laws.stays begins setups device in
-      let end = in_end begins setups device law (acts_of before) (acts_of later) two.from
-      two.sums_from (states device) (sums device) name (holds_there begins setups device law
-      (acts_of before) two.from two.sums_from two.way) two.onward in (
-        end.gained,
-        rw (acts_in_two later (with_foreign words [])) (after_foreign device setups
-            (profile_of begins) (with_foreign words []) (words_are words [] tt) (acts_of later)
-            (states device) end.gained end.way),
-      )
 
   module _ (scope : Scope) (setups : Setups) where
     -- no levels were told, in front of any end of rows that are reached
@@ -97,23 +62,22 @@ module _ (laws : EndLaws) where
         → IsReached scope (front ++ end) → WereTold scope setups levels front end
         → IsReached (told_later setups levels scope) end
     end_reached levels front end (sums, run) told =
-        let new = told_later setups levels scope in
         let cut = told.cut in
-        let pieces : List Piece = cut.later ++ with_foreign cut.words [] in
         let order = laws.one scope (front ++ end) run.pieces told.pieces run.act_list told.act_list
         ∙ cut.order in
-        let ways = rw order at (laws.splits scope.begins run.loss run.pieces run.states sums
-        run.way) in
-        let list = laws.told scope setups levels front end told.pieces told.act_list cut
-        told.in_front in
-        let name = name_later (acts_of cut.later) (acts_of (with_foreign cut.words []))
-        (rw (acts_in_two cut.later (with_foreign cut.words [])) at (all_name new pieces
-        list.in_order)) in
-        let each = λ (device : Device). its_way scope.begins setups device cut.later cut.before
-        cut.words run.states sums name ways in (
-          (λ device. (each device).0),
-          run_by new end pieces run.states (λ device. (each device).0) list
-              (λ device. (each device).1),
+        let two = in_two scope.begins run.loss cut.later cut.before run.states sums
+        (rw order at run.way) in
+        let each = λ (device : Device). in_end laws scope setups device run.loss cut.before two.from
+        two.sums_from two.way cut.later run.states sums (rw order at run.act_list.in_order)
+        two.onward in
+        let foreign : List Piece = with_foreign cut.words [] in
+        let gained : AllSums = λ device. (each device).gained in (
+          gained,
+          run_by (told_later setups levels scope) end (cut.later ++ foreign) run.states gained
+              (laws.told scope setups levels front end told.pieces told.act_list cut told.in_front)
+              (λ device. rw (acts_in_two cut.later foreign) (after_foreign device setups
+              (profile_of scope.begins) foreign (words_are cut.words [] tt) (acts_of cut.later)
+              (run.states device) (gained device) (each device).way)),
         )
 
     -- where the end begins anew
@@ -128,22 +92,15 @@ module _ (laws : EndLaws) where
       pub later_pieces : IsActList new passes.later end
       later_pieces =
           let cut = laws.splits_rows scope setups front end run.pieces may run.act_list in
-          let none = cut.clean anew in
-          let before : passes.before ≡ cut.before = laws.one scope front passes.before cut.before
-          (record {
+          let before = laws.one scope front passes.before cut.before (record {
             in_order = front_in_order scope passes.later passes.before
                 (rw passes.order at run.act_list.in_order);
             whole = passes.rows_before;
-          }) (record {
-            in_order = cut.in_front;
-            whole = cut.rows ∙ ap (λ ws. front ++ ws) none ∙ append-nil front;
-          }) in
+          }) (front_list cut anew) in
           let later = append_cancel_right cut.later passes.later cut.before
           (sym cut.order ∙ passes.order ∙ ap (λ ps. passes.later ++ ps) before) in
-          let there = laws.told scope setups levels front end run.pieces run.act_list cut
-          (rw before at told) in
-          let clean = rw none at there in
-          rw (append-nil cut.later ∙ later) at clean
+          rw (cut.clean anew, append-nil cut.later ∙ later) at (laws.told scope setups levels front
+          end run.pieces run.act_list cut (rw before at told))
 
       -- one run of the end gains what the whole run gains there
       pub gained_there : (gained : AllSums) × Run new end gained
@@ -152,23 +109,12 @@ module _ (laws : EndLaws) where
           → unvalued_of (Joined setups (profile_of scope.begins)) device (acts_of passes.later) ≡ 0
           → sums device ≡ both_sums (passes.sums_then device) (gained device))
       gained_there =
-          let begins : Beginning = scope.begins in
-          let fronts = laws.splits begins run.loss passes.before passes.states_then
-          passes.sums_then passes.way in
-          let each : (device : Device) → InEnd begins setups device (acts_of passes.later)
-          (acts_of passes.before) (passes.sums_then device) (run.states device) (sums device) =
-          λ device. in_end begins setups device (laws.stays begins setups device)
-          (acts_of passes.before) (acts_of passes.later) (passes.states_then device)
-          (passes.sums_then device) (run.states device) (sums device)
-          (all_name new passes.later later_pieces.in_order)
-          (holds_there begins setups device (laws.stays begins setups device)
-          (acts_of passes.before) (passes.states_then device) (passes.sums_then device)
-          (fronts device))
-          (each_goes_on begins run.loss passes.before passes.later passes.states_then
-          passes.sums_then run.states sums passes.onward device) in (
-            (λ device. (each device).gained),
-            run_by new end passes.later run.states (λ device. (each device).gained) later_pieces
+          let each = λ (device : Device). in_end laws scope setups device run.loss passes.before
+          passes.states_then passes.sums_then passes.way passes.later run.states sums
+          (rw passes.order at run.act_list.in_order) passes.onward in
+          let gained : AllSums = λ device. (each device).gained in (
+            gained,
+            run_by new end passes.later run.states gained later_pieces
                 (λ device. (each device).way),
-            (λ device told none. (each device).same
-                (all_answer new passes.later later_pieces.in_order) told none),
+            λ device. (each device).same (all_answer new passes.later later_pieces.in_order),
           )

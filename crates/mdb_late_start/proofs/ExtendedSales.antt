@@ -1,14 +1,9 @@
 -- The sale under way in the end of a recording by itself, and in the whole recording, by the
 -- extended profile.
-use Rattle.std.proofs.Common.{◌≡◌, ℕ, Bool, true, false, not, ◌&&◌, List, [], ◌∷◌, Option, Some, refl, inl, inr, ap}
-use Rattle.mdb_late_start.proofs.Words.{ReaderCommand, ReaderMsg, ReaderConfig, Sale}
+use Rattle.mdb_late_start.proofs.Words.{◌≡◌, ℕ, Bool, true, false, not, ◌&&◌, List, [], ◌∷◌, Option, Some, refl, inl, inr, ap, ReaderCommand, ReaderMsg, ReaderConfig, Sale, Unawaited, Nothing, Awaited, Approved, Sold, sale_all_heard, sale_asked, sale_heard, unawaited, IsSale, approved_to, own_transaction, is_request}
 use Rattle.mdb_msgs.specs.declared.command.ReaderCommand.TheVariants as reader
 use Rattle.mdb_msgs.specs.declared.reply.reader.ReaderMsg.TheVariants as messages
-use Rattle.mdb_cashless.specs.declared.approvals.sale.Sale.TheVariants.{Unknown, Unawaited, Nothing, Awaited, Asked, Approved, Sold}
-use Rattle.mdb_cashless.specs.ExtendedFacts.{sale_all_heard, sale_asked, sale_heard, unawaited}
-use Rattle.mdb_cashless.specs.ExtendedReader.{IsSale, approved_to}
-use Rattle.mdb_cashless.specs.ReaderFacts.{own_transaction}
-use Rattle.mdb_cashless.specs.Transactions.{is_request}
+use Rattle.mdb_cashless.specs.declared.approvals.sale.Sale.TheVariants.{Unknown, Asked}
 
 -- How the sale stands in the whole (second), by how it stands in the end, where that asks no
 -- request.

@@ -1,30 +1,23 @@
 -- What a reader does in the course of a recording, it may do in the end of that by itself, by the
 -- extended profile. Lists of acts stand newest first.
-use Rattle.std.proofs.Common.{◌≡◌, ◌⊎◌, ℕ, Bool, true, false, not, ◌&&◌, ◌||◌, List, [], ◌∷◌, ◌++◌, Option, Some, None, drop, length, if◌then◌else◌, unwrap_or, refl, inl, inr, arith, ap, sym, subst, ◌∙◌}
-use Rattle.mdb_late_start.proofs.Words
-use Words.{is_none, Command, ReaderCommand, ReaderUnit, Reply, ReaderMsg, ReaderConfig, Setups}
-use Words.{config_known, Act, Beginning, PowerOn, Joined, profile_of, Choice, Again, Gains}
-use Words.{controller_gains, device_gains, in_slots, Known, known_before, last_told, or_else}
-use Words.{tells_out_of_sequence, one_if, Sale, value, asks_sale, messages_of, own, first_of_three}
+use Rattle.mdb_late_start.proofs.Words.{◌≡◌, ◌⊎◌, ℕ, Bool, true, false, not, ◌&&◌, ◌||◌, List, [], ◌∷◌, ◌++◌, Option, Some, None, drop, length, if◌then◌else◌, unwrap_or, refl, inl, inr, arith, ap, sym, subst, ◌∙◌, is_none, Command, ReaderCommand, ReaderUnit, Reply, ReaderMsg, ReaderConfig, Setups, config_known, Act, Beginning, PowerOn, Joined, profile_of, Choice, Again, Gains, controller_gains, device_gains, in_slots, Known, known_before, last_told, or_else, one_if, Sale, value, asks_sale, messages_of, own, first_of_three, Unawaited, Nothing, Awaited, Approved, Sold, approvals_in, facts_after, facts_of, IsEarlier, MayAsk, MaySell, approved_to, last_value, may_be_again, may_be_either, news, sold_by, amount_by, config_by, own_messages}
 use Rattle.std.proofs.Math.Seq.{drop-nil}
 use Rattle.mdb_msgs.specs.declared.command.ReaderCommand.TheVariants as reader
 use Rattle.mdb_msgs.specs.declared.reply.reader.ReaderMsg.TheVariants as messages
 use Rattle.mdb_bus.specs.declared.act.Act.TheVariants as acts
 use Rattle.mdb_machine.specs.KnownMore.{known_more}
-use Rattle.mdb_cashless.specs.declared.approvals.sale.Sale.TheVariants.{Unknown, Unawaited, Nothing, Awaited, Asked, Approved, Sold}
+use Rattle.mdb_cashless.specs.declared.approvals.sale.Sale.TheVariants.{Unknown, Asked}
 use Rattle.mdb_cashless.specs.declared.approvals.state.ApprovalState.{ApprovalState}
-use Rattle.mdb_cashless.specs.ExtendedFacts.{Facts, approvals_in, facts_after, facts_of}
-use Rattle.mdb_cashless.specs.ExtendedReader.{AckStep, AskStep, IsEarlier, MayAsk, MaySell, ReaderStep, ReplyStep, VmcAckStep, approved_to, last_value, may_be_again, may_be_either, news, read, sold, sold_by, worth}
+use Rattle.mdb_cashless.specs.ExtendedFacts.{Facts}
+use Rattle.mdb_cashless.specs.ExtendedReader.{AckStep, AskStep, ReaderStep, ReplyStep, VmcAckStep, read, sold, worth}
 use Rattle.mdb_cashless.specs.ExtendedAmounts.{unvalued, unvalued_by}
 use Rattle.mdb_cashless.specs.ReaderAmounts as reader_amounts
-use Rattle.mdb_cashless.specs.ReaderFacts.{amount_by, config_by, known_of, own_messages}
+use Rattle.mdb_cashless.specs.ReaderFacts.{known_of}
 use Rattle.mdb_late_start.proofs.Covering.{Covers as IsKnownToo}
 use Rattle.mdb_late_start.proofs.Keepers.{AlsoSteps, allowed_end, as_it_is, as_same, by_own}
 use Rattle.mdb_late_start.proofs.ExtendedSales.{IsEarlierSale, IsSaleThere, hears_here, there_asked, there_heard, there_nothing}
-use Rattle.mdb_late_start.proofs.ReaderCovers as covers
-use Rattle.mdb_late_start.proofs.ReaderCovers.{IsCounted}
+use Rattle.mdb_late_start.proofs.ReaderPrices.{IsCounted, counted as base_counted, AreSaidPriced, IsPriced, IsSalePriced, Prices, approvals, config_with, prices_known, same_prices}
 use Rattle.mdb_late_start.proofs.ReaderOtherwise.{some_approved}
-use Rattle.mdb_late_start.proofs.ReaderPrices.{AreSaidPriced, IsPriced, IsSalePriced, Prices, approvals, config_with, prices_known, same_prices}
 
 -- the prices after facts
 abbrev pub prices_of : Facts → Prices
@@ -246,14 +239,17 @@ module _ (here there : Facts) (known : Covers here there) where
 
   -- what an ask values has the same value
   abbrev pub IsAskAlike : ReaderCommand → Type 0
-  IsAskAlike its = (asks_sale (Some its) ≡ false)
-      ⊎ ((prices_of here ≡ prices_of there) × IsInEnd there.sale)
+  IsAskAlike its = IsAlike its × (asks_sale (Some its) ≡ true → IsInEnd there.sale)
 
   may_ask : (its : ReaderCommand) (its_worth : ℕ) → MayAsk there its its_worth
       → (other : ℕ) × MayAsk here its other × (IsAskAlike its → other ≡ its_worth)
   may_ask (reader.VendSuccess item) its_worth may =
-      let is = sells item here.earlier here.sale there.sale its_worth refl known.sale may in
-      (is.0, is.1, λ alike. elim alike [ inl none ↦ absurd cc | inr same ↦ is.2 same ])
+      let is = sells item here.earlier here.sale there.sale its_worth refl known.sale may in (
+        is.0,
+        is.1,
+        λ alike.
+            elim alike.0 [ inl none ↦ absurd cc | inr same ↦ is.2 (same, alike.1 refl) ],
+      )
   may_ask its its_worth may = (0, refl, λ alike. sym may)
 
   -- what the reader sold is the same
@@ -310,14 +306,10 @@ module _ (here there : Facts) (known : Covers here there) where
             to = step.to;
             gained = refl;
           };
-          same = λ alike.
-              let same_sale : sale ≡ sold_by there its reply start =
-              ap (λ n. if tells_out_of_sequence reply then 0 else n)
-              (same_sold its start alike.0) in
-              ap (λ n. device_gains (in_slots (n ∷ sale ∷ [])))
-              (same_new here there reply choice _ step.last step.new step.is_new alike.1)
-              ∙ ap (λ n. device_gains (in_slots (worth there reply step.new ∷ n ∷ []))) same_sale
-              ∙ sym step.gained;
+          same = λ alike. rw (
+            same_new here there reply choice _ step.last step.new step.is_new alike.1,
+            same_sold its start alike.0,
+          ) (sym step.gained);
         }
 
     vmc_ack_here : (reply : Reply) (choice : Choice)
@@ -330,21 +322,22 @@ module _ (here there : Facts) (known : Covers here there) where
         record {
           other = controller_gains (in_slots (approved_to here.config hears.0 said ∷ 0 ∷ []));
           step = (hears.0, hears.1, step.2, refl);
-          same = λ alike. ap (λ n. controller_gains (in_slots (n ∷ 0 ∷ [])))
-              (hears.2 here.config said ∙ same_heard here.config there.config said step.0 alike)
-              ∙ sym step.3;
+          same = λ alike. rw (
+            hears.2 here.config said,
+            same_heard here.config there.config said step.0 alike,
+          ) (sym step.3);
         }
 
     goes_here : (unit : ReaderUnit) (act : Act) (choice : Choice)
         → ReaderStep unit there act choice before after gains
         → AlsoSteps (ReaderStep unit here act choice before after) (IsActAlike unit act) gains
-    goes_here unit (acts.Ask c) choice step = by_own (own unit c) _ _ _ before after gains
+    goes_here unit (acts.Ask c) choice step = by_own (own unit c) _ _
         (λ its is ask. as_same (λ alike. alike its is) (ask_here its ask)) step
-    goes_here unit (acts.Ack c) choice step = by_own (own unit c) _ _ _ before after gains
+    goes_here unit (acts.Ack c) choice step = by_own (own unit c) _ _
         (λ its is ack. as_same (λ alike. alike its is) (ack_here its ack)) step
-    goes_here unit (acts.Reply c r) choice step = by_own (own unit c) _ _ _ before after gains
+    goes_here unit (acts.Reply c r) choice step = by_own (own unit c) _ _
         (λ its is reply. as_same (λ alike. alike its is) (reply_here r choice its reply)) step
-    goes_here unit (acts.VmcAck c r) choice step = by_own (own unit c) _ _ _ before after gains
+    goes_here unit (acts.VmcAck c r) choice step = by_own (own unit c) _ _
         (λ its is ack. as_same (λ alike. alike its is) (vmc_ack_here r choice ack)) step
     goes_here unit act choice step = as_it_is step
 
@@ -423,7 +416,7 @@ module _ (unit : ReaderUnit) (begins : Beginning) (setups : Setups) (later front
       (unvalued unit joined (act ∷ later))
       → IsPriced unit (prices_of here) (prices_of there) act
   counted_base act counted =
-      let its = covers.counted unit begins setups later front act (elim counted [
+      let its = base_counted unit begins setups later front act (elim counted [
         | inl (are, answers, none) ↦ inl (
           rw (as_base unit begins front).0 at are,
           answers,
@@ -433,29 +426,19 @@ module _ (unit : ReaderUnit) (begins : Beginning) (setups : Setups) (later front
       ]) in
       rw (prices_are unit joined later, prices_are unit begins (later ++ front)) its
 
-  ask_alike : (command : Command) (its : ReaderCommand) → own unit command ≡ Some its
-      → unvalued_by unit here (acts.Ask command) ≡ 0
-      → IsSalePriced (prices_of here) (prices_of there) its → IsAskAlike here there it its
-  ask_alike command its is none (inl no_sale) = inl no_sale
-  ask_alike command its is none (inr same) = by (asks_sale (Some its)) refl
-    where
-      by : (asks : Bool) → asks_sale (Some its) ≡ asks → IsAskAlike here there it its
-      by false no_sale = inl no_sale
-      by true asks =
-          inr (same, inl ((ask_valued unit joined command later none).1 (ap asks_sale is ∙ asks)))
-
   counted_alike : (act : Act)
       → IsCounted unit begins setups later front act (facts_of begins unit front).config
       (unvalued unit joined (act ∷ later))
       → IsActAlike here there it unit act
-  counted_alike (acts.Ask command) (inl (are, answers, none)) =
-      λ its is. ask_alike command its is (omega (arith, none))
-      (counted_base (acts.Ask command) (inl (are, answers, none)) its is)
-  counted_alike (acts.Ask command) (inr (power_on, empty, unknown)) =
-      λ its is. elim (counted_base (acts.Ask command) (inr (power_on, empty, unknown)) its is) [
-        | inl no_sale ↦ inl no_sale
-        | inr same ↦ inr (same, in_end here.earlier refl (in_whole later front power_on empty))
-      ]
+  counted_alike (acts.Ask command) (inl (are, answers, none)) = λ its is. (
+    counted_base (acts.Ask command) (inl (are, answers, none)) its is,
+    λ asks. inl ((ask_valued unit joined command later (omega (arith, none))).1
+        (ap asks_sale is ∙ asks)),
+  )
+  counted_alike (acts.Ask command) (inr (power_on, empty, unknown)) = λ its is. (
+    counted_base (acts.Ask command) (inr (power_on, empty, unknown)) its is,
+    λ asks. in_end here.earlier refl (in_whole later front power_on empty),
+  )
   counted_alike act counted = counted_base act counted
 
   -- so each step is one in the end, which gains the same where it has to

@@ -1,21 +1,13 @@
 -- What a device that keeps messages does, it may do in mid-session: its steps in a recording are
 -- steps of the end of that by itself. This is shown once for changer and validator, from what is
 -- so of their conduct. Lists of acts stand newest first.
-use Rattle.std.proofs.Common.{◌≡◌, ◌⊎◌, inl, inr, ℕ, ◌<◌, Bool, true, false, ◌&&◌, List, [], ◌∷◌, ◌++◌, Option, Some, None, refl, ap, sym, subst, ◌∙◌, arith, if◌then◌else◌, sum_by}
-use Rattle.mdb_late_start.proofs.Words
-use Words.{AllByRecursion, sum_by-cons, Command, Reply, Setups, IsReply, NamesAReply, Act}
-use Words.{Beginning, PowerOn, Joined, profile_of, Choice, Lost, Restart, fun_ext, Gains, Part}
-use Words.{controller_gains, device_gains, IsNew, has_reset, holds_after, kept_of, Known, Is}
-use Words.{known_before, StartsIn, last_list, last_told, or_else, unless_empty, one_if, AnswersLast}
-use Words.{HasTold, IsNothingOr, GoesOnInEnd, TellsOnlyWhatIsSo, Device, IsNotKnown, StateOf}
-use Words.{machine_of, unvalued_of}
+use Rattle.mdb_late_start.proofs.Words.{◌≡◌, ◌⊎◌, inl, inr, ℕ, ◌<◌, Bool, true, false, ◌&&◌, List, [], ◌∷◌, ◌++◌, Option, Some, None, refl, ap, sym, ◌∙◌, arith, if◌then◌else◌, sum_by, AllByRecursion, sum_by-cons, Command, Reply, Setups, IsReply, NamesAReply, Act, Beginning, PowerOn, Joined, profile_of, Choice, Lost, Restart, fun_ext, Gains, Part, controller_gains, device_gains, IsNew, has_reset, holds_after, kept_of, Known, Is, known_before, StartsIn, last_list, last_told, or_else, unless_empty, one_if, AnswersLast, HasTold, IsNothingOr, GoesOnInEnd, TellsOnlyWhatIsSo, Device, IsNotKnown, StateOf, machine_of, unvalued_of, Tables, setup_by, held, holds_acked, holds_read, Allows, AllowsKept, known_by, amounts_in}
 use Rattle.mdb_bus.specs.declared.act.Act.TheVariants as acts
-use Rattle.mdb_machine.specs.Keeper.{Facts, KnownFacts, Tables, known_of, parts_by, setup_by}
+use Rattle.mdb_machine.specs.Keeper.{Facts, KnownFacts, known_of, parts_by}
 use Rattle.mdb_machine.specs.KeeperSteps.{AckStep, Conduct, KeeperStep, ReplyStep, StepKnowing, VmcAckStep, worth}
-use Rattle.mdb_machine.specs.Kept.{held, holds_acked, holds_read}
-use Rattle.mdb_machine.specs.Known.{Allows, AllowsKept, Unknown, known_by}
+use Rattle.mdb_machine.specs.Known.{Unknown}
 use Rattle.mdb_machine.specs.Steps.{ForOwn}
-use Rattle.mdb_machine.specs.Unvalued.{amounts_in, unvalued}
+use Rattle.mdb_machine.specs.Unvalued.{unvalued}
 use Rattle.mdb_late_start.proofs.Covering.{Covers, known_in_end, known_over, same_over}
 
 -- The facts of a step as the end of a recording has them, where this is known there: what was asked
@@ -91,15 +83,14 @@ pub as_it_is : {Step : Gains → Type 0} {Same : Type 0} {gains : Gains} → Ste
 as_it_is {gains = gains} step = record { other = gains; step = step; same = λ is. refl }
 
 -- a step by a command of the device as another, where its command has both
-pub by_own : {Own State : Type 0} (command : Option Own)
-    (One Other : Own → State → State → Gains → Type 0) (Same : Type 0) (before after : State)
-    (gains : Gains)
+pub by_own : {Own State : Type 0} {Same : Type 0} {before after : State} {gains : Gains}
+    (command : Option Own) (One Other : Own → State → State → Gains → Type 0)
     → ((own : Own) → command ≡ Some own → One own before after gains
     → AlsoSteps (Other own before after) Same gains)
     → ForOwn command One before after gains
     → AlsoSteps (ForOwn command Other before after) Same gains
-by_own None One Other Same before after gains each step = as_it_is step
-by_own (Some own) One Other Same before after gains each step = each own refl step
+by_own None One Other each step = as_it_is step
+by_own (Some own) One Other each step = each own refl step
 
 -- the same where less is wanted for the same gains
 pub as_same : {Step : Gains → Type 0} {One Other : Type 0} {gains : Gains} → (Other → One)
@@ -144,14 +135,13 @@ held_acked Lost (m ∷ kept) holds is = is
 held_acked choice (m ∷ kept) holds is = absurd cc
 
 -- by a command of another device it comes to hold nothing
-pub held_by_own : {Own State : Type 0} (command : Option Own)
-    (Step : Own → State → State → Gains → Type 0) (holds : State → Bool) (before after : State)
-    (gains : Gains)
+pub held_by_own : {Own State : Type 0} {before after : State} {gains : Gains}
+    (holds : State → Bool) (command : Option Own) (Step : Own → State → State → Gains → Type 0)
     → ((own : Own) → command ≡ Some own → Step own before after gains → holds after ≡ true
     → holds before ≡ true)
     → ForOwn command Step before after gains → holds after ≡ true → holds before ≡ true
-held_by_own None Step holds before after gains each step is = sym (ap holds step.0) ∙ is
-held_by_own (Some own) Step holds before after gains each step is = each own refl step is
+held_by_own holds None Step each step is = sym (ap holds step.0) ∙ is
+held_by_own holds (Some own) Step each step is = each own refl step is
 
 -- what a device does is a step of the end by itself, by what it gains there
 pub recorded : (begins : Beginning) (setups : Setups) (device : Device) (later front : List Act)
@@ -172,10 +162,9 @@ recorded begins setups device later front act choice before after gains is = rec
 
 module _ {Own Setup Asked M State : Type 0} (tables : Tables Own Setup Asked M)
     (conduct : Conduct Own Setup Asked M State) where
-  -- What is so of the conduct of a device, where its kept messages are of some form (`Fits`): what
-  -- it
-  -- does may be done with the facts of the end, for the same gains where no money is asked for or
-  -- told, or the setup table is the same; and by no act but a reply does it come to hold messages.
+  -- What is so of the conduct of a device, where its kept messages are of some form (`Fits`). What
+  -- it does may be done with the facts of the end, for the same gains where no money is asked for
+  -- or told, or the setup table is the same. By no act but a reply does it come to hold messages.
   pub record IsSteady (Fits : M → Type 0) : Type 0 where
     pub asks : (known : KnownFacts Setup Asked M) (facts : Facts Setup Asked M) (command : Own)
         (before after : State) (gains : Gains) → conduct.Asks facts command before after gains
@@ -313,20 +302,17 @@ module _ {Own Setup Asked M State : Type 0} (tables : Tables Own Setup Asked M)
           → KeeperStep tables conduct facts act choice before after gains
           → AlsoSteps (KeeperStep tables conduct ended act choice before after) (IsSame act) gains
       keeper_in_end (acts.Ask c) names enabled owed step =
-          by_own (tables.own c) _ _ _ before after gains
-          (λ own is ask. as_same (asks_none c own is)
+          by_own (tables.own c) _ _ (λ own is ask. as_same (asks_none c own is)
           (steady.asks known facts own before after gains ask)) step
       keeper_in_end (acts.Ack c) names enabled owed step =
-          by_own (tables.own c) _ _ _ before after gains
-          (λ own is ack. as_same (asks_none c own is)
+          by_own (tables.own c) _ _ (λ own is ack. as_same (asks_none c own is)
           (ack_in_end (tables.is_poll own) own ack)) step
       keeper_in_end (acts.Reply c r) names enabled owed step =
-          by_own (tables.own c) _ _ _ before after gains
-          (λ own is reply. as_same (tells_none c r own is) (reply_in_end (tables.is_poll own)
-          (tables.parts_of r) enabled owed (steady.fits c r names) reply)) step
+          by_own (tables.own c) _ _ (λ own is reply. as_same (tells_none c r own is)
+          (reply_in_end (tables.is_poll own) (tables.parts_of r) enabled owed
+          (steady.fits c r names) reply)) step
       keeper_in_end (acts.VmcAck c r) names enabled owed step =
-          by_own (tables.own c) _ _ _ before after gains
-          (λ own is ack. as_same (tells_none c r own is)
+          by_own (tables.own c) _ _ (λ own is ack. as_same (tells_none c r own is)
           (vmc_ack_in_end (tables.is_poll own) (tables.parts_of r) ack)) step
       keeper_in_end act names enabled owed step = as_it_is step
 
@@ -355,27 +341,23 @@ module _ {Own Setup Asked M State : Type 0} (tables : Tables Own Setup Asked M)
     no_amount act so_far none zero =
         let sum = rw none at zero in (omega (arith, sum), omega (arith, sum))
 
-    -- and so it was in front of acts
-    none_in_front : (again so_far : List Act) → NoSetup (again ++ so_far)
-        → IsValued (again ++ so_far) → NoSetup so_far × IsValued so_far
-    none_in_front [] so_far none zero = (none, zero)
-    none_in_front (act ∷ again) so_far none zero =
-        let before = none_before act (again ++ so_far) none in
-        none_in_front again so_far before (no_amount act (again ++ so_far) before zero).1
+    -- so acts that leave none without a value tell none
+    tell_none : (so_far : List Act) → NoSetup so_far → IsValued so_far
+        → AllByRecursion (λ act. amounts_in tables conduct act ≡ 0) so_far
+    tell_none [] none zero = tt
+    tell_none (act ∷ so_far) none zero =
+        let before = none_before act so_far none in
+        let parts = no_amount act so_far before zero in
+        (parts.0, tell_none so_far before parts.1)
 
-    -- so an act with its answer goes back to no amount, where no setup table is known
+    -- and an act with its answer goes back to no amount
     nothing_told : (act : Act) (later : List Act) → NoSetup later → AnswersLast act later
         → IsValued (act ∷ later) → amounts_in tables conduct (told_by act) ≡ 0
     nothing_told (acts.Ack c) later none answers zero =
-        (no_amount (acts.Ask c) answers.0
-        (none_before (acts.Ask c) answers.0 (subst NoSetup answers.1 none))
-        (subst IsValued answers.1 (no_amount (acts.Ack c) later none zero).1)).0
+        (rw answers.1 at (tell_none later none (no_amount (acts.Ack c) later none zero).1)).0
     nothing_told (acts.VmcAck c r) later none answers zero =
-        let front = none_in_front answers.again (acts.Reply c r ∷ answers.before)
-        (subst NoSetup answers.order none)
-        (subst IsValued answers.order (no_amount (acts.VmcAck c r) later none zero).1) in
-        (no_amount (acts.Reply c r) answers.before
-        (none_before (acts.Reply c r) answers.before front.0) front.1).0
+        (all_last _ answers.again (acts.Reply c r ∷ answers.before) (rw answers.order at
+        (tell_none later none (no_amount (acts.VmcAck c r) later none zero).1))).0
     nothing_told act later none answers zero = (no_amount act later none zero).0
 
   module _ (Fits : M → Type 0) (steady : IsSteady Fits) (begins : Beginning) (setups : Setups)
@@ -464,11 +446,9 @@ module _ {Own Setup Asked M State : Type 0} (tables : Tables Own Setup Asked M)
       held_before : (act : Act) → KeeperStep tables conduct facts act choice before after gains
           → kept_of (parts_by tables act) ≡ [] → conduct.holds after ≡ true
           → conduct.holds before ≡ true
-      held_before (acts.Ask c) step empty =
-          held_by_own (tables.own c) _ conduct.holds before after gains
+      held_before (acts.Ask c) step empty = held_by_own conduct.holds (tables.own c) _
           (λ own is ask. steady.ask_holds facts own before after gains ask) step
-      held_before (acts.Ack c) step empty =
-          held_by_own (tables.own c) _ conduct.holds before after gains
+      held_before (acts.Ack c) step empty = held_by_own conduct.holds (tables.own c) _
           (λ own is. ack_held (tables.is_poll own) own) step
         where
           ack_held : (poll : Bool) (own : Own)
@@ -477,8 +457,7 @@ module _ {Own Setup Asked M State : Type 0} (tables : Tables Own Setup Asked M)
           ack_held true own ack is = sym (ap conduct.holds ack.1.0) ∙ is
           ack_held false own ack is = steady.ack_holds facts own choice before after gains ack is
       held_before (acts.Reply c r) step empty =
-          held_by_own (tables.own c) _ conduct.holds before after gains
-          (λ own is reply holding.
+          held_by_own conduct.holds (tables.own c) _ (λ own is reply holding.
           let none : kept_of (tables.parts_of r) ≡ [] = rw is at empty in
           let read = holds_read choice (conduct.holds before) in
           let as_read = steady.news_hold facts choice reply.news _ after reply.tells_news
@@ -486,8 +465,7 @@ module _ {Own Setup Asked M State : Type 0} (tables : Tables Own Setup Asked M)
           ∙ ap (λ kept. holds_after kept read) none in
           held_read choice (conduct.holds before) (sym as_read ∙ holding)) step
       held_before (acts.VmcAck c r) step empty =
-          held_by_own (tables.own c) _ conduct.holds before after gains
-          (λ own is ack holding.
+          held_by_own conduct.holds (tables.own c) _ (λ own is ack holding.
           let kept = kept_of (tables.parts_of r) in
           let acked = holds_acked choice kept (conduct.holds before) in
           let released = conduct.with_holds acked before in

@@ -1,17 +1,10 @@
 -- Levels of which less is known, or less was told: so it stays with each act. By the base profile a
 -- reply fits as it did, where less was told.
-use Rattle.std.proofs.Common.{refl, ◌≡◌, ◌++◌, ◌⊎◌, inl, inr, ℕ, List, [], ◌∷◌, Option, Some, None}
-use Rattle.mdb_late_start.proofs.Words.{option_or, Event, Command, First, Second, Setups, Act}
-use Rattle.mdb_late_start.proofs.Words.{Levels, Beginning, Joined, Profile, levels_for}
-use Rattle.mdb_late_start.proofs.Words.{with_foreign, first_levels, profile_of, IsNothingOr}
-use Rattle.mdb_late_start.proofs.Words.{IsLessTold, IsLessKnown, foreign_levels}
+use Rattle.mdb_late_start.proofs.Words.{refl, ◌≡◌, ◌++◌, ◌⊎◌, inl, inr, ℕ, List, [], ◌∷◌, Option, Some, None, option_or, Event, Command, First, Second, Setups, Act, Levels, Beginning, Joined, Profile, levels_for, with_foreign, first_levels, profile_of, IsNothingOr, IsLessTold, IsLessKnown, foreign_levels, Scope, AreToldBy, levels_before, Base, Extended, Piece, Whole, IsLow, PieceFits, levels_by, levels_of}
 use Rattle.mdb_msgs.specs.declared.command.Command.TheVariants as commands
 use Rattle.mdb_msgs.specs.declared.command.ReaderCommand.TheVariants as readers
 use Rattle.mdb_msgs.specs.declared.reply.Reply.TheVariants as replies
-use Rattle.mdb_msgs.specs.ExtendedLevels.{last_level}
 use Rattle.mdb_bus.specs.declared.act.Act.TheVariants as acts
-use Rattle.mdb_bus.specs.declared.scope.Profile.TheVariants.{Base, Extended}
-use Rattle.mdb_bus.specs.ActLists.{Piece, Whole, IsLow, PieceFits, levels_by, levels_of}
 
 -- a profile is one of the two
 pub by_profile : (profile : Profile) → (profile ≡ Base) ⊎ (profile ≡ Extended)
@@ -27,7 +20,7 @@ StaysBy profile Less =
 
 module _ (profile : Profile) (Less : Levels → Levels → Type 0) (stays : StaysBy profile Less)
     (less more : Levels) where
-  less_later : (later : List Piece) (words : List Event) (before : List Piece)
+  pub less_later : (later : List Piece) (words : List Event) (before : List Piece)
       → Less less (levels_of profile more before)
       → Less (levels_of profile less (later ++ with_foreign words []))
       (levels_of profile more (later ++ before))
@@ -49,13 +42,6 @@ told_by Extended (acts.Reply (commands.Reader Second command) (replies.Reader li
     less = less
 told_by profile act one other less = less
 
--- so it is in the end of pieces, where it is so in front of the end
-pub less_told : (profile : Profile) (less more : Levels) (later : List Piece) (words : List Event)
-    (before : List Piece) → IsLessTold less (levels_of profile more before)
-    → IsLessTold (levels_of profile less (later ++ with_foreign words []))
-    (levels_of profile more (later ++ before))
-less_told profile = less_later profile IsLessTold (told_by profile)
-
 -- ---- by the base profile
 
 -- a level that is none or the same is low if it was
@@ -73,7 +59,7 @@ low_for (commands.Reader Second command) one other less low =
 low_for command one other less low = low
 
 -- so what a piece says of levels fits as it did, in mid-session
-pub levels_fit : (begins : Beginning) (setups : Setups) → profile_of begins ≡ Base
+levels_fit : (begins : Beginning) (setups : Setups) → profile_of begins ≡ Base
     → (piece : Piece) (one other : Levels) → IsLessTold one other → PieceFits begins other piece
     → PieceFits (Joined setups (profile_of begins)) one piece
 levels_fit begins setups base (Whole (acts.Reply command reply) events) one other less fits =
@@ -86,10 +72,23 @@ pub as_told : (setups : Setups) (profile : Profile) → profile ≡ Base → (le
     → first_levels (Joined setups profile) levels ≡ levels
 as_told setups profile base levels = rw base
 
--- so less is told as an end begins, where less is told of it
-pub less_before : (setups : Setups) (profile : Profile) → profile ≡ Base → (less more : Levels)
-    → IsLessTold less more → IsLessTold (first_levels (Joined setups profile) less) more
-less_before setups profile base less more told = rw (as_told setups profile base less) told
+-- so what a piece says of levels fits in an end, where less is told than in front of it
+pub fits_later : (scope : Scope) (setups : Setups) → profile_of scope.begins ≡ Base
+    → (levels : Levels) (words : List Event) (before : List Piece) → AreToldBy scope before levels
+    → (later : List Piece) (piece : Piece) → PieceFits scope.begins
+    (levels_of (profile_of scope.begins) (levels_before scope) (later ++ before)) piece
+    → PieceFits (Joined setups (profile_of scope.begins)) (levels_of (profile_of scope.begins)
+    (first_levels (Joined setups (profile_of scope.begins)) levels)
+    (later ++ with_foreign words [])) piece
+fits_later scope setups base levels words before less later piece fits =
+    let profile = profile_of scope.begins in
+    let here = first_levels (Joined setups profile) levels in
+    let there = levels_before scope in
+    levels_fit scope.begins setups base piece
+    (levels_of profile here (later ++ with_foreign words []))
+    (levels_of profile there (later ++ before))
+    (less_later profile IsLessTold (told_by profile) here there later words before
+    (rw (as_told setups profile base levels) less)) fits
 
 -- ---- levels that both told
 
@@ -100,27 +99,17 @@ or_less None one other less = less
 or_less (Some level) one other less = refl
 
 -- so less known of both stays so with an act
-known_by : (profile : Profile) → StaysBy profile IsLessKnown
+pub known_by : (profile : Profile) → StaysBy profile IsLessKnown
 known_by profile (acts.Ask (commands.Reader First (readers.SetupConfig level _ _ _))) one other
     less =
-    record { first = record { asked = refl; told = less.first.told }; second = less.second }
+    search
 known_by profile (acts.Ask (commands.Reader Second (readers.SetupConfig level _ _ _))) one other
     less =
-    record { first = less.first; second = record { asked = refl; told = less.second.told } }
+    search
 known_by Extended (acts.Reply (commands.Reader First command) (replies.Reader list)) one other
     less =
-    let now = last_level list.messages in
-    let told = or_less now one.first.told other.first.told less.first.told in
-    record { first = record { asked = less.first.asked; told = told }; second = less.second }
+    search or_less
 known_by Extended (acts.Reply (commands.Reader Second command) (replies.Reader list)) one other
     less =
-    let now = last_level list.messages in
-    let told = or_less now one.second.told other.second.told less.second.told in
-    record { first = less.first; second = record { asked = less.second.asked; told = told } }
+    search or_less
 known_by profile act one other less = less
-
-pub less_known : (profile : Profile) (less more : Levels) (later : List Piece) (words : List Event)
-    (before : List Piece) → IsLessKnown less (levels_of profile more before)
-    → IsLessKnown (levels_of profile less (later ++ with_foreign words []))
-    (levels_of profile more (later ++ before))
-less_known profile = less_later profile IsLessKnown (known_by profile)

@@ -1,4 +1,3 @@
-pub mod Answering
 pub mod Changer
 pub mod Covering
 pub mod CutWords
@@ -7,22 +6,16 @@ pub mod EndRuns
 pub mod EndVerdicts
 pub mod ExtendedSales
 pub mod ExtendedSteps
-pub mod Foreign
 pub mod FromPowerOn
 pub mod InEnds
-pub mod JoinedOrder
 pub mod Keepers
 pub mod LessTold
 pub mod Middles
-pub mod Onward
 pub mod OpenEnds
 pub mod OpenFaults
-pub mod ReaderCovers
-pub mod ReaderHolds
 pub mod ReaderOtherwise
 pub mod ReaderPrices
 pub mod Readers
-pub mod Said
 pub mod ToldCuts
 pub mod Truth
 pub mod Validator

@@ -1,20 +1,12 @@
 -- Rows that have foreign words in front of a middle, and tails after it: a run of the middle is one
 -- of the rows. Lists of acts and of pieces stand newest first, lists of events oldest first.
-use Rattle.std.proofs.Common.{ap, refl, ◌∙◌, ◌≡◌, inl, inr, List, [], ◌∷◌, ◌++◌, All}
-use Rattle.mdb_late_start.proofs.Words
-use Words.{AllByRecursion, append-nil, recursion_from_All, Event, Device, Setups, Levels, Joined}
-use Words.{Scope, Profile, IsForeignWord, IsTail, with_foreign, own_acts, AllSums, Run, HasMiddle}
-use Words.{told_later, EndLaws, IsLessKnown, MayBeReadAlone, AreForeignWords, first_levels}
-use Words.{levels_before, no_levels, profile_of, Beginning}
+use Rattle.mdb_late_start.proofs.Words.{ap, refl, ◌∙◌, ◌≡◌, inl, inr, List, [], ◌∷◌, ◌++◌, All, AllByRecursion, append-nil, recursion_from_All, Event, Device, Setups, Levels, Joined, Scope, Profile, IsForeignWord, IsTail, with_foreign, own_acts, AllSums, Run, HasMiddle, told_later, EndLaws, IsLessKnown, MayBeReadAlone, AreForeignWords, first_levels, levels_before, no_levels, profile_of, Beginning, Base, Extended, Piece, Whole, InForeign, ArePieces, IsActList, acts_of, events_of, first_position, last_of, levels_of, piece_events, position_of}
 use Rattle.mdb_bus.specs.declared.act.Act.TheVariants as acts
-use Rattle.mdb_bus.specs.declared.scope.Profile.TheVariants.{Base, Extended}
-use Rattle.mdb_bus.specs.ActLists.{Piece, Whole, InForeign, ArePieces, IsActList, acts_of, events_of, first_position, last_of, levels_of, piece_events, position_of}
 use Rattle.mdb_late_start.proofs.CutWords.{foreign_both, foreign_end, first_anew}
 use Rattle.mdb_late_start.proofs.LessTold.{as_told, by_profile}
-use Rattle.mdb_late_start.proofs.ToldCuts.{other_levels}
+use Rattle.mdb_late_start.proofs.ToldCuts.{front_list, other_levels}
 use Rattle.mdb_late_start.proofs.EndRuns.{front_in_order, run_by}
-use Rattle.mdb_late_start.proofs.Foreign.{own_later, AreForeign, after_foreign, none_of_its}
-use Rattle.mdb_late_start.proofs.Onward.{acts_in_two}
+use Rattle.mdb_late_start.proofs.InEnds.{own_later, AreForeign, after_foreign, none_of_its, acts_in_two}
 use Rattle.mdb_late_start.proofs.Cutting.{none_or_same, begins_nothing}
 
 -- foreign words, by recursion
@@ -81,20 +73,8 @@ pub record Parts (scope : Scope) (rows middle : List Event) (has : HasMiddle sco
 first_less : (setups : Setups) (profile : Profile) (levels : Levels)
     → IsLessKnown (first_levels (Joined setups profile) no_levels)
     (first_levels (Joined setups profile) levels)
-first_less setups Base levels = record {
-  first = record { asked = tt; told = tt };
-  second = record { asked = tt; told = tt };
-}
-first_less setups Extended levels = record {
-  first = record {
-    asked = none_or_same setups.first_reader.asked;
-    told = none_or_same setups.first_reader.told;
-  };
-  second = record {
-    asked = none_or_same setups.second_reader.asked;
-    told = none_or_same setups.second_reader.told;
-  };
-}
+first_less setups Base levels = search
+first_less setups Extended levels = search none_or_same
 
 module _ (setups : Setups) (levels : Levels) (scope : Scope) where
   abbrev mine : Scope
@@ -133,11 +113,9 @@ module _ (setups : Setups) (levels : Levels) (scope : Scope) where
           whole = has.of_whole;
         } in
         let cut = laws.splits_rows mine setups has.words middle has.whole linked list in
-        let none = cut.clean has.anew in
-        let before_rows = cut.rows ∙ ap (λ ws. has.words ++ ws) none ∙ append-nil has.words in
+        let front = front_list cut has.anew in
         let words = are_words has.words has.foreign in
-        let before = none_told_in cut.before has.words
-        (record { in_order = cut.in_front; whole = before_rows }) words in
+        let before = none_told_in cut.before has.words front words in
         let there : IsActList mine (cut.later ++ with_foreign cut.words []) middle =
         elim (by_profile profile) [
           | inl base ↦ laws.told mine setups levels has.words middle has.whole list cut
@@ -146,14 +124,13 @@ module _ (setups : Setups) (levels : Levels) (scope : Scope) where
           | inr extended ↦ other_levels setups no_levels levels scope
               (cut.later ++ with_foreign cut.words []) middle extended cut.act_list
         ] in
-        let clean = rw none at there in
         record {
           later = cut.later;
           before = cut.before;
           acts = acts_past has.tail has.whole (recursion_from_All IsTail has.tail has.cut)
               ∙ ap acts_of cut.order ∙ acts_in_two cut.later cut.before;
-          foreign = foreign_only mine refl cut.before cut.in_front (rw before_rows words);
-          list = rw (append-nil cut.later) at clean;
+          foreign = foreign_only mine refl cut.before cut.in_front (rw front.whole words);
+          list = rw (cut.clean has.anew, append-nil cut.later) at there;
         }
 
     -- the acts of the rows that a device has a part in are those of the middle

@@ -1,29 +1,19 @@
 -- Where the end of a transcript has an act list by itself, by the extended profile, its replies are
 -- those of the whole: what is read there with less known of levels is what is read with more.
-use Rattle.std.proofs.Common.{arith, ap, refl, sym, subst, ◌∙◌, ◌≡◌, ◌≢◌, ◌++◌, ◌⊎◌, ◌+◌, ◌%◌, inl, inr, ℕ, Bool, true, false, nat_lt, ◌||◌, sum, List, [], ◌∷◌, length, Option, Some, None, if◌then◌else◌, append_assoc}
-use Rattle.mdb_late_start.proofs.Words
-use Words.{same_from_push, Event, Word, Peripheral, Command, First, Second, Reply, Setups}
-use Words.{IsReplyTo, reply_bytes, Format, Or, Open, Levels, Beginning, PowerOn, Joined, Scope}
-use Words.{IsReply, Say, reply_words, HasActList, IsReadAs, format_by, format_for, situation_of}
-use Words.{IsExtended, OpenAgrees, levels_before, no_levels, profile_of, joined_with, IsNothingOr}
-use Words.{IsLessTold, IsLessKnown, MayBeReadAlone, TellsLevelsOfFront, front_and_last, Profile}
+use Rattle.mdb_late_start.proofs.Words.{arith, ap, refl, sym, ◌∙◌, ◌≡◌, ◌≢◌, ◌++◌, ◌⊎◌, ◌+◌, ◌%◌, inl, inr, ℕ, Bool, true, false, nat_lt, ◌||◌, sum, List, [], ◌∷◌, length, Option, Some, None, if◌then◌else◌, append_assoc, same_from_push, Event, Word, Peripheral, Command, First, Second, Reply, Setups, IsReplyTo, reply_bytes, Format, Or, Open, Levels, Beginning, PowerOn, Joined, Scope, IsReply, Say, reply_words, HasActList, IsReadAs, format_by, format_for, situation_of, IsExtended, OpenAgrees, levels_before, no_levels, profile_of, joined_with, IsNothingOr, IsLessKnown, MayBeReadAlone, TellsLevelsOfFront, front_and_last, Profile, Base, Extended, said_by, AnswerMayCome, ArePieces, AreSpaced, Asked, IsActList, IsReplyFront, Piece, ReplyFits, ReplyTail, Whole, events_of, last_of, levels_of, position_of, Position, IsReadAlone, first_stays, heard, inside, peripheral_push, say_last, say_length}
 use Rattle.mdb_msgs.specs.declared.command.Command.TheVariants.{Reader}
 use Rattle.mdb_msgs.specs.declared.reading.Ids.TheVariants.{ByNext, Full}
 use Rattle.mdb_msgs.specs.declared.reading.Reading.{Reading}
 use Rattle.mdb_bus.specs.declared.act.Act.TheVariants as acts
-use Rattle.mdb_bus.specs.declared.scope.Profile.TheVariants.{Base, Extended}
-use Rattle.mdb_bus.specs.Acts.{said_by}
-use Rattle.mdb_bus.specs.ActLists.{AnswerMayCome, ArePieces, AreSpaced, Asked, IsActList, IsReplyFront, Piece, ReplyFits, ReplyTail, Whole, events_of, last_of, levels_of, position_of, Position}
-use Rattle.mdb_bus.specs.ExtendedFormats.{by_asked, by_told, format_at, long, long_format, short, IsFirst, untold_format}
+use Rattle.mdb_bus.specs.ExtendedFormats.{format_at, long, short, IsFirst, untold_format}
+use Rattle.mdb_msgs.specs.Readings.{is_extended}
 use Rattle.mdb_bus.specs.shared.Grammar.{OpenIsAFront}
 use Rattle.mdb_bus.specs.shared.Step.{Step}
 use Rattle.mdb_bus.specs.shared.Step as step
 use Rattle.mdb_bus.specs.shared.Steps.{Leads}
-use Rattle.mdb_late_start.specs.Alone.{IsReadAlone}
 use Rattle.mdb_late_start.proofs.Cutting.{AllFitAlone, ComesAlone, Cutting, FitsAlone, all_foreign, alone, anew_still, foreign_position, rows_begin}
-use Rattle.mdb_late_start.proofs.LessTold.{by_profile, less_before, less_known, less_told, levels_fit}
+use Rattle.mdb_late_start.proofs.LessTold.{by_profile, fits_later, known_by, less_later}
 use Rattle.mdb_bus.proofs.Backward.{backward}
-use Rattle.mdb_bus.proofs.Lists.{first_stays, heard, inside, peripheral_push, say_last, say_length}
 
 -- what mdb_bus says of act lists
 pub record LinkLaws : Type 0 where
@@ -51,76 +41,66 @@ told_so command first second told (inl is) = inl is
 told_so command first second told (inr (bad, inl is)) = inl is
 told_so command first second told (inr (bad, inr none)) = absurd none.1
 
--- what is so of both is so of the one that a test chooses
-chosen : {X : Type 0} (P : X → Type 0) (test : Bool) (one other : X) → P one → P other
-    → P (if test then one else other)
-chosen P true one other is also = is
-chosen P false one other is also = also
-
 -- a low level tells a format where less is known, too
 if_low : (test : Bool) (low more : Format) → IsExtended more
     → IsLess (if test then low else Open) (if test then low else more)
 if_low true low more extended = inr (inl refl)
 if_low false low more extended = inl (refl, extended)
 
+-- the format by the levels of both: whether that of the controller and that of the reader are below
+-- 2, and one of them below 3
+abbrev by_both : Bool → Bool → Bool → Format
+by_both low told_low near =
+    if told_low then Or (short ByNext) (short ByNext)
+    else (if low then Or (short ByNext) (long ByNext)
+    else (let ids = if near then ByNext else Full in Or (long ids) (short ids)))
+
 -- each format of a reader's reply is one of it
-long_extended : (asked told : ℕ) → IsExtended (long_format asked told)
-long_extended asked told = chosen (λ ids. IsExtended (Or (long ids) (short ids)))
-    (nat_lt asked 3 || nat_lt told 3) ByNext Full (refl, refl) (refl, refl)
+both_extended : (low told_low near : Bool) → IsExtended (by_both low told_low near)
+both_extended low true near = (refl, refl)
+both_extended true false near = (refl, refl)
+both_extended false false true = (refl, refl)
+both_extended false false false = (refl, refl)
 
-asked_extended : (asked : ℕ) (format : Format) → IsExtended format
-    → IsExtended (by_asked asked format)
-asked_extended asked format is =
-    chosen IsExtended (nat_lt asked 2) (Or (short ByNext) (long ByNext)) format (refl, refl) is
-
-told_extended : (told : ℕ) (format : Format) → IsExtended format → IsExtended (by_told told format)
-told_extended told format is =
-    chosen IsExtended (nat_lt told 2) (Or (short ByNext) (short ByNext)) format (refl, refl) is
+if_extended : (low : Bool) (second : Reading) (untold : Format)
+    → is_extended second ≡ true → IsExtended untold
+    → IsExtended (if low then Or (short ByNext) second else untold)
+if_extended true second untold is extended = (refl, is)
+if_extended false second untold is extended = extended
 
 untold_extended : (begins : Beginning) → IsExtended (untold_format begins)
 untold_extended (PowerOn profile) = (refl, refl)
 untold_extended (Joined setups profile) = tt
 
+-- less is known where the level of the controller is
+asked_less : (low told_low near : Bool)
+    → IsLess (if low then Or (short ByNext) (long ByNext) else Open) (by_both low told_low near)
+asked_less true true near = inr (inr (short ByNext, long ByNext, refl, refl))
+asked_less true false near = inr (inl refl)
+asked_less false told_low near = inl (refl, both_extended false told_low near)
+
 module _ (untold : Format) (extended : IsExtended untold) where
   at_extended : (asked told : Option ℕ) → IsExtended (format_at untold asked told)
   at_extended (Some asked) (Some told) =
-      told_extended told _ (asked_extended asked _ (long_extended asked told))
-  at_extended (Some asked) None = asked_extended asked untold extended
-  at_extended None (Some told) = told_extended told untold extended
+      both_extended (nat_lt asked 2) (nat_lt told 2) (nat_lt asked 3 || nat_lt told 3)
+  at_extended (Some asked) None = if_extended (nat_lt asked 2) (long ByNext) untold refl extended
+  at_extended None (Some told) = if_extended (nat_lt told 2) (short ByNext) untold refl extended
   at_extended None None = extended
-
-  -- the level of the controller is known
-  by_controller : (asked : ℕ) (more_told : Option ℕ)
-      → IsLess (format_at Open (Some asked) None) (format_at untold (Some asked) more_told)
-  by_controller asked None =
-      if_low (nat_lt asked 2) (Or (short ByNext) (long ByNext)) untold extended
-  by_controller asked (Some told) = by (nat_lt asked 2) (nat_lt told 2)
-    where
-      by : (low told_low : Bool)
-          → IsLess (if low then Or (short ByNext) (long ByNext) else Open)
-          (if told_low then Or (short ByNext) (short ByNext)
-          else (if low then Or (short ByNext) (long ByNext) else long_format asked told))
-      by false true = inl (refl, (refl, refl))
-      by true true = inr (inr (short ByNext, long ByNext, refl, refl))
-      by low false = if_low low (Or (short ByNext) (long ByNext)) (long_format asked told)
-          (long_extended asked told)
-
-  -- that of the reader is
-  by_reader : (told : ℕ) (more_asked : Option ℕ)
-      → IsLess (format_at Open None (Some told)) (format_at untold more_asked (Some told))
-  by_reader told None = if_low (nat_lt told 2) (Or (short ByNext) (short ByNext)) untold extended
-  by_reader told (Some asked) =
-      if_low (nat_lt told 2) (Or (short ByNext) (short ByNext))
-      (by_asked asked (long_format asked told)) (asked_extended asked _ (long_extended asked told))
 
   format_less : (asked told more_asked more_told : Option ℕ)
       → IsNothingOr asked more_asked → IsNothingOr told more_told
       → IsLess (format_at Open asked told) (format_at untold more_asked more_told)
   format_less (Some asked) (Some told) more_asked more_told one other =
       rw (one, other) (inr (inl refl))
-  format_less (Some asked) None more_asked more_told one other =
-      rw one (by_controller asked more_told)
-  format_less None (Some told) more_asked more_told one other = rw other (by_reader told more_asked)
+  format_less (Some asked) None more_asked (Some told) one other =
+      rw one (asked_less (nat_lt asked 2) (nat_lt told 2) (nat_lt asked 3 || nat_lt told 3))
+  format_less (Some asked) None more_asked None one other =
+      rw one (if_low (nat_lt asked 2) (Or (short ByNext) (long ByNext)) untold extended)
+  format_less None (Some told) (Some asked) more_told one other =
+      rw other (if_low (nat_lt told 2) (Or (short ByNext) (short ByNext)) _
+      (both_extended (nat_lt asked 2) false (nat_lt asked 3 || nat_lt told 3)))
+  format_less None (Some told) None more_told one other =
+      rw other (if_low (nat_lt told 2) (Or (short ByNext) (short ByNext)) untold extended)
   format_less None None more_asked more_told one other =
       inl (refl, at_extended more_asked more_told)
 
@@ -305,12 +285,8 @@ module _ (scope : Scope) (setups : Setups) where
   -- by the base profile all fit
   pub fit_by_base : (front end : List Event) → profile ≡ Base → AllFitAlone scope setups front end
   fit_by_base front end base middle more piece pieces all cut are comes =
-      let Told : List Piece → Type 0 = λ ps. IsLessTold
-      (levels_here (alone cut.later cut.words)) (levels_there ps) in
-      levels_fit scope.begins setups base piece (levels_here (alone cut.later cut.words))
-      (levels_there pieces) (subst Told (sym cut.order)
-      (less_told profile (levels_before new) (levels_before scope) cut.later cut.words cut.before
-      (less_before setups profile base no_levels (levels_there cut.before) (tt, tt)))) are.1.levels
+      fits_later scope setups base no_levels cut.words cut.before (tt, tt) cut.later piece
+      (rw cut.order at are.1.levels)
 
   module _ (front end : List Event) (tells : TellsLevelsOfFront scope setups front end)
       (middle : List Event) (command : Command) (pieces : List Piece)
@@ -323,12 +299,11 @@ module _ (scope : Scope) (setups : Setups) where
         → position_of new here ≡ Asked command
         → IsLessKnown (levels_here here) (levels_there pieces)
     known_in_reply others all at =
-        let Known : List Piece → Type 0 = λ ps. IsLessKnown (levels_here here) (levels_there ps) in
         let parts = all ∙ ap (λ es. es ++ others) (sym cut.whole ∙ rows_begin cut.later cut.words)
         ∙ append_assoc cut.words (events_of cut.later) others in
         let some : cut.later ≢ [] = λ none. cc (foreign_position new cut.words [] refl, at) in
-        subst Known (sym cut.order)
-        (less_known profile (levels_before new) (levels_before scope) cut.later cut.words cut.before
+        rw cut.order (less_later profile IsLessKnown (known_by profile) (levels_before new)
+        (levels_before scope) cut.later cut.words cut.before
         (tells cut.words (events_of cut.later ++ others) cut.before parts
         (all_foreign cut.words cut.foreign)
         (anew_still (events_of cut.later) others (cut.anew some))

@@ -1,30 +1,14 @@
 -- Where the end of a transcript has no act list by itself, by the extended profile, its first fault
 -- on the link is that a reply is left out: one that open doesn't read.
-use Rattle.std.proofs.Common.{ap, refl, sym, subst, ◌∙◌, ◌≡◌, ◌≢◌, ◌++◌, ◌⊎◌, inl, inr, ℕ, Bool, true, false, List, [], ◌∷◌, Some, append_assoc}
-use Rattle.mdb_late_start.proofs.Words
-use Words.{append-nil, same_from_push, Event, Word, Peripheral, Command, Reply, Setups, IsReplyTo}
-use Words.{reply_bytes, Rule, Format, Or, Levels, Scope, HasActList, HasFault, IsReadAs, format_for}
-use Words.{IsLinkFault, situation_of, OpenLeavesOut, levels_before, profile_of, IsLessKnown}
-use Words.{TellsLevelsOfFront, SplitsAt, joined_with, front_and_last, last_push, Profile}
+use Rattle.mdb_late_start.proofs.Words.{ap, refl, sym, subst, ◌∙◌, ◌≡◌, ◌≢◌, ◌++◌, ◌⊎◌, inl, inr, ℕ, Bool, true, false, List, [], ◌∷◌, Some, append_assoc, append-nil, same_from_push, Event, Word, Peripheral, Command, Reply, Setups, IsReplyTo, reply_bytes, Rule, Format, Or, Levels, Scope, HasActList, HasFault, IsReadAs, format_for, IsLinkFault, situation_of, OpenLeavesOut, levels_before, profile_of, IsLessKnown, TellsLevelsOfFront, SplitsAt, joined_with, front_and_last, last_push, Profile, Blame, Extended, ArePieces, IsActList, Piece, ReplyFits, ReplyTail, Whole, events_of, last_of, levels_of, position_of, RowBreaks, asked_device, blame_of, fault_of}
 use Rattle.mdb_msgs.specs.declared.fault.MsgFault.{MsgFault}
 use Rattle.mdb_msgs.specs.declared.fault.MsgFault.TheVariants.{Message, Profile as Left, Answer}
 use Rattle.mdb_bus.specs.declared.act.Act.TheVariants as acts
-use Rattle.mdb_bus.specs.declared.fault.Blame.{Blame}
 use Rattle.mdb_bus.specs.declared.fault.Rule.TheVariants as rule
-use Rattle.mdb_bus.specs.declared.scope.Profile.TheVariants.{Extended}
-use Rattle.mdb_bus.specs.ActLists.{ArePieces, IsActList, Piece, ReplyFits, ReplyTail, Whole, events_of, last_of, levels_of, position_of}
-use Rattle.mdb_bus.specs.LinkFaults.{RowBreaks, asked_device, blame_of, fault_of}
 use Rattle.mdb_late_start.proofs.Cutting.{AllFitAlone, ComesAlone, Cutting, alone, anew_still, splits}
 use Rattle.mdb_late_start.proofs.LessTold.{by_profile}
 use Rattle.mdb_late_start.proofs.OpenEnds.{LinkLaws, fit_by_base, format_alone, known_in_reply, reply_fits_there, reply_tail, IsLess, may_reply, some_events}
 use Rattle.mdb_bus.specs.ExtendedHaste.{counted_in, haste_of}
-
--- what mdb_bus says of faults
-pub record FaultLaws : Type 0 where
-  pub left_out : OpenLeavesOut
-  pub breaks : (scope : Scope) (pieces : List Piece) (row : Event) (broken : Rule)
-      → ArePieces scope pieces → RowBreaks (situation_of scope pieces) row broken
-      → HasActList scope (events_of pieces ++ row ∷ []) → ⊥
 
 -- a fault of a reply that was read with more known is one there too, but that it is left out
 fault_as : OpenLeavesOut → (less more : Format) → IsLess less more → (command : Command)
@@ -89,7 +73,11 @@ module _ (scope : Scope) (setups : Setups) where
       (ap (λ rows. rows ++ more) parts ∙ append_assoc words rest more) foreign
       (anew_still rest more anew) list
 
-  module _ (laws : LinkLaws) (faults : FaultLaws) where
+  -- what mdb_bus says of faults
+  module _ (laws : LinkLaws) (left_out : OpenLeavesOut)
+      (no_list : (scope : Scope) (pieces : List Piece) (row : Event) (broken : Rule)
+      → ArePieces scope pieces → RowBreaks (situation_of scope pieces) row broken
+      → HasActList scope (events_of pieces ++ row ∷ []) → ⊥) where
     -- a row that breaks a rule but Profile, where it ends the bytes of a reply, breaks it there
     breaks_there : profile ≡ Extended → (here there : List Piece) (command : Command)
         (reply : Reply) (front : List Event) (row : Event) → front ≢ [] → IsReplyTo command reply
@@ -120,7 +108,7 @@ module _ (scope : Scope) (setups : Setups) where
         fault_too : (fault : MsgFault) → fault ≢ Left
             → HasFault (format_for new.begins less command) command bytes fault
             → HasFault (format_for scope.begins more command) command bytes fault
-        fault_too fault not_left bad = fault_as faults.left_out (format_for new.begins less command)
+        fault_too fault not_left bad = fault_as left_out (format_for new.begins less command)
             (format_for scope.begins more command)
             (format_alone scope.begins setups extended command less more known) command reply fault
             not_left answers fits.0 bad
@@ -183,7 +171,7 @@ module _ (scope : Scope) (setups : Setups) where
                   ∙ sym (append_assoc (events_of pieces) split.0 (split.1 ∷ []));
             },
           ) in
-          faults.breaks scope there row broken there_tail.are breaks_it
+          no_list scope there row broken there_tail.are breaks_it
           (subst (λ r. HasActList scope (events_of there ++ r ∷ [])) (sym same.1) has)
 
       -- so all pieces fit in them
@@ -216,7 +204,7 @@ module _ (scope : Scope) (setups : Setups) where
     ]
       where
         goes_on : SplitsAt scope setups front (rows ++ row ∷ []) has.0 → ⊥
-        goes_on it = faults.breaks new here row broken list.in_order breaks
+        goes_on it = no_list new here row broken list.in_order breaks
             (rw list.whole (_, it.act_list))
 
     -- and so is the rule of its fault, in rows that go on

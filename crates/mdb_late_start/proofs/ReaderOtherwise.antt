@@ -1,22 +1,17 @@
 -- A step of a reader after some facts is one after facts that differ in what is told of values, and
 -- in whether a reset message is owed. It gains the same where what it values has the same value.
-use Rattle.std.proofs.Common.{◌≡◌, ◌⊎◌, ℕ, Bool, true, false, ◌||◌, List, [], ◌∷◌, ◌++◌, map, Option, Some, None, refl, inl, inr, if◌then◌else◌, unwrap_or, arith, ap, sym, ◌∙◌}
-use Rattle.mdb_late_start.proofs.Words
-use Words.{sum_by-cons, ReaderCommand, ReaderUnit, Reply, ReaderMsg, ReaderConfig, Act, Choice}
-use Words.{Gains, is_approval, controller_gains, device_gains, in_slots, IsNew, kept_of, resets}
-use Words.{tells_out_of_sequence, one_if, ReaderState, value, messages_of, parts_of, own}
+use Rattle.mdb_late_start.proofs.Words.{◌≡◌, ◌⊎◌, ℕ, Bool, true, false, ◌||◌, List, [], ◌∷◌, map, Option, Some, None, refl, inl, inr, if◌then◌else◌, unwrap_or, arith, ap, sym, ◌∙◌, sum_by-append, sum_by-cons, ReaderCommand, ReaderUnit, Reply, ReaderMsg, ReaderConfig, Act, Choice, Gains, is_approval, controller_gains, device_gains, in_slots, IsNew, kept_of, resets, tells_out_of_sequence, one_if, ReaderState, value, messages_of, parts_of, own, all_approved, all_approved_to, approved, is_repeated, sold_any, sold_to, taken, view_answered, effect_of_own, amounts, ended_by, no_end}
 use Rattle.mdb_msgs.specs.declared.command.ReaderCommand.TheVariants as reader
 use Rattle.mdb_msgs.specs.declared.reply.reader.ReaderMsg.TheVariants as messages
 use Rattle.mdb_bus.specs.declared.act.Act.TheVariants as acts
 use Rattle.mdb_cashless.specs.declared.reader.messages.ReaderActivity.{ReaderActivity}
 use Rattle.mdb_cashless.specs.declared.reader.view.View.{View}
-use Rattle.mdb_cashless.specs.Reader.{AckStep, AskStep, ReaderStep, ReplyStep, VmcAckStep, all_approved, all_approved_to, approved, is_repeated, read, sold, sold_any, sold_to, taken, view_answered}
+use Rattle.mdb_cashless.specs.Reader.{AckStep, AskStep, ReaderStep, ReplyStep, VmcAckStep, read, sold}
 use Rattle.mdb_cashless.specs.ReaderDevice as reader_device
-use Rattle.mdb_cashless.specs.ReaderFacts.{Facts, KnownFacts, effect_of_own}
+use Rattle.mdb_cashless.specs.ReaderFacts.{Facts, KnownFacts}
 use Rattle.mdb_cashless.specs.ReaderMessages.{part_of}
 use Rattle.mdb_cashless.specs.ReaderView as reader_view
 use Rattle.mdb_cashless.specs.ReaderView.{heard}
-use Rattle.mdb_cashless.specs.Transactions.{amounts, ended_by, no_end}
 use Rattle.mdb_late_start.proofs.Keepers.{AlsoSteps, as_it_is, as_same, by_own}
 use Rattle.mdb_late_start.proofs.ReaderPrices.{AreSaidPriced, IsPriced, IsSalePriced, Prices, approvals, config_with}
 
@@ -56,20 +51,16 @@ kept_none config (message ∷ said) none =
     omega (arith, kept_none config said (omega (arith, none)))
 
 module _ (config : Option ReaderConfig) where
-  -- nor is it by the rest of a list
-  rest_none : (holding news : List ReaderActivity) → all_approved config (holding ++ news) ≡ 0
-      → all_approved config news ≡ 0
-  rest_none [] news none = none
-  rest_none (message ∷ holding) news none =
-      rest_none holding news
-      (omega (arith, none, sum_by-cons (approved config) message (holding ++ news)))
-
-  -- nor by what is new of it
+  -- nor is it by what is new of it
   news_none : (poll : Bool) (holding news : List ReaderActivity) (reply : Reply)
       → IsNew poll holding (kept_of (parts_of reply)) news → approvals (messages_of reply) ≡ 0
       → all_approved config news ≡ 0
-  news_none poll holding news reply (inl new) none =
-      rest_none holding news (rw new at (kept_none config (messages_of reply) none))
+  news_none poll holding news reply (inl new) none = omega (
+    arith,
+    kept_none config (messages_of reply) none,
+    ap (all_approved config) new,
+    sum_by-append (approved config) holding news,
+  )
   news_none poll holding news reply (inr new) none = ap (all_approved config) new.2
 
   -- nor for the controller that hears it
@@ -103,50 +94,45 @@ owed_less : (by_command here there : Bool) → (here ≡ true → there ≡ true
 owed_less true here there owed is = refl
 owed_less false here there owed is = owed is
 
-module _ (facts : Facts) (known : KnownFacts) (its : ReaderCommand) (before after : ReaderState)
-    (gains : Gains) where
+module _ (facts : Facts) (known : KnownFacts) (before after : ReaderState) (gains : Gains) where
   abbrev others : Facts
   others = otherwise facts known
 
-  abbrev Priced : Type 0
-  Priced = IsSalePriced (prices_of others) (prices_of facts) its
+  abbrev Priced : ReaderCommand → Type 0
+  Priced = IsSalePriced (prices_of others) (prices_of facts)
 
-  ask_otherwise : AskStep facts its before after gains
-      → AlsoSteps (AskStep others its before after) Priced gains
-  ask_otherwise step = record {
+  ask_otherwise : (its : ReaderCommand) → AskStep facts its before after gains
+      → AlsoSteps (AskStep others its before after) (Priced its) gains
+  ask_otherwise its step = record {
     other = controller_gains (in_slots (amounts 0 (sold_to others its before.view)));
-    step =
-        record { view = step.view; device = step.device; holds = step.holds; gained = refl };
+    step = record { view = step.view; device = step.device; holds = step.holds; gained = refl };
     same = λ priced. ap (λ end. controller_gains (in_slots (amounts 0 end)))
         (same_ended (reader_view.has_approved before.view) its (prices_of others)
         (prices_of facts) priced) ∙ sym step.gained;
   }
 
   -- what the reader sold is the same
-  same_sold : (its_before : ReaderState) → Priced
-      → sold others its its_before ≡ sold facts its its_before
-  same_sold its_before priced =
-      ap (λ end. if is_repeated facts its its_before.holds then no_end else end)
-      (same_ended (reader_device.has_approved its_before.device) its (prices_of others)
+  same_sold : (its : ReaderCommand) (start : ReaderState) → Priced its
+      → sold others its start ≡ sold facts its start
+  same_sold its start priced =
+      ap (λ end. if is_repeated facts its start.holds then no_end else end)
+      (same_ended (reader_device.has_approved start.device) its (prices_of others)
       (prices_of facts) priced)
 
-  same_sold_any : (reply : Reply) (its_before : ReaderState) → Priced
-      → sold_any others (taken its reply) its_before ≡ sold_any facts (taken its reply) its_before
-  same_sold_any reply its_before priced = either (tells_out_of_sequence reply)
-    where
-      either : (refused : Bool)
-          → sold_any others (if refused then None else Some its) its_before
-          ≡ sold_any facts (if refused then None else Some its) its_before
-      either true = refl
-      either false = same_sold its_before priced
+  same_sold_any : (refused : Bool) (its : ReaderCommand) (start : ReaderState) → Priced its
+      → sold_any others (if refused then None else Some its) start
+      ≡ sold_any facts (if refused then None else Some its) start
+  same_sold_any true its start priced = refl
+  same_sold_any false its start priced = same_sold its start priced
 
-  ack_otherwise : (choice : Choice) → AckStep facts its choice before after gains
-      → AlsoSteps (AckStep others its choice before after) Priced gains
-  ack_otherwise choice step = record {
+  ack_otherwise : (choice : Choice) (its : ReaderCommand)
+      → AckStep facts its choice before after gains
+      → AlsoSteps (AckStep others its choice before after) (Priced its) gains
+  ack_otherwise choice its step = record {
     other = device_gains (in_slots (amounts 0 (sold others its before)));
     step = record { poll = step.poll; to = step.to; gained = refl };
-    same = λ priced. ap (λ end. device_gains (in_slots (amounts 0 end))) (same_sold before priced)
-        ∙ sym step.gained;
+    same = λ priced. ap (λ end. device_gains (in_slots (amounts 0 end)))
+        (same_sold its before priced) ∙ sym step.gained;
   }
 
   -- news approve the same, where there is no message 05 or they have the same value
@@ -160,14 +146,14 @@ module _ (facts : Facts) (known : KnownFacts) (its : ReaderCommand) (before afte
   same_approved one other poll holding news reply new (inr same) =
       ap (λ c. all_approved c news) same
 
-  reply_otherwise : (reply : Reply) (choice : Choice)
+  reply_otherwise : (reply : Reply) (choice : Choice) (its : ReaderCommand)
       → (known.past.reset_owed ≡ true → facts.past.reset_owed ≡ true)
       → ReplyStep facts its reply choice before after gains
       → AlsoSteps (ReplyStep others its reply choice before after)
-      (Priced
+      (Priced its
       × AreSaidPriced reply (config_with reply others.config) (config_with reply facts.config))
       gains
-  reply_otherwise reply choice owed step =
+  reply_otherwise reply choice its owed step =
       let config : Option ReaderConfig = config_with reply others.config in
       let its_config : Option ReaderConfig = config_with reply facts.config in
       let end = sold_any others (taken its reply) (read choice before) in
@@ -190,7 +176,7 @@ module _ (facts : Facts) (known : KnownFacts) (its : ReaderCommand) (before afte
         same = λ priced. ap (λ n. device_gains (in_slots (amounts n end)))
             (same_approved config its_config _ _ step.news reply step.has_news.new priced.1)
             ∙ ap (λ e. device_gains (in_slots (amounts (all_approved its_config step.news) e)))
-            (same_sold_any reply (read choice before) priced.0)
+            (same_sold_any (tells_out_of_sequence reply) its (read choice before) priced.0)
             ∙ sym step.gained;
       }
 
@@ -201,11 +187,11 @@ module _ (facts : Facts) (known : KnownFacts) (its : ReaderCommand) (before afte
       heard_none others.config view said none ∙ sym (heard_none facts.config view said none)
   same_heard view said (inr same) = ap (λ c. all_approved_to c view said) same
 
-  vmc_ack_otherwise : (reply : Reply) (choice : Choice)
+  vmc_ack_otherwise : (reply : Reply) (choice : Choice) (its : ReaderCommand)
       → VmcAckStep facts its reply choice before after gains
       → AlsoSteps (VmcAckStep others its reply choice before after)
       (AreSaidPriced reply others.config facts.config) gains
-  vmc_ack_otherwise reply choice step =
+  vmc_ack_otherwise reply choice its step =
       let view = view_answered (taken its reply) before.view in
       let said = messages_of reply in
       record {
@@ -216,24 +202,19 @@ module _ (facts : Facts) (known : KnownFacts) (its : ReaderCommand) (before afte
             (same_heard view said priced) ∙ sym step.gained;
       }
 
--- so by each act
-module _ (unit : ReaderUnit) (facts : Facts) (known : KnownFacts)
-    (owed : known.past.reset_owed ≡ true → facts.past.reset_owed ≡ true) (choice : Choice)
-    (before after : ReaderState) (gains : Gains) where
-  pub goes_otherwise : (act : Act) → ReaderStep unit facts act choice before after gains
-      → AlsoSteps (ReaderStep unit (otherwise facts known) act choice before after)
-      (IsPriced unit (prices_of (otherwise facts known)) (prices_of facts) act) gains
-  goes_otherwise (acts.Ask c) step =
-      by_own (own unit c) _ _ _ before after gains (λ its is ask. as_same (λ priced. priced its is)
-      (ask_otherwise facts known its before after gains ask)) step
-  goes_otherwise (acts.Ack c) step =
-      by_own (own unit c) _ _ _ before after gains (λ its is ack. as_same (λ priced. priced its is)
-      (ack_otherwise facts known its before after gains choice ack)) step
-  goes_otherwise (acts.Reply c r) step =
-      by_own (own unit c) _ _ _ before after gains (λ its is reply.
-      as_same (λ priced. priced its is)
-      (reply_otherwise facts known its before after gains r choice owed reply)) step
-  goes_otherwise (acts.VmcAck c r) step =
-      by_own (own unit c) _ _ _ before after gains (λ its is ack. as_same (λ priced. priced its is)
-      (vmc_ack_otherwise facts known its before after gains r choice ack)) step
-  goes_otherwise act step = as_it_is step
+  -- so by each act
+  pub goes_otherwise : (unit : ReaderUnit) (choice : Choice)
+      → (known.past.reset_owed ≡ true → facts.past.reset_owed ≡ true) → (act : Act)
+      → ReaderStep unit facts act choice before after gains
+      → AlsoSteps (ReaderStep unit others act choice before after)
+      (IsPriced unit (prices_of others) (prices_of facts) act) gains
+  goes_otherwise unit choice owed (acts.Ask c) step = by_own (own unit c) _ _
+      (λ its is ask. as_same (λ priced. priced its is) (ask_otherwise its ask)) step
+  goes_otherwise unit choice owed (acts.Ack c) step = by_own (own unit c) _ _
+      (λ its is ack. as_same (λ priced. priced its is) (ack_otherwise choice its ack)) step
+  goes_otherwise unit choice owed (acts.Reply c r) step = by_own (own unit c) _ _
+      (λ its is reply. as_same (λ priced. priced its is)
+      (reply_otherwise r choice its owed reply)) step
+  goes_otherwise unit choice owed (acts.VmcAck c r) step = by_own (own unit c) _ _
+      (λ its is ack. as_same (λ priced. priced its is) (vmc_ack_otherwise r choice its ack)) step
+  goes_otherwise unit choice owed act step = as_it_is step

@@ -1,27 +1,70 @@
--- What a reader does in the course of a recording, it may do in the end of that by itself.
-use Rattle.std.proofs.Common.{List, [], ◌∷◌, ◌++◌, refl, ◌∙◌}
+-- What a reader does in the course of a recording, it may do in the end of that by itself. A reader
+-- that holds messages has told a list of them, as a recording begins and after each step.
+use Rattle.mdb_late_start.proofs.Words.{Bool, common_steps, ◌≡◌, true, List, [], ◌∷◌, ap, sym, ◌∙◌, arith, ReaderCommand, ReaderUnit, Act, Beginning, PowerOn, Joined, Choice, Gains, holds_after, kept_of, StartsIn, last_list, ReaderState, parts_of, own, HasTold, before_messages, power_on, take, ◌++◌, refl, Setups, profile_of, MayJoinLate, HasToldByProfile, Profile, Machine, Device}
+use Rattle.mdb_bus.specs.declared.act.Act.TheVariants as acts
 use Rattle.mdb_msgs.specs.declared.command.Device.TheVariants as devices
-use Rattle.mdb_late_start.proofs.Words.{ReaderUnit, Setups, Act, Beginning, Joined, profile_of}
-use Rattle.mdb_late_start.proofs.Words.{Choice, Gains, ReaderState, HasTold, MayJoinLate}
-use Rattle.mdb_late_start.proofs.Words.{HasToldByProfile, Profile, Machine, Device}
 use Rattle.mdb_bus.specs.declared.scope.Profile.TheVariants as profiles
-use Rattle.mdb_cashless.specs.declared.by_profile.state.StateByProfile.{StateByProfile}
-use Rattle.mdb_cashless.specs.declared.by_profile.state.StateByProfile.TheVariants.{Base, Extended}
-use Rattle.mdb_cashless.specs.ReaderAmounts.{unvalued}
-use Rattle.mdb_cashless.specs.ReaderFacts.{KnownFacts, known_of}
-use Rattle.mdb_late_start.proofs.ExtendedSteps.{extended_in_end}
-use Rattle.mdb_late_start.proofs.Keepers.{AlsoSteps, allowed_end, kept_end, recorded}
-use Rattle.mdb_late_start.proofs.ReaderCovers.{IsCounted, counted, known_in_end}
-use Rattle.mdb_late_start.proofs.ReaderHolds.{goes_on_told, starts_told}
-use Rattle.mdb_late_start.proofs.ReaderOtherwise.{goes_otherwise, otherwise}
-use Rattle.mdb_late_start.proofs.ReaderPrices.{known_config, same_prices}
-use Rattle.mdb_cashless.specs.ByProfile.{base_state, by_profile, extended_state, machine_in}
-use Rattle.mdb_cashless.specs.ByProfileFacts.{FactsByProfile, by_base, by_extended, config_of}
 use Rattle.mdb_cashless.specs.ExtendedAmounts as extended_amounts
 use Rattle.mdb_cashless.specs.ExtendedFacts as extended_facts
 use Rattle.mdb_cashless.specs.ExtendedReader as extended
 use Rattle.mdb_cashless.specs.Reader as base
-use Rattle.mdb_msgs.specs.declared.command.Device.TheVariants as devices
+use Rattle.mdb_cashless.specs.Reader.{ReaderStep}
+use Rattle.mdb_cashless.specs.ReaderFacts.{Facts, known_of, parts_by, KnownFacts}
+use Rattle.mdb_late_start.proofs.Keepers.{held_acked, held_by_own, told_next, AlsoSteps, allowed_end, kept_end, recorded}
+use Rattle.mdb_late_start.proofs.ReaderPrices.{said, known_config, same_prices, IsCounted, counted, known_in_end}
+use Rattle.mdb_cashless.proofs.Guesses.{held_before as still_held}
+use Rattle.mdb_cashless.specs.declared.by_profile.state.StateByProfile.{StateByProfile}
+use Rattle.mdb_cashless.specs.declared.by_profile.state.StateByProfile.TheVariants.{Base, Extended}
+use Rattle.mdb_cashless.specs.ReaderAmounts.{unvalued}
+use Rattle.mdb_late_start.proofs.ExtendedSteps.{extended_in_end}
+use Rattle.mdb_late_start.proofs.ReaderOtherwise.{goes_otherwise, otherwise}
+use Rattle.mdb_cashless.specs.ByProfile.{base_state, by_profile, extended_state, machine_in}
+use Rattle.mdb_cashless.specs.ByProfileFacts.{FactsByProfile, by_base, by_extended, config_of}
+
+-- so it starts
+pub starts_told : (begins : Beginning) (unit : ReaderUnit) (state : ReaderState)
+    → StartsIn power_on begins state
+    → HasTold state.holds (known_of begins unit []).past.last_kept
+starts_told (PowerOn profile) unit state starts = λ held. absurd (cc (starts, held))
+starts_told (Joined setups profile) unit state starts = λ held empty. absurd cc
+
+abbrev holding : ReaderState → Bool
+holding state = state.holds
+
+-- what a reader holds after taking a command, it held before
+take_holds : (facts : Facts) (before : ReaderState) (command : ReaderCommand)
+    → (take facts command before).holds ≡ true → before.holds ≡ true
+take_holds facts before command held = grind (arith, common_steps)
+
+module _ (unit : ReaderUnit) (facts : Facts) (choice : Choice) (before after : ReaderState)
+    (gains : Gains) where
+  -- by an act that tells no kept messages it comes to hold none
+  held_before : (act : Act) → ReaderStep unit facts act choice before after gains
+      → kept_of (parts_by unit act) ≡ [] → after.holds ≡ true → before.holds ≡ true
+  held_before (acts.Ask c) step empty =
+      held_by_own holding (own unit c) _ (λ its is ask held. sym ask.holds ∙ held) step
+  held_before (acts.Ack c) step empty = held_by_own holding (own unit c) _
+      (λ its is ack held. take_holds facts before its (rw ack.to at held)) step
+  held_before (acts.Reply c r) step empty =
+      held_by_own holding (own unit c) _ (λ its is reply held.
+      let none = rw (said unit c r its is) at empty in
+      let between = before_messages facts its r choice before in
+      still_held facts its r choice before
+      (sym (reply.holds ∙ ap (λ kept. holds_after kept between.holds) none) ∙ held)) step
+  held_before (acts.VmcAck c r) step empty =
+      held_by_own holding (own unit c) _ (λ its is ack held. held_acked choice (kept_of (parts_of r))
+      before.holds (rw ack.to at held)) step
+  held_before (acts.Break n) step empty = λ held. absurd (cc (step.0, held))
+  held_before act step empty = λ held. rw step.0 at held
+
+  -- so what is known after a step has the list that the reader holds
+  pub goes_on_told : (begins : Beginning) (so_far : List Act) (act : Act)
+      → HasTold before.holds (known_of begins unit so_far).past.last_kept
+      → ReaderStep unit facts act choice before after gains
+      → HasTold after.holds (known_of begins unit (act ∷ so_far)).past.last_kept
+  goes_on_told begins so_far act told step =
+      told_next begins (kept_of (parts_by unit act)) (last_list (parts_by unit) so_far) before.holds
+      after.holds told (held_before act step)
 
 -- by the base profile each step is one in the end, which gains the same where it has to
 module _ (unit : ReaderUnit) (begins : Beginning) (setups : Setups) (later front : List Act) where
@@ -44,9 +87,8 @@ module _ (unit : ReaderUnit) (begins : Beginning) (setups : Setups) (later front
       let knows = known_in_end unit begins setups later front in
       let facts = step.facts in
       let allowed = step.allowed in
-      let other = goes_otherwise unit facts end
-      (λ owed. allowed.past.reset_owed ∙ knows.owed owed) choice before after gains act
-      step.step in
+      let other = goes_otherwise facts end before after gains unit choice
+      (λ owed. allowed.past.reset_owed ∙ knows.owed owed) act step.step in
       record {
         other = other.other;
         step = record {

@@ -1,16 +1,10 @@
 -- An end has its act list as well where levels are told that were told in front of it: what its
 -- replies say of levels fits those as it fitted in the whole.
-use Rattle.std.proofs.Common.{ap, inl, inr, refl, ◌∙◌, ◌≡◌, ◌++◌, List, [], ◌∷◌}
-use Rattle.mdb_late_start.proofs.Words
-use Words.{append-nil, Event, Setups, Levels, Beginning, Joined, Profile, Scope, HasActList}
-use Words.{with_foreign, first_levels, levels_before, no_levels, profile_of, told, MayBeReadAlone}
-use Words.{BeginAnew, SplitsAt, joined_with, AreToldBy, WereTold, told_later}
+use Rattle.mdb_late_start.proofs.Words.{ap, inl, inr, refl, ◌∙◌, ◌≡◌, ◌++◌, List, [], ◌∷◌, append-nil, Event, Setups, Levels, Beginning, Joined, Profile, Scope, HasActList, with_foreign, first_levels, no_levels, profile_of, told, MayBeReadAlone, BeginAnew, SplitsAt, joined_with, AreToldBy, WereTold, told_later, Base, Extended, ArePieces, IsActList, Piece, PieceFits, Whole, levels_of, position_of}
 use Rattle.mdb_bus.specs.declared.act.Act.TheVariants as acts
-use Rattle.mdb_bus.specs.declared.scope.Profile.TheVariants.{Base, Extended}
-use Rattle.mdb_bus.specs.ActLists.{ArePieces, IsActList, Piece, PieceFits, Whole, levels_of, position_of}
-use Rattle.mdb_late_start.proofs.LessTold.{by_profile, less_before, less_told, levels_fit}
-use Rattle.mdb_late_start.proofs.Said.{said_stays}
-use Rattle.mdb_late_start.proofs.JoinedOrder.{CutsLaw}
+use Rattle.mdb_late_start.proofs.LessTold.{by_profile, fits_later}
+use Rattle.mdb_late_start.proofs.CutWords.{said_stays}
+use Rattle.mdb_late_start.proofs.Cutting.{CutsLaw}
 
 -- what pieces say of levels fits, where these were told before them
 abbrev AllFit : Beginning → Levels → List Piece → Type 0
@@ -61,17 +55,10 @@ module _ (setups : Setups) (scope : Scope) where
       → AllFit (Joined setups profile) levels (later ++ with_foreign words [])
   later_fit levels words before base less [] are =
       foreign_fit (Joined setups profile) levels words [] tt
-  later_fit levels words before base less (piece ∷ later) are =
-      let here : Levels = first_levels (Joined setups profile) levels in
-      let there : Levels = levels_before scope in (
-        levels_fit scope.begins setups base piece
-            (levels_of profile here (later ++ with_foreign words []))
-            (levels_of profile there (later ++ before))
-            (less_told profile here there later words before
-            (less_before setups profile base levels (levels_of profile there before) less))
-            are.1.levels,
-        later_fit levels words before base less later are.2,
-      )
+  later_fit levels words before base less (piece ∷ later) are = (
+    fits_later scope setups base levels words before less later piece are.1.levels,
+    later_fit levels words before base less later are.2,
+  )
 
   -- by the extended profile the levels that are known as an end begins are those of its setup data,
   -- so all fits whatever else is told
@@ -115,8 +102,16 @@ told_list scope setups levels front end pieces list cut less =
           (cut.later ++ with_foreign cut.words []) end extended cut.act_list
     ]
 
--- Where an end begins anew, levels were told in front of it that the act list of the rows there
--- tells.
+-- where an end begins anew, the pieces in front of it are an act list of the rows there
+pub front_list : {scope : Scope} {setups : Setups} {front end : List Event} {pieces : List Piece}
+    (cut : SplitsAt scope setups front end pieces) → BeginAnew end
+    → IsActList scope cut.before front
+front_list {front = front} cut anew = record {
+  in_order = cut.in_front;
+  whole = cut.rows ∙ ap (λ ws. front ++ ws) (cut.clean anew) ∙ append-nil front;
+}
+
+-- so levels were told in front of it that the act list of the rows there tells
 pub told_anew : CutsLaw
     → ((scope : Scope) (rows : List Event) (one other : List Piece)
     → IsActList scope one rows → IsActList scope other rows → one ≡ other)
@@ -127,13 +122,9 @@ pub told_anew : CutsLaw
     → WereTold scope setups levels front end
 told_anew cuts one scope setups levels front end before may has anew list less =
     let cut = cuts scope setups front end has.0 may has.1 in
-    let there : IsActList scope cut.before front = record {
-      in_order = cut.in_front;
-      whole = cut.rows ∙ ap (λ ws. front ++ ws) (cut.clean anew) ∙ append-nil front;
-    } in
     record {
       pieces = has.0;
       act_list = has.1;
       cut = cut;
-      in_front = rw (one scope front before cut.before list there) at less;
+      in_front = rw (one scope front before cut.before list (front_list cut anew)) at less;
     }

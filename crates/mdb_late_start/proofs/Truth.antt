@@ -1,47 +1,24 @@
 -- What came to the accounts in the end of a recording lies within the bounds of the end's report.
-use Rattle.std.proofs.Common.{ap, refl, subst, sym, ◌∙◌, ◌≡◌, ℤ, List, ◌++◌}
-use Rattle.mdb_late_start.proofs.Words
-use Words.{Event, Device, Setups, Act, LeavesOutMore, leave_out, IsFollowed, profile_of, Levels}
-use Words.{Beginning, Joined, Scope, Profile, own_acts, Report, AreSumsWithout, IsReport}
-use Words.{device_unvalued, unvalued_of, AllSums, Run, MayBeReadAlone, BeginAnew, Passes, both_sums}
-use Words.{HasMiddle, TellsOnlyWhatIsSo, AreToldBy, told_later, EndLaws}
-use Rattle.mdb_bus.specs.ActLists.{IsActList, Piece, acts_of}
+use Rattle.mdb_late_start.proofs.Words.{ap, refl, sym, ◌∙◌, ◌≡◌, ℤ, List, ◌++◌, Event, Device, Setups, Act, LeavesOutMore, leave_out, IsFollowed, profile_of, Levels, Beginning, Joined, Scope, Profile, own_acts, Report, AreSumsWithout, IsReport, device_unvalued, unvalued_of, AllSums, Run, MayBeReadAlone, BeginAnew, Passes, both_sums, HasMiddle, TellsOnlyWhatIsSo, AreToldBy, told_later, EndLaws, IsActList, Piece, acts_of, CameToWithin, IsInside}
 use Rattle.mdb_follow.specs.declared.account.Account.{Account}
 use Rattle.mdb_follow.specs.declared.account_name.AccountName.{AccountName}
 use Rattle.mdb_follow.specs.declared.range.Range.{Range}
 use Rattle.mdb_follow.specs.AccountNames.{account_device, account_of, account_slot, sums_of}
 use Rattle.mdb_follow.specs.Ranges.{IsRange}
 use Rattle.mdb_follow.specs.AccountRanges.{IsAccount}
-use Rattle.mdb_late_start.specs.Ends.{CameToWithin, IsInside}
+use Rattle.mdb_follow.proofs.OneAnswer.{named-account}
+use Rattle.mdb_follow.proofs.Told.{device-told}
 use Rattle.mdb_late_start.proofs.EndRuns.{gained_there, later_pieces}
 use Rattle.mdb_late_start.proofs.Middles.{middle_linked, own_in_middle, parts, run_of_rows}
 
--- what the crate below says of reports
-pub record ReportLaws : Type 0 where
-  pub accounts : (scope : Scope) (rows : List Event) (report : Report)
-      → IsReport scope rows report → (account : AccountName)
-      → IsAccount (Run scope rows) (sums_of account) (account_of account report)
-  pub unvalued : (scope : Scope) (rows : List Event) (report : Report) (pieces : List Piece)
-      → IsReport scope rows report → IsActList scope pieces rows → (device : Device)
-      → device_unvalued device report ≡ unvalued_of scope.begins device (acts_of pieces)
-
--- the amounts without a value are of a device's own acts
-abbrev pub UnvaluedAlike : Type 0
-UnvaluedAlike = (begins : Beginning) (device : Device) (one other : List Act)
-    → own_acts device one ≡ own_acts device other
-    → unvalued_of begins device one ≡ unvalued_of begins device other
-
--- what the crates below say of leaving out further devices
-pub record FewerLaws : Type 0 where
-  pub runs : (less more : Scope) (rows : List Event) (sums : AllSums) → LeavesOutMore less more
-      → Run less rows sums
-      → (other : AllSums) × AreSumsWithout more sums other × Run more rows other
-  pub stays : (less more : Scope) (rows : List Event) (pieces : List Piece)
-      → LeavesOutMore less more → IsActList less pieces rows
-      → IsActList more (leave_out more pieces) rows
-  pub followed : (scope : Scope) (pieces : List Piece) (device : Device)
-      → IsFollowed scope device
-      → own_acts device (acts_of (leave_out scope pieces)) ≡ own_acts device (acts_of pieces)
+-- a report counts the amounts without a value of the act list of its rows
+reported : (laws : EndLaws) (scope : Scope) (rows : List Event) (report : Report)
+    (pieces : List Piece) → IsReport scope rows report → IsActList scope pieces rows
+    → (device : Device)
+    → device_unvalued device report ≡ unvalued_of scope.begins device (acts_of pieces)
+reported laws scope rows report pieces is list device =
+    ap (λ r. r.facts.unvalued)
+    (device-told scope (laws.one scope) rows report pieces is list device)
 
 -- the value of some run lies within a range
 inside : {S : Type 0} {Kind : S → Type 0} {value : S → ℤ} {range : Range} (sums : S)
@@ -70,14 +47,12 @@ is_told : (setups : Setups) (profile : Profile) (levels : Levels) (more : Scope)
     → Joined setups profile ≡ more.begins → levels ≡ more.levels
     → more ≡ told_later setups levels more
 is_told setups profile levels more begins same =
-    ap (λ (l : Levels). record more { levels = l }) (sym same)
-    ∙ ap (λ (b : Beginning). record more { begins = b; levels = levels })
-    (subst (λ (b : Beginning). b ≡ Joined setups (profile_of b)) begins refl)
+    rw (← begins, begins, same) refl
 
-module _ (laws : EndLaws) (reports : ReportLaws) (scope : Scope) (setups : Setups)
-    (levels : Levels) (front end : List Event) (sums : AllSums)
-    (run : Run scope (front ++ end) sums) (may : MayBeReadAlone scope setups front end)
-    (anew : BeginAnew end) (passes : Passes scope (front ++ end) sums run front)
+module _ (laws : EndLaws) (scope : Scope) (setups : Setups) (levels : Levels)
+    (front end : List Event) (sums : AllSums) (run : Run scope (front ++ end) sums)
+    (may : MayBeReadAlone scope setups front end) (anew : BeginAnew end)
+    (passes : Passes scope (front ++ end) sums run front)
     (levels_told : AreToldBy scope passes.before levels) where
   -- the recording from the end on, with the levels told before, and what is known as it begins
   abbrev mine : Scope
@@ -106,13 +81,16 @@ module _ (laws : EndLaws) (reports : ReportLaws) (scope : Scope) (setups : Setup
       levels_told in
       let device = account_device account in
       lies_within (Run mine end) account (account_of account report)
-      (reports.accounts mine end report is account) sums passes.sums_then there.0
+      (named-account mine end report is account) sums passes.sums_then there.0
       (there.2 device known.0
-      (sym (reports.unvalued mine end report passes.later is list device) ∙ known.1)) there.0
+      (sym (reported laws mine end report passes.later is list device) ∙ known.1)) there.0
       there.1 refl
 
-  module _ (alike : UnvaluedAlike) (rows : List Event) (report : Report) (account : AccountName)
-      (known : IsKnown account report) where
+  -- the amounts without a value are of a device's own acts (`alike`)
+  module _ (alike : (begins : Beginning) (device : Device) (one other : List Act)
+      → own_acts device one ≡ own_acts device other
+      → unvalued_of begins device one ≡ unvalued_of begins device other) (rows : List Event)
+      (report : Report) (account : AccountName) (known : IsKnown account report) where
     abbrev device : Device
     device = account_device account
 
@@ -136,11 +114,11 @@ module _ (laws : EndLaws) (reports : ReportLaws) (scope : Scope) (setups : Setup
         let valued = alike its.begins device (acts_of passes.later) all
         (sym own ∙ ap (λ ps. own_acts device (acts_of ps)) same
         ∙ sym (own_in_middle setups levels more laws rows end has linked device))
-        ∙ sym (reports.unvalued its rows report (has.tail ++ has.whole) is has.act_list device)
+        ∙ sym (reported laws its rows report (has.tail ++ has.whole) is has.act_list device)
         ∙ known.1 in
         let other = runs there.0 there.1 in
         lies_within (Run its rows) account (account_of account report)
-        (reports.accounts its rows report is account) sums passes.sums_then there.0
+        (named-account its rows report is account) sums passes.sums_then there.0
         (there.2 device known.0 (rw same_begins valued)) other.0
         (run_of_rows setups levels more laws rows end has linked other.0 other.1) other.2
 
@@ -151,17 +129,25 @@ module _ (laws : EndLaws) (reports : ReportLaws) (scope : Scope) (setups : Setup
         (λ gained there. (gained, there, refl))
 
     -- so too where further devices are left out, in the accounts of those that are followed
-    pub came_in_less : FewerLaws → (more : Scope) → LeavesOutMore mine more
-        → HasMiddle more rows end → IsReport more rows report → IsFollowed more device
-        → LiesWithin account report
-    came_in_less fewer more leaves has is followed =
-        let its = told_later setups levels more in
-        let back : more ≡ its = is_told setups (profile_of scope.begins) levels more leaves.begins
-        leaves.levels in
-        let out : LeavesOutMore mine its = subst (λ s. LeavesOutMore mine s) back leaves in
-        came_in_rows more out.begins (subst (λ s. HasMiddle s rows end) back has)
-        (subst (λ s. IsReport s rows report) back is) (leave_out its passes.later)
-        (fewer.stays mine its end passes.later out list)
-        (fewer.followed its passes.later device followed)
-        (λ gained there. let other = fewer.runs mine its end gained out there in
-        (other.0, other.2, other.1.followed device followed))
+    module _ (runs : (less more : Scope) (events : List Event) (gained : AllSums)
+        → LeavesOutMore less more → Run less events gained
+        → (other : AllSums) × AreSumsWithout more gained other × Run more events other)
+        (stays : (less more : Scope) (events : List Event) (pieces : List Piece)
+        → LeavesOutMore less more → IsActList less pieces events
+        → IsActList more (leave_out more pieces) events)
+        (followed : (scope : Scope) (pieces : List Piece) (device : Device)
+        → IsFollowed scope device
+        → own_acts device (acts_of (leave_out scope pieces)) ≡ own_acts device (acts_of pieces))
+      where
+        pub came_in_less : (more : Scope) → LeavesOutMore mine more → HasMiddle more rows end
+            → IsReport more rows report → IsFollowed more device → LiesWithin account report
+        came_in_less more leaves has is its_device =
+            let its = told_later setups levels more in
+            let back : more ≡ its = is_told setups (profile_of scope.begins) levels more
+            leaves.begins leaves.levels in
+            let out : LeavesOutMore mine its = rw back at leaves in
+            came_in_rows more out.begins (rw back at has) (rw back at is)
+            (leave_out its passes.later) (stays mine its end passes.later out list)
+            (followed its passes.later device its_device)
+            (λ gained there. let other = runs mine its end gained out there in
+            (other.0, other.2, other.1.followed device its_device))

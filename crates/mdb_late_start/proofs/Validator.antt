@@ -1,7 +1,5 @@
 -- What the validator does, it may do in mid-session: what is so of its conduct.
-use Rattle.std.proofs.Common.{◌≡◌, ℕ, zero, suc, true, false, List, [], ◌∷◌, refl, ap}
-use Rattle.mdb_late_start.proofs.Words.{AllByRecursion, Setups, Beginning, Choice, Gains, in_slots}
-use Rattle.mdb_late_start.proofs.Words.{kept_of, MayJoinLate}
+use Rattle.mdb_late_start.proofs.Words.{◌≡◌, ℕ, zero, suc, true, false, List, [], ◌∷◌, refl, ap, AllByRecursion, Setups, Beginning, Choice, Gains, in_slots, kept_of, MayJoinLate}
 use Rattle.mdb_msgs.specs.declared.command.Device.TheVariants as devices
 use Rattle.mdb_late_start.proofs.Keepers.{IsEnabledIn, IsSteady, as_it_is, in_end, recorded, step_in_end, told_first, told_on}
 use Rattle.mdb_msgs.specs.declared.command.BillCommand.{BillCommand}
@@ -9,7 +7,6 @@ use Rattle.mdb_msgs.specs.declared.command.BillCommand.TheVariants as bill
 use Rattle.mdb_cash.specs.declared.bill.activity.BillActivity.{BillActivity}
 use Rattle.mdb_cash.specs.declared.bill.activity.BillActivity.TheVariants as activity
 use Rattle.mdb_cash.specs.declared.bill.state.BillState.{BillState}
-use Rattle.mdb_cash.specs.declared.bill.state.BillType.{BillType}
 use Rattle.mdb_cash.specs.declared.bill.state.Escrow.{Escrow}
 use Rattle.mdb_cash.specs.Bill.{MovesBill, MovesBills, TakeStep, conduct, is_stacked, stacked}
 use Rattle.mdb_cash.specs.BillFacts.{Facts, KnownFacts, tables}
@@ -24,17 +21,12 @@ all_fit [] = tt
 all_fit (message ∷ kept) = (tt, all_fit kept)
 
 module _ (known : KnownFacts) (facts : Facts) (enabled : IsEnabledIn known facts) where
-  -- a type that is enabled is so in the end
-  type_enabled : (type : BillType) (number : ℕ) → type.number ≡ number
-      → facts.enabled number ≡ true → known.enabled number ≡ true
-  type_enabled type number is on = enabled number (rw is at type.few) on
-
   -- bills may move in the end
   moves_in_end : (message : BillActivity) (before after : Escrow)
       → MovesBill facts message before after → MovesBill (in_end known facts) message before after
   moves_in_end (activity.Returned number) before after moves = moves
   moves_in_end message before after moves =
-      (moves.0, moves.1, type_enabled moves.0 _ moves.1 moves.2, moves.3, moves.4)
+      (moves.0, moves.1, enabled _ (rw moves.1 at moves.0.few) moves.2, moves.3, moves.4)
 
   -- and so with bills in order
   all_move : (news : List BillActivity) (before after : Escrow)

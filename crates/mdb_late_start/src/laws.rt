@@ -77,6 +77,7 @@ pub fn ends_have_act_lists_with_the_levels_told_in_front()
 
 /// If the end of a recording begins anew, the levels told in front of it are those that the act
 /// list of the rows there tells.
+#[tactic(auto, using(crate::proofs::ToldCuts::told_anew))]
 pub fn the_act_list_in_front_tells_the_levels()
     ensures { (scope : Scope) (setups : Setups) (levels : Levels) (front end : List Event)
         (before : List Piece) → MayBeReadAlone scope setups front end
@@ -90,6 +91,7 @@ pub fn the_act_list_in_front_tells_the_levels()
 
 /// The act list of a recording from power-on is also that of the same rows, checked as a recording
 /// that begins while the machine was running, if they may be read by themselves so.
+#[tactic(auto, using(crate::proofs::FromPowerOn::joined_too))]
 pub fn act_lists_from_power_on_are_joined_ones()
     ensures { (profile : Profile) (setups : Setups) (without : DeviceSet) (pieces : List Piece)
         (rows : List Event) → MayBeReadAlone (from_power_on profile without) setups [] rows
@@ -190,6 +192,7 @@ pub fn runs_pass_where_an_end_begins_anew()
 /// without a value in the end. What is known of that device from elsewhere must be how it was set
 /// up before the end. The end may be taken with feature levels told that the controller had told
 /// the readers in front of it: of each reader none, or the last one.
+#[tactic(auto, using(crate::proofs::EndRuns::gained_there))]
 pub fn runs_of_ends_gain_it_with_the_levels_told_in_front()
     ensures { (scope : Scope) (setups : Setups) (levels : Levels) (front end : List Event)
         (sums : AllSums) (run : Run scope (front ++ end) sums)

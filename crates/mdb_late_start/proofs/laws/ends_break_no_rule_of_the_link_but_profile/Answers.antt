@@ -10,7 +10,5 @@ returns c = λ scope setups. left_out_alone scope setups (record {
   one = c.transcripts_have_one_act_list.ensures;
   fronts = c.fronts_of_act_lists_have_act_lists.ensures;
   agrees = c.open_replies_are_read_as_at_any_levels.ensures.agrees;
-}) (record {
-  left_out = c.open_replies_are_read_as_at_any_levels.ensures.left_out;
-  breaks = c.rows_that_break_a_rule_end_the_act_list.ensures;
-})
+}) c.open_replies_are_read_as_at_any_levels.ensures.left_out
+    c.rows_that_break_a_rule_end_the_act_list.ensures

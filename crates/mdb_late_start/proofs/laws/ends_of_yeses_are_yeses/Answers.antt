@@ -4,9 +4,8 @@ use Rattle.mdb_late_start.proofs.EndVerdicts.{end_says_yes}
 use Rattle.mdb_late_start.proofs.laws.ends_of_yeses_are_yeses.Goals as goal
 
 pub returns : goal.returns
-returns c = λ scope setups limit front end report answer may.
-    end_says_yes c.fronts_of_reached_rows_are_reached.ensures scope
-    (joined_with setups scope) limit front end
-    (λ rows ends is are reached.
+returns c = λ scope setups limit front end report answer may whole.
+    end_says_yes scope limit front end c.fronts_of_reached_rows_are_reached.ensures report whole
+    (joined_with setups scope) (λ rows ends is are reached.
     c.ends_of_reached_rows_are_reached.ensures scope setups rows ends (may rows ends is are)
-    reached) report answer
+    reached) answer

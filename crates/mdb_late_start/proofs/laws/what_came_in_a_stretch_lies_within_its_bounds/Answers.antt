@@ -4,9 +4,6 @@ use Rattle.mdb_late_start.proofs.laws.what_came_in_a_stretch_lies_within_its_bou
 
 pub returns : goal.returns
 returns c = λ scope setups levels front middle rows sums run report may has is passes told account
-    known none. came_in_middle c.end_laws.ensures (record {
-      accounts = c.reports_name_the_accounts_of_runs.ensures;
-      unvalued = c.reports_name_the_decimals_and_silences_of_devices.ensures.unvalued;
-    }) scope setups levels front middle sums run may has.anew passes told
-    c.what_is_known_of_a_device_is_of_its_own_acts.ensures.unvalued rows report account
-    (known, none) has is
+    known none. came_in_middle c.end_laws.ensures scope setups levels front middle sums run may
+    has.anew passes told c.what_is_known_of_a_device_is_of_its_own_acts.ensures.unvalued rows report
+    account (known, none) has is

@@ -4,7 +4,5 @@ use Rattle.mdb_late_start.proofs.laws.what_came_lies_within_its_bounds_with_the_
 
 pub returns : goal.returns
 returns c = λ scope setups levels front end sums run report may anew passes told is account known
-    none. came_within c.end_laws.ensures (record {
-      accounts = c.reports_name_the_accounts_of_runs.ensures;
-      unvalued = c.reports_name_the_decimals_and_silences_of_devices.ensures.unvalued;
-    }) scope setups levels front end sums run may anew passes told report is account (known, none)
+    none. came_within c.end_laws.ensures scope setups levels front end sums run may anew passes told
+    report is account (known, none)

@@ -4,13 +4,9 @@ use Rattle.mdb_late_start.proofs.laws.what_came_lies_within_the_bounds_of_a_stre
 
 pub returns : goal.returns
 returns c = λ scope more setups levels front middle rows sums run report may leaves has is passes
-    told account followed known none. came_in_less c.end_laws.ensures (record {
-      accounts = c.reports_name_the_accounts_of_runs.ensures;
-      unvalued = c.reports_name_the_decimals_and_silences_of_devices.ensures.unvalued;
-    }) scope setups levels front middle sums run may has.anew passes told
+    told account followed known none. came_in_less c.end_laws.ensures scope setups levels front
+    middle sums run may has.anew passes told
     c.what_is_known_of_a_device_is_of_its_own_acts.ensures.unvalued rows report account
-    (known, none) (record {
-      runs = c.runs_go_on_without_further_devices.ensures;
-      stays = c.act_lists_stay_without_further_devices.ensures;
-      followed = c.acts_of_followed_devices_stay.ensures.followed;
-    }) more leaves has is followed
+    (known, none) c.runs_go_on_without_further_devices.ensures
+    c.act_lists_stay_without_further_devices.ensures c.acts_of_followed_devices_stay.ensures.followed
+    more leaves has is followed
