@@ -1,6 +1,5 @@
 -- By the base profile nothing counts of what the extended one alone says.
-use Rattle.std.proofs.Common.{refl, ap, ◌∙◌, ◌≡◌, List, Option, None}
-use Rattle.mdb_bus.proofs.Words.{all_known, As, asked_device, Base, base, Beginning, blame_of, Command, counted_for, counted_in, Device, Event, Extended, fault_of, first_known, format_by, format_for, haste_by, haste_of, is_in_haste, Joined, Levels, LinkFault, Piece, Position, position_of, PowerOn, profile_of, Rule, Scope, times_of, untimely_of, untold_format}
+use Rattle.mdb_bus.proofs.Words.{all_known, ap, As, asked_device, Base, base, Beginning, blame_of, Command, counted_for, counted_in, Device, Event, Extended, fault_of, first_known, format_by, format_for, haste_by, haste_of, is_in_haste, Joined, Levels, LinkFault, List, None, Option, Piece, Position, position_of, PowerOn, profile_of, refl, Rule, Scope, times_of, untimely_of, untold_format, ◌∙◌, ◌≡◌}
 use Rattle.mdb_bus.proofs.PlainMoney.{counts_plainly}
 
 pub one_format : (begins : Beginning) (levels : Levels) (command : Command)

@@ -1,6 +1,5 @@
 -- The bytes of commands.
-use Rattle.std.proofs.Common.{arith, refl, sym, ◌∙◌, ◌≡◌, ◌<◌, ◌≤◌, ℕ, [], ◌∷◌, Option, Some, None, length}
-use Rattle.mdb_bus.proofs.Words.{bill_bytes, changer_bytes, Command, command_bytes, Device, More, need_for, needed_in, profile_of, reader_address, reader_bytes, Scope}
+use Rattle.mdb_bus.proofs.Words.{[], arith, Command, command_bytes, Device, length, More, need_for, needed_in, None, Option, profile_of, refl, Scope, Some, sym, ℕ, ◌<◌, ◌∙◌, ◌∷◌, ◌≡◌, ◌≤◌}
 use Rattle.mdb_msgs.specs.Needs.{device_at}
 use Rattle.mdb_msgs.specs.declared.command.Command.TheVariants.{Changer, Bill, Reader}
 use Rattle.mdb_msgs.proofs.Addresses.{low}

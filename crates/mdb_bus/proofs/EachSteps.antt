@@ -1,6 +1,5 @@
 -- What each step has, and some step has.
-use Rattle.std.proofs.Common.{refl, ◌≡◌, ℕ, Ok}
-use Rattle.mdb_bus.proofs.Words.{Break, EachStep, Event, IsJudged, Judged, Leads, Situation, SomeStep, Step, Word}
+use Rattle.mdb_bus.proofs.Words.{Break, EachStep, Event, IsJudged, Judged, Leads, Ok, refl, Situation, SomeStep, Step, Word, ℕ, ◌≡◌}
 use Rattle.mdb_bus.specs.declared.judged.Judged.TheVariants as judged
 use Rattle.mdb_bus.specs.shared.Step as step
 

@@ -1,6 +1,5 @@
 -- The bus after a row: what it stands for, and why a row is refused.
-use Rattle.std.proofs.Common.{[], refl, ap, sym, subst, ◌∙◌, ◌≡◌, List, Option, Result, Ok, Err, IfOk, IfErr, OnOk, Bool, true, false, nat_lt, if◌then◌else◌, Some, None}
-use Rattle.mdb_bus.proofs.Words.{Act, act_after, act_in, Asked, asked_after, Base, Break, Command, Controller, device_of, EachStep, ended_act, Event, Extended, fault_at, fault_of, GoesOn, HasAdvanced, haste_after, haste_by, InAsk, is_untimely, IsAt, IsEnded, IsFirstBroken, IsFirstByPlace, IsJudged, IsLinkFault, IsReadAt, IsSound, Judged, known_by, known_if, known_of, KnownOptions, Leads, Levels, levels_after, levels_if, LinkFault, Peripheral, Piece, pieces_after, Place, Position, position_at, position_of, Profile, profile_of, Reply, Returned, Rule, situation_of, StandsFor, Step, untimely_sender, wide_at, with_act, Word, levels_by}
+use Rattle.mdb_bus.proofs.Words.{[], Act, act_after, act_in, ap, Asked, asked_after, Base, Bool, Break, Command, Controller, device_of, EachStep, ended_act, Err, Event, Extended, false, fault_at, fault_of, GoesOn, HasAdvanced, haste_after, haste_by, IfErr, IfOk, if◌then◌else◌, InAsk, is_untimely, IsAt, IsEnded, IsFirstBroken, IsFirstByPlace, IsJudged, IsLinkFault, IsReadAt, IsSound, Judged, known_by, known_if, known_of, KnownOptions, Leads, Levels, levels_after, levels_by, levels_if, LinkFault, List, None, Ok, OnOk, Option, Piece, pieces_after, Place, Position, position_at, position_of, Profile, profile_of, refl, Reply, Result, Rule, situation_of, Some, StandsFor, Step, subst, sym, true, untimely_sender, wide_at, with_act, Word, ◌∙◌, ◌≡◌}
 use Rattle.mdb_bus.specs.declared.bus.Bus.{Bus}
 use Rattle.mdb_bus.specs.inner.Gone.{HasGone, situation_at}
 use Rattle.mdb_bus.specs.declared.act.Act.TheVariants as acts
@@ -70,12 +69,9 @@ no_haste Extended position from row haste none timely =
 
     after : (position : Position) (row : Event) → is_untimely position from row ≡ false
         → haste_after position from row false ≡ false
-    after position (Break at length) timely = refl
-    after position (Word at Peripheral word) timely = refl
-    after (Asked command) (Word at Controller word) timely = either (nat_lt word 256) _ timely
-    after (Returned command reply) (Word at Controller word) timely =
-        either (nat_lt word 256) _ timely
-    after position (Word at Controller word) timely = either (nat_lt word 256) false refl
+    after (Asked command) (Word at Controller word) timely = search either
+    after position (Word at Controller word) timely = search either
+    after position row timely = refl
 
 module _ (old new : Bus) (haste : Bool) (pieces : List Piece) (row : Event)
     (stands : StandsFor old pieces) (hastens : haste ≡ haste_by (profile_of old.scope.begins)

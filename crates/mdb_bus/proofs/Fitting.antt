@@ -1,10 +1,8 @@
 -- Each act list has a loss that fits, whichever free acts are to be heard: the rows of an act are
 -- damaged where the act after it tells so, and where it tells nothing and the act is not to be
 -- heard.
-use Rattle.std.proofs.Common.{if◌then◌else◌, not, arith, refl, ap, sym, ◌∙◌, ◌≡◌, ◌+◌, ◌<◌, ◌≤◌, ◌↔◌, ℕ, Bool, true, false, List, [], ◌∷◌, ◌++◌, Option, length, length-append}
 use Rattle.std.proofs.Math.Dec.{leb}
-use Rattle.std.proofs.lemmas.Bool.{le-leb}
-use Rattle.mdb_bus.proofs.Words.{Act, ArePieces, Event, events_of, HearsAsWished, HearsFreeAsWished, IsAck, left_open, lt-leb, MayCome, MayStand, nothing_told, Piece, piece_events, Profile, profile_of, Quiet, Scope, Whole, Wish}
+use Rattle.mdb_bus.proofs.Words.{[], Act, ap, ArePieces, arith, Bool, Event, events_of, false, HearsAsWished, HearsFreeAsWished, if◌then◌else◌, IsAck, le-leb, left_open, length, length-append, List, lt-leb, MayCome, MayStand, not, nothing_told, Option, Piece, piece_events, Profile, profile_of, Quiet, refl, Scope, sym, true, Whole, Wish, ℕ, ◌++◌, ◌+◌, ◌<◌, ◌↔◌, ◌∙◌, ◌∷◌, ◌≡◌, ◌≤◌}
 use Rattle.mdb_bus.specs.Wish.{IsFree}
 use Rattle.mdb_bus.specs.Loss.{AllArrive, FitsNext, Heard, Hearing, IsAsTold, IsHeard, Loss, LossFits, Open, Unheard, told_by, told_by_block}
 use Rattle.mdb_bus.specs.declared.act.Act.TheVariants as acts
@@ -77,23 +75,6 @@ free_open (acts.Break length) hearing sparing free = absurd free
 free_open act hearing sparing free = free
 
 module _ (loss : Loss) (before count : ℕ) where
-  -- an act whose words have all arrived was heard
-  heard_where : (act : Act) → AllArrive loss before count → IsHeard loss act before count
-  heard_where (acts.Break length) all = tt
-  heard_where act all = all
-
-  -- a free act was heard only where all its words arrived
-  free_arrives : (act : Act) (hearing : Hearing) → IsFree act hearing
-      → IsHeard loss act before count → AllArrive loss before count
-  free_arrives (acts.Break length) hearing free heard = absurd free
-  free_arrives act hearing free heard = heard
-
-  -- and so was an act that is told not to have been heard
-  unheard_arrives : (act : Act) → IsSparing Unheard act → IsHeard loss act before count
-      → AllArrive loss before count
-  unheard_arrives (acts.Break length) sparing heard = let untold = sparing refl in cc
-  unheard_arrives act sparing heard = heard
-
   module _ (some : 1 ≤ count) where
     -- of rows that are all damaged, the first didn't arrive
     none_arrive : AreAll loss before count true → AllArrive loss before count → ⊥
@@ -106,18 +87,21 @@ module _ (loss : Loss) (before count : ℕ) where
     is_told : (hearing : Hearing) (wished : Bool) (act : Act)
         → AreAll loss before count (is_damaged hearing wished) → IsSparing hearing act
         → IsAsTold hearing (IsHeard loss act before count)
-    is_told Heard wished act rows sparing = heard_where act rows
-    is_told Unheard wished act rows sparing =
-        λ heard. none_arrive rows (unheard_arrives act sparing heard)
+    is_told Heard wished (acts.Break length) rows sparing = tt
+    is_told Heard wished act rows sparing = rows
+    is_told Unheard wished (acts.Break length) rows sparing =
+        λ heard. let untold = sparing refl in cc
+    is_told Unheard wished act rows sparing = none_arrive rows
     is_told Open wished act rows sparing = tt
 
     -- and where it is free, as it is wished
     is_wished : (hearing : Hearing) (wished : Bool) (act : Act)
         → AreAll loss before count (is_damaged hearing wished) → IsSparing hearing act
         → IsFree act hearing → IsHeard loss act before count ↔ (wished ≡ true)
-    is_wished Open true act rows sparing free = (λ heard. refl, λ is. heard_where act rows)
+    is_wished Open wished (acts.Break length) rows sparing free = absurd free
+    is_wished Open true act rows sparing free = (λ heard. refl, λ is. rows)
     is_wished Open false act rows sparing free =
-        (λ heard. absurd (none_arrive rows (free_arrives act Open free heard)), λ is. cc)
+        (λ heard. absurd (none_arrive rows heard), λ is. cc)
     is_wished hearing wished act rows sparing free =
         let untold = free_open act hearing sparing free in cc
 
@@ -159,14 +143,11 @@ module _ (scope : Scope) (wish : Wish) (loss : Loss) where
       let inner : Loss = damage wish pieces (told_by act) in
       let early = agree_early inner loss _ (events_of pieces) events agree in
       let next = next_sparing pieces act events are.1 in
-      let rest = fits pieces (told_by act) early are.2 next in (
-        (fits_next pieces act early are.2 next, rest.0),
-        (
-          is_wished loss before (length events) (omega (arith, ap length are.1.begins)) (tells act)
-              (wish before) act (agree_late inner loss _ (events_of pieces) events agree) sparing,
-          rest.1,
-        ),
-      )
+      let rest = fits pieces (told_by act) early are.2 next in
+      let wished = is_wished loss before (length events) (omega (arith, ap length are.1.begins))
+      (tells act) (wish before) act (agree_late inner loss _ (events_of pieces) events agree)
+      sparing in
+      ((fits_next pieces act early are.2 next, rest.0), (wished, rest.1))
   fits (piece ∷ pieces) tells agree are sparing =
       fits pieces nothing_told
       (λ row h. agree row (omega (arith, h, length-append (events_of pieces) (piece_events piece))))

@@ -1,6 +1,5 @@
 -- What is said to a device that is followed: bytes need what they need of anybody.
-use Rattle.std.proofs.Common.{ap, refl, sym, ◌∙◌, ◌≡◌, ◌≢◌, ◌++◌, ◌∷◌, [], Bool, false, ℕ, List, slice_index, if◌then◌else◌}
-use Rattle.mdb_bus.proofs.Words.{Asks, Command, device_of, DeviceSet, Foreign, has, HasCommand, is_to_one_of, IsAskFront, IsCommandFront, IsForeignOpening, IsUnknownExpansion, Need, needed_by, needed_in, profile_of, Scope, Spells}
+use Rattle.mdb_bus.proofs.Words.{[], ap, Asks, Bool, Command, device_of, DeviceSet, false, Foreign, has, HasCommand, if◌then◌else◌, is_to_one_of, IsAskFront, IsCommandFront, IsForeignOpening, IsUnknownExpansion, List, Need, needed_by, needed_in, profile_of, refl, Scope, slice_index, Spells, sym, ℕ, ◌++◌, ◌∙◌, ◌∷◌, ◌≡◌, ◌≢◌}
 use Rattle.mdb_bus.proofs.Masked.{otherwise, one_need}
 
 -- a law of mdb_msgs: the first byte of a command's block is to its device
@@ -15,9 +14,7 @@ AreFollowed scope bytes = is_to_one_of scope.without (slice_index bytes 0) ≡ f
 -- they need what they need of anybody
 pub needed_followed : (scope : Scope) (bytes : List ℕ) → AreFollowed scope bytes
     → needed_in scope bytes ≡ needed_by (profile_of scope.begins) bytes
-needed_followed scope bytes followed =
-    ap (λ (left_out : Bool). if left_out then Foreign else needed_by (profile_of scope.begins)
-    bytes) followed
+needed_followed scope bytes followed = rw followed
 
 -- what needs anything that isn't foreign is to a device that is followed
 pub within : (scope : Scope) (bytes : List ℕ) (told : Need) → needed_in scope bytes ≡ told

@@ -1,6 +1,5 @@
 -- The laws of formats, by those of readings.
-use Rattle.std.proofs.Common.{arith, refl, ap, sym, subst, ◌∙◌, ◌≡◌, ◌≢◌, ◌⊎◌, inl, inr, Bool, true, false, ◌||◌, List, [], ◌∷◌, ℕ, Option, Some, Result, Ok, Err, IfOk, IfErr, IfSome}
-use Rattle.mdb_bus.proofs.Words.{AllByRecursion, AreAlike, AreReply, AreSome, As, BytesHaveOneFault, Command, Format, HasFault, HasMessages, HasOpenFault, HaveFaults, is_extended, IsFirst, IsIn, IsInSome, IsOpenOr, IsPlainList, IsReadAs, IsReadFault, IsReadingIn, IsReadOpen, IsReplyTo, joint_fault, list_any, long, may_have_options, MsgFault, Or, Reading, readings, Reply, reply_bytes, ReplyHasNoFault, short, varies, what_counts}
+use Rattle.mdb_bus.proofs.Words.{[], AllByRecursion, ap, AreAlike, AreReply, AreSome, arith, As, Bool, BytesHaveOneFault, Command, Err, false, Format, HasFault, HasMessages, HasOpenFault, HaveFaults, IfErr, IfOk, IfSome, inl, inr, is_extended, IsFirst, IsIn, IsInSome, IsOpenOr, IsPlainList, IsReadAs, IsReadFault, IsReadingIn, IsReadOpen, IsReplyTo, joint_fault, List, list_any, long, may_have_options, MsgFault, Ok, Option, Or, Reading, readings, refl, Reply, reply_bytes, ReplyHasNoFault, Result, short, Some, subst, sym, true, varies, what_counts, ℕ, ◌||◌, ◌∙◌, ◌∷◌, ◌≡◌, ◌≢◌, ◌⊎◌}
 use Rattle.mdb_msgs.specs.declared.fault.MsgFault.TheVariants.{Length, Message, Profile as Left, Answer}
 use Rattle.mdb_msgs.specs.declared.reading.Ids.{Ids}
 use Rattle.mdb_msgs.specs.declared.reading.Ids.TheVariants.{Bare, ByNext, Full}
@@ -91,35 +90,35 @@ module _ (none : ReplyHasNoFault) (command : Command) where
         absurd (none_bad_in reading (reply_bytes one) other is.0.0 (also, second, same) is.0.1)
     first_once (reading ∷ list) (inr is) (inr also) = first_once list is.1 also.1
 
-  -- so what open reads is what any format of a reader's reply reads of the same bytes
-  pub agree : OneReply → (format : Format) (one other : Reply) → IsExtended format
-      → IsReadAs format command one → IsReadAs Open command other → IsReplyTo command one
-      → IsReplyTo command other → reply_bytes one ≡ reply_bytes other → one ≡ other
-  agree law (As reading) one other extended is also first second same = absurd extended
-  agree law (Or _ _) one other extended (told, _, _, _, inl is) also first second same =
-      first_once law one other first second same readings is.0 also.0
-  agree law (Or _ _) one other extended (told, _, _, _, inr is) also first second same =
-      absurd (none_open other is.1 second also (rw same at is.2))
-  agree law Open one other extended is also first second same =
-      first_once law one other first second same readings is.0 also.0
+  module _ (law : OneReply) (one other : Reply) (first : IsReplyTo command one)
+      (second : IsReplyTo command other) (same : reply_bytes one ≡ reply_bytes other) where
+    -- what two readings of the same bytes read is one
+    once : (list : List Reading) → IsFirst list command one → IsFirst list command other
+        → one ≡ other
+    once = first_once law one other first second same
 
-  -- and there is at most one reply in a format
-  pub one_as : OneReply → (format : Format) (one other : Reply) → IsReadAs format command one
-      → IsReadAs format command other → IsReplyTo command one → IsReplyTo command other
-      → reply_bytes one ≡ reply_bytes other → one ≡ other
-  one_as law (As reading) one other is also first second same =
-      law reading command one other is also first second same
-  one_as law (Or _ _) one other (told, _, _, _, inl is) (tell, _, _, _, inl also) first second
-      same = first_once law one other first second same readings is.0 also.0
-  one_as law (Or _ _) one other (told, _, _, _, inl is) (tell, _, _, _, inr also) first second
-      same = absurd (none_open one also.1 first is (rw (sym same) at also.2))
-  one_as law (Or _ _) one other (told, _, _, _, inr is) (tell, _, _, _, inl also) first second
-      same = absurd (none_open other is.1 second also (rw same at is.2))
-  one_as law (Or a b) one other (told, at, may, its, inr is) (tell, too, can, own, inr also) first
-      second same = sym is.0 ∙ (first_once law told tell may can (its ∙ same ∙ sym own)
-      (a ∷ b ∷ []) at too ∙ also.0)
-  one_as law Open one other is also first second same =
-      first_once law one other first second same readings is.0 also.0
+    -- so what open reads is what any format of a reader's reply reads of the same bytes
+    pub agree : (format : Format) → IsExtended format → IsReadAs format command one
+        → IsReadAs Open command other → one ≡ other
+    agree (As reading) extended is also = absurd extended
+    agree (Or _ _) extended (told, _, _, _, inl is) also = once readings is.0 also.0
+    agree (Or _ _) extended (told, _, _, _, inr is) also =
+        absurd (none_open other is.1 second also (rw same at is.2))
+    agree Open extended is also = once readings is.0 also.0
+
+    -- and there is at most one reply in a format
+    pub one_as : (format : Format) → IsReadAs format command one → IsReadAs format command other
+        → one ≡ other
+    one_as (As reading) is also = law reading command one other is also first second same
+    one_as (Or _ _) (told, _, _, _, inl is) (tell, _, _, _, inl also) = once readings is.0 also.0
+    one_as (Or _ _) (told, _, _, _, inl is) (tell, _, _, _, inr also) =
+        absurd (none_open one also.1 first is (rw (sym same) at also.2))
+    one_as (Or _ _) (told, _, _, _, inr is) (tell, _, _, _, inl also) =
+        absurd (none_open other is.1 second also (rw same at is.2))
+    one_as (Or a b) (told, at, may, its, inr is) (tell, too, can, own, inr also) =
+        sym is.0 ∙ (first_once law told tell may can (its ∙ same ∙ sym own) (a ∷ b ∷ []) at too
+        ∙ also.0)
+    one_as Open is also = once readings is.0 also.0
 
   -- data bytes have at most one fault in a format
   left_out_once : BytesHaveOneFault → (bytes : List ℕ) (other : MsgFault)
@@ -178,19 +177,6 @@ each P one two three four reading extended = by reading.is_long reading.ids exte
     by false ByNext e = four
     by is_long Bare e = absurd (cc e)
 
--- of the faults in four readings: Profile, or the first where none is
-abbrev IsJoint : MsgFault → MsgFault → MsgFault → MsgFault → MsgFault → Type 0
-IsJoint one two three four Left = (one ≡ Left) ⊎ ((two ≡ Left) ⊎ ((three ≡ Left) ⊎ (four ≡ Left)))
-IsJoint one two three four fault = (one ≡ fault) × (two ≢ Left) × (three ≢ Left) × (four ≢ Left)
-
-is_joint : (one two three four : MsgFault)
-    → IsJoint one two three four (joint_fault one two three four)
-is_joint Left two three four = inl refl
-is_joint one Left three four = inr (inl refl)
-is_joint one two Left four = inr (inr (inl refl))
-is_joint one two three Left = inr (inr (inr refl))
-is_joint one two three four = (refl, λ e. cc e, λ e. cc e, λ e. cc e)
-
 module _ (law : BytesHaveOneFault) (command : Command) (bytes : List ℕ) where
   -- a fault that isn't Profile is that of each reading that has none of it
   same_in : (one other : Reading) → is_extended one ≡ true → is_extended other ≡ true
@@ -211,37 +197,30 @@ module _ (law : BytesHaveOneFault) (command : Command) (bytes : List ℕ) where
   same_in one other e f Left also apart bad too out = absurd (apart refl)
 
   -- so the fault of four is that of open bytes
-  module _ (one two three four : MsgFault) (a : IsReadFault (long Full) command bytes one)
-      (b : IsReadFault (long ByNext) command bytes two)
-      (c : IsReadFault (short Full) command bytes three)
-      (d : IsReadFault (short ByNext) command bytes four) where
-    by_joint : (fault : MsgFault) → IsJoint one two three four fault
-        → HasFault Open command bytes fault
-    by_joint Left is =
-        let its : (reading : Reading) × (is_extended reading ≡ true)
-        × IsReadFault reading command bytes Left = elim is [
-          | inl first ↦ (long Full, refl, rw first at a)
-          | inr (inl second) ↦ (long ByNext, refl, rw second at b)
-          | inr (inr (inl third)) ↦ (short Full, refl, rw third at c)
-          | inr (inr (inr last)) ↦ (short ByNext, refl, rw last at d)
-        ] in
-        inl (
-          each (λ reading. (fault : MsgFault) × IsReadFault reading command bytes fault) (one, a)
-              (two, b) (three, c) (four, d),
-          its.0,
-          its.1,
-          its.2,
-        )
-    by_joint fault is =
-        let bad = rw is.0 at a in
-        let same = λ (other : Reading) (e : is_extended other ≡ true) (also : MsgFault).
-        same_in (long Full) other refl e fault also (λ e. cc e) bad in
-        each (λ reading. IsReadFault reading command bytes fault) bad
-        (same (long ByNext) refl two b is.1) (same (short Full) refl three c is.2)
-        (same (short ByNext) refl four d is.3)
+  have_faults : (one two three four : MsgFault) → IsReadFault (long Full) command bytes one
+      → IsReadFault (long ByNext) command bytes two → IsReadFault (short Full) command bytes three
+      → IsReadFault (short ByNext) command bytes four → HaveFaults command bytes
+  have_faults one two three four a b c d =
+      each (λ reading. (fault : MsgFault) × IsReadFault reading command bytes fault) (one, a)
+      (two, b) (three, c) (four, d)
 
-    pub joint : HasFault Open command bytes (joint_fault one two three four)
-    joint = by_joint _ (is_joint one two three four)
+  pub joint : (one two three four : MsgFault) → IsReadFault (long Full) command bytes one
+      → IsReadFault (long ByNext) command bytes two → IsReadFault (short Full) command bytes three
+      → IsReadFault (short ByNext) command bytes four
+      → HasFault Open command bytes (joint_fault one two three four)
+  joint Left two three four a b c d =
+      inl (have_faults Left two three four a b c d, long Full, refl, a)
+  joint one Left three four a b c d =
+      inl (have_faults one Left three four a b c d, long ByNext, refl, b)
+  joint one two Left four a b c d =
+      inl (have_faults one two Left four a b c d, short Full, refl, c)
+  joint one two three Left a b c d =
+      inl (have_faults one two three Left a b c d, short ByNext, refl, d)
+  joint one two three four a b c d =
+      each (λ reading. IsReadFault reading command bytes one) a
+      (same_in (long Full) (long ByNext) refl refl one two (λ e. cc e) a b (λ e. cc e))
+      (same_in (long Full) (short Full) refl refl one three (λ e. cc e) a c (λ e. cc e))
+      (same_in (long Full) (short ByNext) refl refl one four (λ e. cc e) a d (λ e. cc e))
 
 -- a reply that is no reader's is one in each reading of the extended profile
 abbrev IsPlain : Reply → Type 0

@@ -1,10 +1,9 @@
 -- A row that a position leads on by extends the act list.
-use Rattle.std.proofs.Common.{◌+◌, rules, ◌⊎◌, arith, refl, ap, sym, subst, ◌∙◌, ◌≡◌, ◌<◌, ◌≤◌, ℕ, List, [], ◌∷◌, ◌++◌, inl, inr, Option, Some, None, length, length-append, append_assoc}
-use Rattle.mdb_bus.proofs.Words.{Act, act_after, act_in, acts_of, All-append, All-from_recursion, append-nil, ArePieces, Asked, asked_after, asked_device, Asks, AskTail, Break, break_least, BreakMayCome, Controller, Event, events_of, first_position, Grown, grown, InAsk, InBlockTime, InForeign, InRepeat, InReply, IsAt, IsByte, IsSaid, IsTail, last_of, Leads, left_by, left_open, Levels, levels_before, levels_if, levels_of, Line, MayCome, Opens, Peripheral, Piece, piece_after, piece_events, PieceFits, pieces_after, Position, position_after, position_of, Profile, profile_of, Quiet, RepeatTail, Replied, ReplyTail, Returned, Say, Scope, Situation, situation_of, Step, Whole, with_act, Word, WordLeads}
+use Rattle.mdb_bus.proofs.Words.{[], Act, act_after, act_in, acts_of, All-append, All-from_recursion, ap, append-nil, append_assoc, ArePieces, arith, Asked, asked_after, asked_device, Asks, AskTail, Break, break_least, BreakMayCome, Controller, Event, events_of, first_position, Grown, grown, InAsk, InBlockTime, InForeign, inl, inr, InRepeat, InReply, IsAt, IsByte, IsSaid, IsTail, last_of, Leads, left_by, left_open, length, length-append, Levels, levels_before, levels_if, levels_of, Line, List, MayCome, None, Opens, Option, Peripheral, Piece, piece_after, piece_events, PieceFits, pieces_after, Position, position_after, position_of, Profile, profile_of, Quiet, refl, RepeatTail, Replied, ReplyTail, Returned, rules, Say, Scope, Situation, situation_of, Some, Step, subst, sym, Whole, with_act, Word, WordLeads, ℕ, ◌++◌, ◌+◌, ◌<◌, ◌∙◌, ◌∷◌, ◌≡◌, ◌≤◌, ◌⊎◌, IsReplyFront}
 use Rattle.mdb_bus.specs.declared.act.Act.TheVariants as acts
 use Rattle.mdb_bus.specs.shared.Step as step
-use Rattle.mdb_bus.proofs.Rows.{begins_block, say_byte, say_sum, say_word, spaced_more}
-use Rattle.mdb_bus.proofs.Lists.{at_first}
+use Rattle.mdb_bus.proofs.Rows.{begins_block, say_byte, say_sum, say_word}
+use Rattle.mdb_bus.proofs.Lists.{at_first, spaced_on}
 use Rattle.mdb_bus.proofs.Verdicts.{sealed}
 
 module _ (scope : Scope) (pieces : List Piece) (row : Event) (next : Step) where
@@ -167,8 +166,9 @@ module _ (scope : Scope) where
       extended (tail ∷ pieces) row next at pieces old made (
         record {
           said = goes.0;
-          spaced = rw (rows, stood.begins) (spaced_more Taken (events_of pieces) stood.first
-              stood.others row (rw stood.begins at are.0.spaced) (rw stood.begins at goes.2));
+          spaced = rw (rows, stood.begins) ((spaced_on Taken row (events_of pieces)
+              (stood.first ∷ stood.others) (λ none. cc none)).1
+              (rw stood.begins at are.0.spaced, rw stood.begins at goes.2));
         },
         record {
           first = stood.first;
@@ -224,19 +224,14 @@ module _ (scope : Scope) where
         → Begins position from levels (Word at line word) next
     begins Quiet free Controller next leads = opens Quiet tt next leads
     begins (Asked command) free Peripheral (step.ReplyByte byte) leads =
-        let below : byte < 256 = omega (arith, leads.0, leads.1) in (
-          (
-            record {
-              allowed = leads.2;
-              some = omega arith;
-              few = omega arith;
-              in_range = All-from_recursion IsByte (byte ∷ []) (below, tt);
-            },
-            says Peripheral byte leads.0,
-          ),
-          (refl, leads.3),
-          tt,
-        )
+        let below : byte < 256 = omega (arith, leads.0, leads.1) in
+        let front : IsReplyFront command (byte ∷ []) = record {
+          allowed = leads.2;
+          some = omega arith;
+          few = omega arith;
+          in_range = All-from_recursion IsByte (byte ∷ []) (below, tt);
+        } in
+        ((front, says Peripheral byte leads.0), (refl, leads.3), tt)
     begins (Replied command reply) free Controller (step.AskByte byte) leads =
         opens (Replied command reply) tt (step.AskByte byte) leads
     begins (Returned command reply) free Peripheral (step.RepeatWord said) leads =
@@ -253,22 +248,14 @@ module _ (scope : Scope) where
     goes_on : (tail : Piece) → IsTail tail → IsSaid scope tail → (line : Line) (next : Step)
         → WordLeads scope (left_by tail) from levels (Word at line word) line word next
         → Longer tail from levels (Word at line word) next
-    goes_on (AskTail bytes events) open_end said Controller (step.AskByte byte) leads = (
-      (leads.2, rw (sym leads.0) (say_byte bytes events at word said.0.some said.1)),
-      tt,
-      leads.3,
-      λ position before first others is comes. comes,
-    )
+    goes_on (AskTail bytes events) open_end said Controller (step.AskByte byte) leads =
+        let says = say_byte bytes events at word said.0.some said.1 in
+        ((leads.2, rw (sym leads.0) says), tt, leads.3, λ _ _ _ _ _ comes. comes)
     goes_on (AskTail bytes events) open_end said Controller (step.Ask command) leads =
-        let same = leads.1.spells.bytes in (
-          (
-            subst (Asks scope command) same leads.1,
-            rw same at (say_byte bytes events at word said.0.some said.1),
-          ),
-          leads.2,
-          leads.3,
-          λ position before first others is comes. comes,
-        )
+        let same = leads.1.spells.bytes in
+        let asks = subst (Asks scope command) same leads.1 in
+        let says = say_byte bytes events at word said.0.some said.1 in
+        ((asks, rw same at says), leads.2, leads.3, λ _ _ _ _ _ comes. comes)
     goes_on (AskTail bytes events) open_end said Controller step.Foreign leads = (
       inl (bytes ++ word ∷ [], leads.1, say_byte bytes events at word said.0.some said.1),
       tt,
@@ -277,40 +264,26 @@ module _ (scope : Scope) where
           (begins_block bytes first others said.0.some (rw is at said.1), comes),
     )
     goes_on (ReplyTail command bytes events) open_end said Peripheral (step.ReplyByte byte) leads =
-        let below : byte < 256 = omega (arith, leads.0, leads.1) in (
-          (
-            record {
-              allowed = said.0.allowed;
-              some = omega (arith, length-append bytes (byte ∷ []));
-              few = omega (arith, leads.2, length-append bytes (byte ∷ []));
-              in_range = All-append IsByte bytes (byte ∷ []) said.0.in_range
-                  (All-from_recursion IsByte (byte ∷ []) (below, tt));
-            },
-            rw (sym leads.0) (say_word Peripheral bytes events at word said.1),
-          ),
-          tt,
-          leads.3,
-          λ position before first others is comes. comes,
-        )
-    goes_on (ReplyTail command bytes events) open_end said Peripheral (step.Reply reply) leads = (
-      (leads.1, rw leads.2 at (say_sum bytes events at word leads.0 said.1)),
-      leads.3,
-      leads.4,
-      λ position before first others is comes. comes,
-    )
+        let below : byte < 256 = omega (arith, leads.0, leads.1) in
+        let front : IsReplyFront command (bytes ++ byte ∷ []) = record {
+          allowed = said.0.allowed;
+          some = omega (arith, length-append bytes (byte ∷ []));
+          few = omega (arith, leads.2, length-append bytes (byte ∷ []));
+          in_range = All-append IsByte bytes (byte ∷ []) said.0.in_range
+              (All-from_recursion IsByte (byte ∷ []) (below, tt));
+        } in
+        let says = say_word Peripheral bytes events at word said.1 in
+        ((front, rw (sym leads.0) says), tt, leads.3, λ _ _ _ _ _ comes. comes)
+    goes_on (ReplyTail command bytes events) open_end said Peripheral (step.Reply reply) leads =
+        let says = say_sum bytes events at word leads.0 said.1 in
+        ((leads.1, rw leads.2 at says), leads.3, leads.4, λ _ _ _ _ _ comes. comes)
     goes_on (RepeatTail command reply words events) open_end said Peripheral (step.RepeatWord told)
-        leads = (
-          rw (sym leads.0) (leads.1, say_word Peripheral words events at word said.1),
-          tt,
-          leads.2,
-          λ position before first others is comes. comes,
-        )
-    goes_on (RepeatTail command reply words events) open_end said Peripheral step.Repeat leads = (
-      rw leads.0 at (say_word Peripheral words events at word said.1),
-      tt,
-      leads.1,
-      λ position before first others is comes. comes,
-    )
+        leads =
+        let says = say_word Peripheral words events at word said.1 in
+        (rw (sym leads.0) (leads.1, says), tt, leads.2, λ _ _ _ _ _ comes. comes)
+    goes_on (RepeatTail command reply words events) open_end said Peripheral step.Repeat leads =
+        let says = say_word Peripheral words events at word said.1 in
+        (rw leads.0 at says, tt, leads.1, λ _ _ _ _ _ comes. comes)
     goes_on tail open_end said line next leads = search
 
   -- a break stands at each position

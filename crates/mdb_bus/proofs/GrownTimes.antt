@@ -1,7 +1,7 @@
 -- Haste, and the rows out of their time, after one row more.
-use Rattle.std.proofs.Common.{arith, refl, ap, sym, subst, ◌∙◌, ◌≡◌, ◌≢◌, ◌⊎◌, inl, inr, ◌+◌, ◌<◌, ℕ, List, [], ◌∷◌, ◌++◌, Bool, true, false, if◌then◌else◌, Option, Some, None}
-use Rattle.mdb_bus.proofs.Words.{Act, ArePieces, asked_device, AskTail, Base, Blame, block_most, Break, came_early, Controller, controller_words, Device, Event, events_of, far_apart, Grown, haste_after, haste_with, InAsk, is_in_haste, is_past, is_untimely, IsSaid, IsTail, last_of, Leads, left_by, Line, lt-ltb, Peripheral, Piece, piece_events, pieces_after, Position, position_of, RepeatTail, ReplyTail, Say, Scope, sender_by, situation_of, Step, untimely_of, untimely_sender, Whole, with_rows, with_sender, with_untimely, Word}
+use Rattle.mdb_bus.proofs.Words.{[], Act, ap, ArePieces, arith, asked_device, AskTail, Base, Blame, block_most, Bool, Break, came_early, Controller, controller_words, Device, Event, events_of, false, far_apart, Grown, haste_after, haste_with, if◌then◌else◌, InAsk, inl, inr, is_in_haste, is_past, is_untimely, IsSaid, IsTail, last_of, Leads, left_by, Line, List, lt-ltb, None, Option, Peripheral, Piece, piece_events, pieces_after, Position, position_of, refl, RepeatTail, ReplyTail, Say, Scope, sender_by, situation_of, Some, Step, subst, sym, true, untimely_of, untimely_sender, Whole, with_rows, with_sender, with_untimely, Word, ℕ, ◌++◌, ◌+◌, ◌<◌, ◌∙◌, ◌∷◌, ◌≡◌, ◌≢◌, ◌⊎◌}
 use Rattle.mdb_bus.specs.declared.untimely.Untimely.{Untimely}
+use Rattle.mdb_bus.specs.declared.act.Act.TheVariants as acts
 use Rattle.mdb_bus.specs.declared.fault.Blame.TheVariants as blame
 use Rattle.mdb_bus.specs.shared.Step as step
 use Rattle.mdb_bus.proofs.Sound.{rest_last, piece_some}
@@ -90,22 +90,6 @@ late_inside (AskTail bytes events) from (Word at Controller word) goes = refl
 late_inside tail from (Word at Peripheral word) goes = search
 late_inside tail from row goes = search
 
--- what is told of grown pieces by the rows of the newest: of one row, and of a tail's with one more
-by_rows : {X : Type 0} (With : List Piece → List Event → X) (After : List Piece → X)
-    (pieces longer : List Piece) (row : Event) (act : Option Act) (g : Grown pieces row act longer)
-    → With pieces (row ∷ []) ≡ After pieces
-    → ((tail : Piece) (earlier : List Piece) → IsTail tail → pieces ≡ tail ∷ earlier
-    → With earlier (piece_events tail ++ row ∷ []) ≡ After (tail ∷ earlier))
-    → With g.earlier (piece_events g.newest) ≡ After pieces
-by_rows With After pieces longer row act g alone more = ap (With g.earlier) g.events ∙ by g.from
-  where
-    by : ((g.begun ≡ []) × (pieces ≡ g.earlier))
-        ⊎ ((tail : Piece) × IsTail tail × (piece_events tail ≡ g.begun)
-        × (pieces ≡ tail ∷ g.earlier)) → With g.earlier (g.begun ++ row ∷ []) ≡ After pieces
-    by (inl (none, same)) = rw (none, ← same) alone
-    by (inr (tail, open_end, is, same)) =
-        rw (← is) (more tail g.earlier open_end same) ∙ ap After (sym same)
-
 module _ (scope : Scope) where
   abbrev Last : List Piece → Option Event
   Last pieces = last_of (events_of pieces)
@@ -119,26 +103,50 @@ module _ (scope : Scope) where
   goes_on tail earlier at Controller word next open_end leads = search
   goes_on tail earlier at line word next open_end leads = search
 
+  -- what is told of grown pieces by the rows of the newest: of one, and of a tail's with one more
+  by_rows : {X : Type 0} (With : List Piece → List Event → X) (After : List Piece → X)
+      (pieces : List Piece) (row : Event) (next : Step) (act : Option Act) → ArePieces scope pieces
+      → Leads (situation_of scope pieces) row next
+      → (g : Grown pieces row act (pieces_after scope pieces row next))
+      → With pieces (row ∷ []) ≡ After pieces
+      → ((tail : Piece) (earlier : List Piece) → ArePieces scope (tail ∷ earlier) → IsTail tail
+      → GoesOnWith tail row → With earlier (piece_events tail ++ row ∷ []) ≡ After (tail ∷ earlier))
+      → With g.earlier (piece_events g.newest) ≡ After pieces
+  by_rows With After pieces (Break at length) (step.Break lasted) act are leads g alone more =
+      let same : pieces ≡ g.earlier = cc (g.are) in
+      let new : Whole (acts.Break lasted) (Break at length ∷ []) ≡ g.newest = cc (g.are) in
+      subst (λ ps. With ps (piece_events g.newest) ≡ After pieces) same (rw (← new) alone)
+  by_rows With After pieces (Break at length) next act are leads g alone more = absurd leads
+  by_rows With After pieces (Word at line word) next act are leads g alone more =
+      ap (With g.earlier) g.events ∙ by g.from
+    where
+      by : ((g.begun ≡ []) × (pieces ≡ g.earlier))
+          ⊎ ((tail : Piece) × IsTail tail × (piece_events tail ≡ g.begun)
+          × (pieces ≡ tail ∷ g.earlier))
+          → With g.earlier (g.begun ++ Word at line word ∷ []) ≡ After pieces
+      by (inl (none, same)) = rw (none, ← same) alone
+      by (inr (tail, open_end, is, same)) =
+          let goes = goes_on tail g.earlier at line word next open_end
+          (subst (λ ps. Leads (situation_of scope ps) (Word at line word) next) same leads) in
+          rw (← is) (more tail g.earlier (subst (ArePieces scope) same are) open_end goes)
+          ∙ ap After (sym same)
+
   -- haste after a row
   pub haste_on : (pieces : List Piece) (row : Event) (next : Step) (act : Option Act)
       → ArePieces scope pieces → Leads (situation_of scope pieces) row next
       → Grown pieces row act (pieces_after scope pieces row next)
       → is_in_haste scope (pieces_after scope pieces row next)
       ≡ haste_after (position_of scope pieces) (Last pieces) row (is_in_haste scope pieces)
-  haste_on pieces (Break at length) (step.Break lasted) act are leads g = refl
-  haste_on pieces (Break at length) next act are leads g = absurd leads
-  haste_on pieces (Word at line word) next act are leads g =
+  haste_on pieces row next act are leads g =
       ap (is_in_haste scope) g.are
       ∙ by_rows (λ earlier events. haste_with (position_of scope earlier) (Last earlier) events
-      (is_in_haste scope earlier)) (λ ps. haste_after (position_of scope ps) (Last ps)
-      (Word at line word) (is_in_haste scope ps)) pieces _ (Word at line word) act g refl
-      (λ tail earlier open_end same.
-      with_more (position_of scope earlier) (Last earlier) (piece_events tail)
-      (Word at line word) (is_in_haste scope earlier)
-      (piece_some scope earlier tail (subst (ArePieces scope) same are).1)
-      ∙ sym (haste_stays tail (Last (tail ∷ earlier)) (Word at line word)
-      (is_in_haste scope (tail ∷ earlier)) (goes_on tail earlier at line word next open_end
-      (subst (λ ps. Leads (situation_of scope ps) (Word at line word) next) same leads))))
+      (is_in_haste scope earlier)) (λ ps. haste_after (position_of scope ps) (Last ps) row
+      (is_in_haste scope ps)) pieces row next act are leads g refl
+      (λ tail earlier its open_end goes.
+      with_more (position_of scope earlier) (Last earlier) (piece_events tail) row
+      (is_in_haste scope earlier) (piece_some scope earlier tail its.1)
+      ∙ sym (haste_stays tail (Last (tail ∷ earlier)) row (is_in_haste scope (tail ∷ earlier))
+      goes))
 
   -- who sent the first word of a tail sent the word that goes on with it
   same_sender : (tail : Piece) (row first : Event) (others : List Event) (asked : Option Device)
@@ -189,15 +197,10 @@ module _ (scope : Scope) where
       → Grown pieces row act (pieces_after scope pieces row next)
       → untimely_of scope (pieces_after scope pieces row next)
       ≡ with_sender (untimely_sender scope pieces row) (untimely_of scope pieces)
-  untimely_by_step pieces (Break at length) (step.Break lasted) act are leads g =
-      alone_row pieces (Break at length)
-  untimely_by_step pieces (Break at length) next act are leads g = absurd leads
-  untimely_by_step pieces (Word at line word) next act are leads g =
+  untimely_by_step pieces row next act are leads g =
       ap (untimely_of scope) g.are
       ∙ by_rows (λ earlier events. with_rows (position_of scope earlier) (Last earlier)
       (asked_device earlier) events (untimely_of scope earlier))
-      (λ ps. with_sender (untimely_sender scope ps (Word at line word)) (untimely_of scope ps))
-      pieces _ (Word at line word) act g (alone_row pieces (Word at line word))
-      (λ tail earlier open_end same. more_rows tail earlier (Word at line word)
-      (subst (ArePieces scope) same are) open_end (goes_on tail earlier at line word next open_end
-      (subst (λ ps. Leads (situation_of scope ps) (Word at line word) next) same leads)))
+      (λ ps. with_sender (untimely_sender scope ps row) (untimely_of scope ps))
+      pieces row next act are leads g (alone_row pieces row)
+      (λ tail earlier its. more_rows tail earlier row its)

@@ -1,7 +1,6 @@
 -- The acts in which a device has a part, where further devices are left out: those of a device that
 -- stays followed stay, and a device that is left out has a part in breaks alone.
-use Rattle.std.proofs.Common.{ap, refl, sym, ◌∙◌, ◌≡◌, Bool, true, false, if◌then◌else◌, Option, Some, None, List, [], ◌∷◌}
-use Rattle.mdb_bus.proofs.Words.{Act, acts_of, acts_with, ArePieces, breaks_among, Device, device_in, DeviceSet, Event, filter, First, has, has_part, is_break, is_left_out, is_one_left_out, is_this, IsFollowed, IsLeftOut, Piece, piece_events, Scope, Second, Whole, with_foreign}
+use Rattle.mdb_bus.proofs.Words.{[], Act, acts_of, acts_with, ArePieces, Bool, breaks_among, Device, device_in, DeviceSet, Event, false, filter, First, has, has_part, if◌then◌else◌, is_break, is_left_out, is_one_left_out, is_this, IsFollowed, IsLeftOut, List, None, Option, Piece, piece_events, refl, Scope, Second, Some, sym, true, Whole, with_foreign, ◌∙◌, ◌∷◌, ◌≡◌}
 use Rattle.mdb_msgs.specs.Devices.{same_device}
 use Rattle.mdb_bus.specs.LeavingOut.{leave_out}
 use Rattle.mdb_msgs.specs.declared.command.Device.TheVariants as devices
@@ -21,14 +20,11 @@ apart set one other differ = refl
 -- acts that are kept with one more that is, and with one that isn't
 kept : (keep other : Act → Bool) (act : Act) (one rest : List Act) → keep act ≡ other act
     → filter keep one ≡ filter other rest → filter keep (act ∷ one) ≡ filter other (act ∷ rest)
-kept keep other act one rest part same =
-    ap (λ (is : Bool). if is then act ∷ filter keep one else filter keep one) part
-    ∙ ap (λ (acts : List Act). if other act then act ∷ acts else acts) same
+kept keep other act one rest part same = rw (part, same)
 
 dropped : (keep : Act → Bool) (act : Act) (rest : List Act) → keep act ≡ false
     → filter keep (act ∷ rest) ≡ filter keep rest
-dropped keep act rest none =
-    ap (λ (is : Bool). if is then act ∷ filter keep rest else filter keep rest) none
+dropped keep act rest none = rw none
 
 -- What is kept of the acts that stay is what is kept by another test of the acts that there were:
 -- by that one none is that is left out, and both agree on what stays.

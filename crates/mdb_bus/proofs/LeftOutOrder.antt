@@ -1,7 +1,6 @@
 -- Pieces in order, where further devices are left out: what stays may stand where it stood, and
 -- what is of a device that is left out stands as foreign acts.
-use Rattle.std.proofs.Common.{arith, ap, refl, sym, subst, ◌∙◌, ◌≡◌, ◌++◌, inl, inr, Bool, true, false, if◌then◌else◌, List, [], ◌∷◌, Option, Some, None, append_assoc}
-use Rattle.mdb_bus.proofs.Words.{Act, append-nil, ArePieces, AreSpaced, AskTail, begin_left_out, block_of, BlockMayCome, Break, Command, command_bytes, cond_both, Device, device_in, device_of, Event, events_of, First, first_position, ForeignMayCome, Format, format_by, has, InAnswerTime, InForeign, is_left_out, is_one_left_out, IsByte, IsFollowed, IsForeign, IsInProfile, IsLeftOut, IsReadAs, IsSaid, last_of, LeavesOutMore, left_by, Levels, levels_before, levels_by, levels_for, levels_of, MayCome, NEW_BLOCK_GAP_MIN, NotBefore, Piece, piece_events, PieceFits, Position, position_of, position_without, Profile, profile_of, Quiet, RepeatTail, Reply, reply_words, ReplyTail, rest_after, Scope, Second, spelled_low, untold_format, Whole, with_foreign, Word}
+use Rattle.mdb_bus.proofs.Words.{[], Act, ap, append-nil, append_assoc, ArePieces, AreSpaced, arith, AskTail, begin_left_out, block_of, BlockMayCome, Bool, Break, Command, command_bytes, cond_both, Device, device_in, device_of, Event, events_of, false, First, first_position, ForeignMayCome, Format, format_by, has, if◌then◌else◌, InAnswerTime, InForeign, inl, inr, is_left_out, is_one_left_out, IsByte, IsFollowed, IsForeign, IsInProfile, IsLeftOut, IsReadAs, IsSaid, last_of, LeavesOutMore, left_by, Levels, levels_before, levels_by, levels_for, levels_of, List, MayCome, NEW_BLOCK_GAP_MIN, None, NotBefore, Option, Piece, piece_events, PieceFits, Position, position_of, position_without, Profile, profile_of, Quiet, refl, RepeatTail, Reply, reply_words, ReplyTail, rest_after, Scope, Second, Some, spelled_low, subst, sym, true, untold_format, Whole, with_foreign, Word, ◌++◌, ◌∙◌, ◌∷◌, ◌≡◌}
 use Rattle.mdb_bus.specs.declared.levels.ReaderLevels.{ReaderLevels}
 use Rattle.mdb_bus.specs.LeavingOut.{leave_out}
 use Rattle.mdb_msgs.specs.declared.command.Command.TheVariants as commands
@@ -57,7 +56,8 @@ where_without less more (piece ∷ pieces) order =
     let stands = order.1 in
     leaving more piece pieces (λ ps. position_of more ps ≡ position_without more (piece ∷ pieces))
     (λ out. rw (stands.begins, out)
-    (foreign_position more stands.first stands.others (leave_out more pieces))) (λ kept. rw kept refl)
+    (foreign_position more stands.first stands.others (leave_out more pieces)))
+    (λ kept. rw kept refl)
 
 -- what waits for an answer waits for a word
 rests_enough : (from : Option Event) (to : Event) → NotBefore NEW_BLOCK_GAP_MIN from to
@@ -153,11 +153,11 @@ module _ (scope : Scope) (position without : Position) (from : Option Event)
     becomes (Whole (acts.Reply command reply) events) out said are comes =
         words (peripheral_foreign (reply_words reply) events said.1) are comes refl out
     becomes (Whole (acts.VmcAck command reply) events) out said are comes =
-        words (answer_foreign 0x00 events (omega arith) said) are comes refl out
+        words (answer_foreign _ events (omega arith) said) are comes refl out
     becomes (Whole (acts.VmcNak command reply) events) out said are comes =
-        words (answer_foreign 0xFF events (omega arith) said) are comes refl out
+        words (answer_foreign _ events (omega arith) said) are comes refl out
     becomes (Whole (acts.VmcRet command reply) events) out said are comes =
-        words (answer_foreign 0xAA events (omega arith) said) are comes refl out
+        words (answer_foreign _ events (omega arith) said) are comes refl out
     becomes (Whole (acts.Repeat command reply) events) out said are comes =
         words (peripheral_foreign (reply_words reply) events said) are comes refl out
     becomes (Whole acts.Foreign events) out said are comes =
@@ -202,12 +202,10 @@ module _ (scope : Scope) where
 told_another : (profile : Profile) (scope : Scope) (command : Command) (act : Act) (levels : Levels)
     → IsFollowed scope (device_of command) → is_one_left_out scope (device_in act) ≡ true
     → levels_for command (levels_by profile act levels) ≡ levels_for command levels
-told_another profile scope (commands.Reader First command)
-    (acts.Ask (commands.Reader Second (readers.SetupConfig level columns rows display))) levels
-    followed out = refl
-told_another profile scope (commands.Reader Second command)
-    (acts.Ask (commands.Reader First (readers.SetupConfig level columns rows display))) levels
-    followed out = refl
+told_another profile scope (commands.Reader First _)
+    (acts.Ask (commands.Reader Second (readers.SetupConfig _ _ _ _))) levels followed out = refl
+told_another profile scope (commands.Reader Second _)
+    (acts.Ask (commands.Reader First (readers.SetupConfig _ _ _ _))) levels followed out = refl
 told_another profiles.Extended scope (commands.Reader First command)
     (acts.Reply (commands.Reader Second asked) (replies.Reader list)) levels followed out = refl
 told_another profiles.Extended scope (commands.Reader Second command)
@@ -219,15 +217,12 @@ same_after : (profile : Profile) (command : Command) (act : Act) (one other : Le
     → levels_for command one ≡ levels_for command other
     → levels_for command (levels_by profile act one)
     ≡ levels_for command (levels_by profile act other)
-same_after profile (commands.Reader First command)
-    (acts.Ask (commands.Reader First (readers.SetupConfig level columns rows display))) one other
-    same = rw same
-same_after profile (commands.Reader Second command)
-    (acts.Ask (commands.Reader Second (readers.SetupConfig level columns rows display))) one other
-    same = rw same
-same_after profile (commands.Reader unit command)
-    (acts.Ask (commands.Reader another (readers.SetupConfig level columns rows display))) one other
-    same = same
+same_after profile (commands.Reader First _)
+    (acts.Ask (commands.Reader First (readers.SetupConfig _ _ _ _))) one other same = rw same
+same_after profile (commands.Reader Second _)
+    (acts.Ask (commands.Reader Second (readers.SetupConfig _ _ _ _))) one other same = rw same
+same_after profile (commands.Reader unit _)
+    (acts.Ask (commands.Reader another (readers.SetupConfig _ _ _ _))) one other same = same
 same_after profiles.Extended (commands.Reader First command)
     (acts.Reply (commands.Reader First asked) (replies.Reader list)) one other same = rw same
 same_after profiles.Extended (commands.Reader Second command)

@@ -1,7 +1,6 @@
 -- What is said where further devices are left out: the words of a piece that stays, and those of
 -- one that becomes foreign acts.
-use Rattle.std.proofs.Common.{ap, refl, sym, subst, ◌∙◌, ◌≡◌, ◌<◌, ◌-◌, ◌+◌, arith, inl, inr, Bool, true, false, nat_le, le-leb, ℕ, List, [], ◌∷◌, Option, Some, None, All, slice_index, if◌then◌else◌}
-use Rattle.mdb_bus.proofs.Words.{AllByRecursion, begin_left_out, BlockMayCome, Break, Controller, controller_words, Device, Event, false_from_ne_true, Foreign, ForeignMayCome, has, InForeign, is_to_one_of, IsByte, IsForeign, IsForeignOpening, IsForeignWord, LeavesOutMore, needed_by, needed_in, NotBefore, Peripheral, Position, profile_of, recursion_from_All, rest_after, said_by, Say, Scope, Word, WORD_GAP_MIN}
+use Rattle.mdb_bus.proofs.Words.{[], All, AllByRecursion, ap, arith, begin_left_out, BlockMayCome, Break, Controller, controller_words, Device, Event, false, false_from_ne_true, ForeignMayCome, has, if◌then◌else◌, InForeign, inl, inr, is_to_one_of, IsByte, IsForeign, IsForeignOpening, IsForeignWord, le-leb, LeavesOutMore, List, nat_le, needed_by, needed_in, None, NotBefore, Option, Peripheral, Position, profile_of, recursion_from_All, refl, rest_after, said_by, Say, Scope, slice_index, Some, subst, sym, true, Word, WORD_GAP_MIN, ℕ, ◌+◌, ◌-◌, ◌<◌, ◌∙◌, ◌∷◌, ◌≡◌}
 use Rattle.mdb_msgs.specs.Needs.{device_at}
 use Rattle.mdb_bus.proofs.Followed.{AreFollowed, needed_followed}
 use Rattle.mdb_bus.proofs.Rows.{begins_block}
@@ -146,10 +145,10 @@ module _ (scope : Scope) (position : Position) (from : Option Event) (first : Ev
       first_opens byte (next ∷ []) (sym (begin_to scope byte (next ∷ []) (first ∷ others) says)
       ∙ out) (opening.2, tt) says comes
   as_foreign less out (inl (bytes, opening, says)) comes = absurd opening
-  as_foreign less out (inr further) comes =
-      let is : first ∷ others ≡ further.0 ∷ [] = further.1 in
-      let same : further.0 ≡ first = cc in
-      let alone : [] ≡ others = cc in
-      let word : IsForeignWord first = rw same at further.2 in
-      let none : AreForeignWords others = subst AreForeignWords alone tt in
-      record { act = inr (first, refl, word); comes = comes; words = none }
+  as_foreign less out (inr (event, is, word)) comes =
+      let same : event ≡ first = cc in
+      let alone : [] ≡ others = cc in record {
+        act = inr (first, refl, rw same at word);
+        comes = comes;
+        words = subst AreForeignWords alone tt;
+      }

@@ -1,6 +1,5 @@
 -- Lists of events and of words, with their last element apart.
-use Rattle.std.proofs.Common.{arith, refl, ap, sym, subst, ◌∙◌, ◌≡◌, ◌≢◌, ◌+◌, ◌≤◌, ℕ, List, [], ◌∷◌, ◌++◌, Some, length, All, append_assoc, length-append}
-use Rattle.mdb_bus.proofs.Words.{AreSpaced, Beginning, Break, Controller, controller_words, Event, first_position, get_or-append-add, get_or_append_left, InBlockTime, InForeign, Joined, last_of, length-map, Line, peripheral_words, Position, PowerOn, Profile, Quiet, said_by, Say, Word}
+use Rattle.mdb_bus.proofs.Words.{[], All, ap, append_assoc, AreSpaced, arith, Beginning, Break, Controller, controller_words, Event, first_position, get_or-append-add, get_or_append_left, InBlockTime, InForeign, Joined, last_of, length, length-append, length-map, Line, List, peripheral_words, Position, PowerOn, Profile, Quiet, refl, said_by, Say, Some, subst, sym, Word, ℕ, ◌++◌, ◌+◌, ◌∙◌, ◌∷◌, ◌≡◌, ◌≢◌, ◌≤◌, ◌↔◌, Option}
 
 -- a recording begins in quiet or in foreign traffic
 pub at_first : (P : Position → Type 0) → P Quiet → P InForeign → (begins : Beginning)
@@ -84,12 +83,8 @@ say_last line (w ∷ words) (f ∷ events) event says =
 pub one_alone : (line : Line) (word : ℕ) (front : List Event) (event : Event) → Say line (word ∷ [])
     (front ++ event ∷ []) → front ≡ []
 one_alone line word [] event says = refl
-one_alone line word (f ∷ front) event says =
-    absurd (omega (
-      arith,
-      say_length line (word ∷ []) (f ∷ front ++ event ∷ []) says,
-      length-append front (event ∷ []),
-    ))
+one_alone line word (f ∷ []) event says = cc
+one_alone line word front event says = cc
 
 -- the controller's words that end in one, after others: the last is no marked one
 pub record ControllerEnd (bytes : List ℕ) (front : List Event) (event : Event) : Type 0 where
@@ -131,30 +126,25 @@ peripheral_push [] byte = refl
 peripheral_push (x ∷ []) byte = refl
 peripheral_push (x ∷ y ∷ ys) byte = ap (λ ws. x ∷ ws) (peripheral_push (y ∷ ys) byte)
 
--- the gaps of events that end in one
-pub spaced_front : (profile : Profile) (events : List Event) (from to : Event)
-    → AreSpaced profile ((events ++ from ∷ []) ++ to ∷ [])
-    → AreSpaced profile (events ++ from ∷ []) × InBlockTime profile (Some from) to
-spaced_front profile [] from to spaced = (tt, spaced.0)
-spaced_front profile (x ∷ []) from to spaced = ((spaced.0, tt), spaced.1.0)
-spaced_front profile (x ∷ y ∷ ys) from to spaced =
-    let rest = spaced_front profile (y ∷ ys) from to spaced.1 in
-    ((spaced.0, rest.0), rest.1)
+-- events after others, with one more, are spaced where they are and it comes in time
+module _ (profile : Profile) (event : Event) where
+  abbrev IsGap : List Event → Option Event → Type 0
+  IsGap front from = AreSpaced profile (front ++ event ∷ [])
+      ↔ (AreSpaced profile front × InBlockTime profile from event)
 
--- the same after other events
+  pub spaced_on : (before front : List Event) → front ≢ [] → IsGap front (last_of (before ++ front))
+  spaced_on before [] some = absurd (some refl)
+  spaced_on before (f ∷ []) some =
+      subst (IsGap (f ∷ [])) (sym (last_push before f)) (λ s. (tt, s.0), λ s. (s.1, tt))
+  spaced_on before (f ∷ g ∷ front) some =
+      let rest = subst (λ es. IsGap (g ∷ front) (last_of es)) (append_assoc before (f ∷ [])
+      (g ∷ front)) (spaced_on (before ++ f ∷ []) (g ∷ front) (λ none. cc)) in
+      (λ s. let r = rest.0 s.1 in ((s.0, r.0), r.1), λ s. (s.0.0, rest.1 (s.0.1, s.1)))
+
 pub inside : (profile : Profile) (before front : List Event) (event : Event) → front ≢ []
     → AreSpaced profile (front ++ event ∷ [])
     → AreSpaced profile front × InBlockTime profile (last_of (before ++ front)) event
-inside profile before front event some spaced =
-    let split = front_and_last front some in
-    let apart = spaced_front profile split.0 split.1 event
-    (subst (λ es. AreSpaced profile (es ++ event ∷ [])) split.2 spaced) in
-    let joined = ap (λ es. before ++ es) split.2
-    ∙ sym (append_assoc before split.0 (split.1 ∷ [])) in
-    let last = ap last_of joined ∙ last_push (before ++ split.0) split.1 in (
-      subst (AreSpaced profile) (sym split.2) apart.0,
-      subst (λ from. InBlockTime profile from event) (sym last) apart.1,
-    )
+inside profile before front event some = (spaced_on profile event before front some).0
 
 -- what holds of each element holds of each in a front, and of the last
 pub all_front : (P : ℕ → Type 0) (xs ys : List ℕ) → All P (xs ++ ys) → All P xs

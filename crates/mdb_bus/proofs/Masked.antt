@@ -1,7 +1,6 @@
 -- What the first bytes of a block tell of ENABLE OPTIONS, which a profile may leave out.
-use Rattle.std.proofs.Common.{arith, ap, refl, sym, ◌∙◌, ◌≡◌, ◌≢◌, ◌≤◌, ◌==◌, ◌%◌, ◌||◌, ◌&&◌, sum, inl, inr, ◌⊎◌, ℕ, Bool, true, false, List, [], ◌∷◌, ◌++◌, length, length-append, if◌then◌else◌}
 use Rattle.std.proofs.lemmas.Bool.Decides.{nat_tests}
-use Rattle.mdb_bus.proofs.Words.{append-nil, begins_options, block_of, cases_eq, Command, Foreign, HasCommand, is_enable_options, leaves_options, More, Need, needed, needed_by, Profile, Spells}
+use Rattle.mdb_bus.proofs.Words.{[], ap, append-nil, arith, begins_options, block_of, Bool, cases_eq, Command, false, Foreign, HasCommand, if◌then◌else◌, inl, inr, is_enable_options, leaves_options, length, length-append, List, More, Need, needed, needed_by, Profile, refl, Spells, sum, sym, true, ℕ, ◌%◌, ◌&&◌, ◌++◌, ◌==◌, ◌||◌, ◌∙◌, ◌∷◌, ◌≡◌, ◌≢◌, ◌≤◌, ◌⊎◌}
 use Rattle.mdb_bus.proofs.Lists.{some_length}
 
 -- a law of mdb_msgs: the first two bytes of a command's block tell whether it is ENABLE OPTIONS
@@ -28,10 +27,6 @@ otherwise true need told is other = absurd (other (sym is))
 otherwise false need told is other = (refl, is)
 
 module _ (profile : Profile) where
-  one_known : (byte : ℕ) → AreKnown profile (byte ∷ [])
-  one_known byte =
-      none_of_both (leaves_options profile) (begins_options (byte ∷ [])) (begins_one byte)
-
   -- more bytes do where the first two do
   pub more_known : (bytes more : List ℕ) → 2 ≤ length bytes → AreKnown profile bytes
       → AreKnown profile (bytes ++ more)
@@ -41,10 +36,10 @@ module _ (profile : Profile) where
   -- bytes that don't need what they need by any profile
   pub known_need : (bytes : List ℕ) → AreKnown profile bytes
       → needed_by profile bytes ≡ needed bytes
-  known_need bytes known = ap (λ (masked : Bool). if masked then Foreign else needed bytes) known
+  known_need bytes known = rw known
 
   pub one_need : (byte : ℕ) → needed_by profile (byte ∷ []) ≡ needed (byte ∷ [])
-  one_need byte = known_need (byte ∷ []) (one_known byte)
+  one_need byte = known_need (byte ∷ []) (none_of_both (leaves_options profile) _ (begins_one byte))
 
   -- what needs anything that isn't foreign is such bytes
   pub unmasked : (bytes : List ℕ) (told : Need) → needed_by profile bytes ≡ told → told ≢ Foreign
@@ -63,7 +58,8 @@ module _ (law : TwoTell) (profile : Profile) where
   pub front_known : (prefix rest : List ℕ) (command : Command) → prefix ≢ []
       → Spells command (prefix ++ rest) → HasCommand profile command → AreKnown profile prefix
   front_known [] rest command some spells known = absurd (some refl)
-  front_known (first ∷ []) rest command some spells known = one_known profile first
+  front_known (first ∷ []) rest command some spells known =
+      none_of_both (leaves_options profile) _ (begins_one first)
   front_known (first ∷ second ∷ more) rest command some spells known =
       rw (law (first ∷ second ∷ more) rest command (omega arith) spells) known
 

@@ -1,6 +1,5 @@
 -- No act names a device that is left out, and no fault of the link is blamed on one.
-use Rattle.std.proofs.Common.{refl, ap, sym, ◌∙◌, ◌≡◌, ◌⊎◌, ◌&&◌, Bool, true, false, if◌then◌else◌, inl, inr, List, [], ◌∷◌, Option, Some, None}
-use Rattle.mdb_bus.proofs.Words.{Act, ArePieces, Asked, asked_device, Blame, blame_of, blame_on, Controller, counted_as, Device, device_in, device_of, Event, fault_of, First, haste_of, InRepeat, InReply, is_excused, IsFollowed, IsLinkFault, LinkFault, Peripheral, Piece, Position, position_of, RepeatTail, Replied, ReplyTail, Returned, Rule, Scope, Second, Whole, wide_of, Word}
+use Rattle.mdb_bus.proofs.Words.{[], Act, ap, ArePieces, Asked, asked_device, Blame, blame_of, blame_on, Bool, Controller, counted_as, Device, device_in, device_of, Event, false, fault_of, First, haste_of, if◌then◌else◌, inl, inr, InRepeat, InReply, is_excused, IsFollowed, IsLinkFault, LinkFault, List, None, Option, Peripheral, Piece, Position, position_of, refl, RepeatTail, Replied, ReplyTail, Returned, Rule, Scope, Second, Some, sym, true, Whole, wide_of, Word, ◌&&◌, ◌∙◌, ◌∷◌, ◌≡◌, ◌⊎◌}
 use Rattle.mdb_msgs.specs.declared.command.Device.TheVariants as device
 use Rattle.mdb_bus.specs.declared.act.Act.TheVariants as acts
 use Rattle.mdb_bus.specs.declared.fault.Blame.TheVariants as blame

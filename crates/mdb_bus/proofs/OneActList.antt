@@ -1,6 +1,5 @@
 -- A transcript has at most one act list, and with an act list each of its fronts has one.
-use Rattle.std.proofs.Common.{arith, refl, ap, sym, subst, ◌∙◌, ◌≡◌, List, [], ◌∷◌, ◌++◌, append_assoc, length, length-append}
-use Rattle.mdb_bus.proofs.Words.{act_after, acts_of, append-nil, ArePieces, Event, events_of, GoesOnFrom, Grammar, HasActList, IsActList, Piece, position_of, RowBreaks, Rule, Scope, situation_of}
+use Rattle.mdb_bus.proofs.Words.{[], act_after, acts_of, ap, append-nil, append_assoc, ArePieces, arith, Event, events_of, GoesOnFrom, Grammar, HasActList, IsActList, length, length-append, List, Piece, position_of, refl, RowBreaks, Rule, Scope, situation_of, subst, sym, ◌++◌, ◌∙◌, ◌∷◌, ◌≡◌}
 use Rattle.mdb_bus.proofs.Backward.{Before, backward}
 use Rattle.mdb_bus.proofs.Forward.{forward}
 use Rattle.mdb_bus.proofs.OneStep.{one_step}

@@ -1,6 +1,5 @@
 -- A row has one fault.
-use Rattle.std.proofs.Common.{ap, sym, subst, ◌∙◌, ◌≡◌, List, [], ◌∷◌, ◌++◌}
-use Rattle.mdb_bus.proofs.Words.{AllByRecursion, Blame, Event, fault_of, IsLinkFault, Piece, recursion_from_All, RowBreaks, Rule, Scope, situation_of}
+use Rattle.mdb_bus.proofs.Words.{[], AllByRecursion, ap, Blame, Event, fault_of, IsLinkFault, List, Piece, recursion_from_All, RowBreaks, Rule, Scope, situation_of, subst, sym, ◌++◌, ◌∙◌, ◌∷◌, ◌≡◌}
 
 -- of rules in an order, one is the first that is broken
 one_first : (Breaks : Rule → Type 0) (r s : Rule) (before other after rest : List Rule)

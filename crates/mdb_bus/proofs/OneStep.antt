@@ -1,6 +1,5 @@
 -- A row leads to one step at most.
-use Rattle.std.proofs.Common.{◌≤◌, arith, refl, ap, sym, ◌∙◌, ◌≡◌, ◌<◌, ◌⊎◌, inl, inr, ℕ, List, [], ◌∷◌, ◌++◌, Option, length}
-use Rattle.mdb_bus.proofs.Words.{Answers, AnswersReply, Asked, Asks, BeginsRepeat, Break, Command, Controller, Event, Exactly, Foreign, GoesOnAsking, GoesOnForeign, GoesOnRepeating, GoesOnReplying, Grammar, InAsk, InForeign, InRepeat, InReply, IsAskFront, IsForeignOpening, IsRepeatFront, Leads, Levels, Line, needed_in, Opens, Peripheral, Position, Quiet, Replied, Reply, reply_words, Returned, Scope, Situation, Step, Word, WordLeads}
+use Rattle.mdb_bus.proofs.Words.{[], ap, arith, Asked, Asks, Break, Command, Controller, Event, Exactly, Foreign, GoesOnAsking, GoesOnForeign, Grammar, InAsk, InForeign, inl, inr, InRepeat, InReply, IsAskFront, IsForeignOpening, IsRepeatFront, Leads, length, Levels, Line, List, needed_in, Opens, Option, Peripheral, Position, Quiet, refl, Replied, Reply, reply_words, Returned, Scope, Situation, Step, sym, Word, WordLeads, ℕ, ◌++◌, ◌<◌, ◌∙◌, ◌∷◌, ◌≡◌, ◌≤◌, ◌⊎◌}
 use Rattle.mdb_bus.specs.shared.Step as step
 use Rattle.mdb_bus.proofs.Lists.{nothing_after, some_length}
 use Rattle.mdb_bus.proofs.Stops.{front_short}
@@ -34,6 +33,12 @@ module _ (scope : Scope) (grammar : Grammar scope) where
       cc clash
 
   module _ (from : Option Event) (levels : Levels) (to : Event) (word : ℕ) where
+    -- a word leads to one step from a position
+    abbrev LeadsOnce : Position → Line → Type 0
+    LeadsOnce position line = (one other : Step)
+        → WordLeads scope position from levels to line word one
+        → WordLeads scope position from levels to line word other → one ≡ other
+
     -- a block begins with one step
     opens_apart : (position : Position) (byte : ℕ)
         → Opens scope position from to word (step.AskByte byte)
@@ -71,8 +76,7 @@ module _ (scope : Scope) (grammar : Grammar scope) where
         → GoesOnAsking scope bytes from to word step.Foreign → ⊥
     byte_or_foreign bytes byte p q = front_not_foreign (bytes ++ byte ∷ []) p.2 (rw p.0 at q.1)
 
-    one_asking : (bytes : List ℕ) (one other : Step) → GoesOnAsking scope bytes from to word one
-        → GoesOnAsking scope bytes from to word other → one ≡ other
+    one_asking : (bytes : List ℕ) → LeadsOnce (InAsk bytes) Controller
     one_asking bytes (step.AskByte byte) (step.Ask command) p q =
         absurd (byte_or_command bytes byte command p q)
     one_asking bytes (step.Ask command) (step.AskByte byte) p q =
@@ -88,55 +92,56 @@ module _ (scope : Scope) (grammar : Grammar scope) where
     one_asking bytes one other p q = search arith
 
     -- a reply goes on with one step
-    one_replying : (command : Command) (bytes : List ℕ) (one other : Step)
-        → GoesOnReplying scope command bytes from levels to word one
-        → GoesOnReplying scope command bytes from levels to word other → one ≡ other
+    one_replying : (command : Command) (bytes : List ℕ)
+        → LeadsOnce (InReply command bytes) Peripheral
     one_replying command bytes (step.Reply reply) (step.Reply other) p q =
         ap step.Reply (grammar.one_reply _ command reply other p.3.0 q.3.0 p.1.answers q.1.answers
         (sym p.2 ∙ q.2))
     one_replying command bytes one other p q = search arith
 
     -- the controller answers a reply with one step
-    one_vmc_answer : (command : Command) (reply : Reply) (one other : Step)
-        → AnswersReply scope command reply from to word one
-        → AnswersReply scope command reply from to word other → one ≡ other
+    one_vmc_answer : (command : Command) (reply : Reply)
+        → LeadsOnce (Replied command reply) Controller
     one_vmc_answer command reply step.VmcAck other p q = search arith
     one_vmc_answer command reply one step.VmcAck p q = search arith
     one_vmc_answer command reply one other p q = search (arith, one_opening)
 
     -- a repeat goes on with one step
-    one_repeating : (reply : Reply) (words : List ℕ) (one other : Step)
-        → GoesOnRepeating scope reply words from to word one
-        → GoesOnRepeating scope reply words from to word other → one ≡ other
-    one_repeating reply words (step.RepeatWord said) step.Repeat p q =
+    one_repeating : (command : Command) (reply : Reply) (words : List ℕ)
+        → LeadsOnce (InRepeat command reply words) Peripheral
+    one_repeating command reply words (step.RepeatWord said) step.Repeat p q =
         absurd (repeat_not_whole reply (words ++ word ∷ []) p.1 q.0)
-    one_repeating reply words step.Repeat (step.RepeatWord said) p q =
+    one_repeating command reply words step.Repeat (step.RepeatWord said) p q =
         absurd (repeat_not_whole reply (words ++ word ∷ []) q.1 p.0)
-    one_repeating reply words one other p q = search arith
+    one_repeating command reply words one other p q = search arith
 
     -- foreign traffic goes on with one step
     is_foreign : (next : Step) → GoesOnForeign from to next → next ≡ step.Foreign
     is_foreign step.Foreign p = refl
     is_foreign next p = absurd p
 
-    ruleset one_each = (arith, one_opening, one_asking, one_replying, one_repeating)
+    one_foreign : LeadsOnce InForeign Controller
+    one_foreign one other (inl p) (inl q) = one_opening InForeign one other p q
+    one_foreign one other (inl p) (inr q) =
+        absurd (omega (arith, q.0, opens_marked InForeign one p))
+    one_foreign one other (inr p) (inl q) =
+        absurd (omega (arith, p.0, opens_marked InForeign other q))
+    one_foreign one other (inr p) (inr q) = is_foreign one p.1 ∙ sym (is_foreign other q.1)
 
     -- a word leads to one step
-    one_word : (position : Position) (line : Line) (one other : Step)
-        → WordLeads scope position from levels to line word one
-        → WordLeads scope position from levels to line word other → one ≡ other
-    one_word InForeign Controller one other (inl p) (inl q) = one_opening InForeign one other p q
-    one_word InForeign Controller one other (inl p) (inr q) =
-        absurd (omega (arith, q.0, opens_marked InForeign one p))
-    one_word InForeign Controller one other (inr p) (inl q) =
-        absurd (omega (arith, p.0, opens_marked InForeign other q))
-    one_word InForeign Controller one other (inr p) (inr q) =
-        is_foreign one p.1 ∙ sym (is_foreign other q.1)
-    one_word InForeign Peripheral one other p q = is_foreign one p ∙ sym (is_foreign other q)
-    one_word (Replied command reply) Controller one other p q =
-        one_vmc_answer command reply one other p q
-    one_word position Controller one other p q = search one_each
-    one_word position Peripheral one other p q = search one_each
+    one_word : (position : Position) (line : Line) → LeadsOnce position line
+    one_word Quiet Controller = one_opening Quiet
+    one_word (InAsk bytes) Controller = one_asking bytes
+    one_word (Asked command) Controller = one_opening (Asked command)
+    one_word (Asked command) Peripheral = λ one other p q. search arith
+    one_word (InReply command bytes) Peripheral = one_replying command bytes
+    one_word (Replied command reply) Controller = one_vmc_answer command reply
+    one_word (Returned command reply) Controller = one_opening (Returned command reply)
+    one_word (Returned command reply) Peripheral = λ one other p q. search arith
+    one_word (InRepeat command reply words) Peripheral = one_repeating command reply words
+    one_word InForeign Controller = one_foreign
+    one_word InForeign Peripheral = λ one other p q. is_foreign one p ∙ sym (is_foreign other q)
+    one_word position line = λ one other p q. absurd p
 
 -- a break leads to one step
 is_break : (s : Situation) (at length : ℕ) (next : Step) → Leads s (Break at length) next

@@ -1,7 +1,5 @@
 -- Where all options are known, the rule that counts is the first one that is broken.
-use Rattle.std.proofs.Common.{refl, ap, ◌∙◌, ◌≡◌, false, List, [], ◌∷◌}
-use Rattle.std.specs.Prelude.{Option, Some}
-use Rattle.mdb_bus.proofs.Words.{Act, all_known, amounts_to, Asked, asked_with_amounts, Command, cond_both, counted_as, First, first_known, InAsk, InReply, is_wide, known_after, known_by, known_of, KnownOptions, Levels, levels_before, levels_of, Piece, Position, profile_of, reader_asked, refuses, Rule, Scope, wide_at, wide_of}
+use Rattle.mdb_bus.proofs.Words.{[], Act, all_known, amounts_to, ap, Asked, asked_with_amounts, Command, cond_both, counted_as, false, First, first_known, InAsk, InReply, is_wide, known_after, known_by, known_of, KnownOptions, Levels, levels_before, levels_of, List, Option, Piece, Position, profile_of, reader_asked, refl, refuses, Rule, Scope, Some, wide_at, wide_of, ◌∙◌, ◌∷◌, ◌≡◌}
 use Rattle.mdb_msgs.specs.declared.command.ReaderUnit.{ReaderUnit}
 use Rattle.mdb_msgs.specs.declared.command.Command.TheVariants as commands
 use Rattle.mdb_bus.specs.declared.act.Act.TheVariants as acts

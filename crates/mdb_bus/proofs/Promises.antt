@@ -1,11 +1,11 @@
 -- The laws of mdb_msgs, put together, of the devices that are followed.
-use Rattle.std.proofs.Common.{refl, ap, ◌∙◌, ◌≡◌, ◌≢◌, ◌<◌, ℕ, List, [], ◌++◌, length, ◌&&◌, ◌%◌, Bool, true, false, All, sum}
-use Rattle.mdb_bus.proofs.Words.{Asks, begins_options, block_of, BlockHasOneReply, Command, command_bytes, Exactly, Foreign, is_enable_options, IsByte, IsIn, IsOpen, IsReplyTo, IsTold, leaves_options, needed, needed_in, OpenIsAnothersFront, PlainOpenIsAFront, profile_of, Reading, Reply, reply_bytes, Scope, Spells, TellsLength}
+use Rattle.mdb_bus.proofs.Words.{[], All, ap, Asks, begins_options, block_of, BlockHasOneReply, Bool, Command, command_bytes, Exactly, false, Foreign, is_enable_options, IsByte, IsOpen, IsTold, leaves_options, length, List, needed, needed_in, OpenIsAnothersFront, PlainOpenIsAFront, profile_of, refl, reply_bytes, Scope, Spells, sum, TellsLength, true, ℕ, ◌%◌, ◌&&◌, ◌++◌, ◌<◌, ◌∙◌, ◌≡◌, ◌≢◌}
 use Rattle.mdb_bus.specs.shared.Grammar.{OpenIsAFront}
 use Rattle.mdb_bus.proofs.Masked.{TwoTell, block_known, front_known, known_need, unmasked}
 use Rattle.mdb_bus.proofs.Followed.{FirstTells, asks_followed, block_followed, needed_followed, still_followed, was_followed, within}
 use Rattle.mdb_bus.proofs.Lists.{not_empty, some_there}
 use Rattle.mdb_bus.proofs.Verdicts.{some_bytes}
+use Rattle.mdb_bus.proofs.FormatLaws.{OneReply}
 
 -- the first two bytes of a command's block tell its length
 pub needs : FirstTells → TwoTell → ((block : List ℕ) (command : Command) → Spells command block
@@ -62,9 +62,7 @@ open_front first law another scope bytes all wanting =
     )
 
 -- for a command and a reading, data bytes have at most one reply
-pub one_reply : BlockHasOneReply → (reading : Reading) (command : Command) (one other : Reply)
-    → IsIn reading command one → IsIn reading command other → IsReplyTo command one
-    → IsReplyTo command other → reply_bytes one ≡ reply_bytes other → one ≡ other
+pub one_reply : BlockHasOneReply → OneReply
 one_reply law reading command one other one_in other_in first second same =
     law reading command (block_of (reply_bytes one)) one other one_in other_in
     (record { answers = first; bytes = refl })

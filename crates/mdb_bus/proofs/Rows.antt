@@ -1,6 +1,5 @@
 -- Lists of rows and of words, with one more at the end.
-use Rattle.std.proofs.Common.{arith, refl, ap, sym, subst, ◌∙◌, ◌≡◌, ◌≢◌, ◌+◌, ◌%◌, ℕ, List, [], ◌∷◌, ◌++◌, Some, sum, append_assoc}
-use Rattle.mdb_bus.proofs.Words.{AreSpaced, block_of, Controller, controller_words, Event, InBlockTime, IsBlockWord, last_of, Line, map-append, Peripheral, peripheral_words, Profile, said_by, Say, Word}
+use Rattle.mdb_bus.proofs.Words.{[], ap, append_assoc, AreSpaced, arith, block_of, Controller, controller_words, Event, InBlockTime, IsBlockWord, last_of, Line, List, map-append, Peripheral, peripheral_words, Profile, refl, Say, Some, subst, sum, sym, Word, ℕ, ◌%◌, ◌++◌, ◌+◌, ◌∙◌, ◌∷◌, ◌≡◌, ◌≢◌}
 use Rattle.mdb_bus.proofs.Lists.{front_and_last, heard, last_push, peripheral_push}
 
 -- words with one more, as it stands in a row, are said by events with one more
@@ -32,26 +31,3 @@ pub begins_block : (bytes : List ℕ) (first : Event) (others : List Event) → 
 begins_block [] first others some says = absurd (some refl)
 begins_block (byte ∷ bytes) first others some says =
     let is = heard first Controller (256 + byte) (cc) in rw is.1 (omega arith)
-
--- spaced events with one more in time
-spaced_push : (profile : Profile) (events : List Event) (from to : Event)
-    → AreSpaced profile (events ++ from ∷ []) → InBlockTime profile (Some from) to
-    → AreSpaced profile ((events ++ from ∷ []) ++ to ∷ [])
-spaced_push profile [] from to spaced near = (near, tt)
-spaced_push profile (x ∷ []) from to spaced near = (spaced.0, (near, tt))
-spaced_push profile (x ∷ y ∷ ys) from to spaced near =
-    (spaced.0, spaced_push profile (y ∷ ys) from to spaced.1 near)
-
--- the same where they stand after others
-pub spaced_more : (profile : Profile) (rows : List Event) (first : Event) (others : List Event)
-    (row : Event) → AreSpaced profile (first ∷ others)
-    → InBlockTime profile (last_of (rows ++ first ∷ others)) row
-    → AreSpaced profile ((first ∷ others) ++ row ∷ [])
-spaced_more profile rows first others row spaced gap =
-    let split = front_and_last (first ∷ others) (λ none. cc none) in
-    let joined : rows ++ first ∷ others ≡ (rows ++ split.0) ++ split.1 ∷ [] =
-    ap (λ es. rows ++ es) split.2 ∙ sym (append_assoc rows split.0 (split.1 ∷ [])) in
-    let last : last_of (rows ++ first ∷ others) ≡ Some split.1 = rw (joined, last_push) in
-    subst (λ es. AreSpaced profile (es ++ row ∷ [])) (sym split.2)
-    (spaced_push profile split.0 split.1 row (subst (AreSpaced profile) split.2 spaced)
-    (rw last at gap))

@@ -1,7 +1,6 @@
 -- Where pieces in order leave the bus: a block there has begun well, and a last row that is a break
 -- is a long one.
-use Rattle.std.proofs.Common.{refl, sym, ◌∙◌, ◌≢◌, ◌≡◌, ℕ, List, [], ◌∷◌, ◌++◌, inl, inr, Some}
-use Rattle.mdb_bus.proofs.Words.{Act, ArePieces, AskTail, Break, command_words, Controller, Event, events_of, InRepeat, IsForeignWord, IsReply, IsSaid, IsSound, last_of, Line, NamesAReply, Peripheral, Piece, piece_events, Position, position_of, profile_of, RepeatTail, Replied, reply_words, ReplyTail, Returned, Say, Scope, Whole, Word, words_on, MayStand}
+use Rattle.mdb_bus.proofs.Words.{[], Act, ArePieces, AskTail, Break, Controller, Event, events_of, inl, inr, InRepeat, IsReply, IsSaid, IsSound, last_of, Line, List, MayStand, NamesAReply, Peripheral, Piece, piece_events, Position, position_of, profile_of, refl, RepeatTail, Replied, ReplyTail, Returned, Say, Scope, sym, Whole, Word, ℕ, ◌++◌, ◌∙◌, ◌∷◌, ◌≡◌, ◌≢◌}
 use Rattle.mdb_bus.specs.declared.act.Act.TheVariants as acts
 use Rattle.mdb_bus.proofs.Stops.{LastIsLong, lasts}
 use Rattle.mdb_bus.proofs.Lists.{at_first}
@@ -30,15 +29,6 @@ say_long line (w ∷ words) (Break at length ∷ []) says = cc
 say_long line [] (event ∷ next ∷ events) says = cc
 say_long line (w ∷ words) (event ∷ next ∷ events) says = say_long line words (next ∷ events) (cc)
 
-one_long : (line : Line) (word : ℕ) (events : List Event) → Say line (word ∷ []) events
-    → LastIsLong (last_of events)
-one_long line word events says = say_long line (word ∷ []) events says
-
--- nor is a word of foreign traffic
-foreign_long : (event : Event) → IsForeignWord event → LastIsLong (Some event)
-foreign_long (Word at line word) further = tt
-foreign_long (Break at length) further = absurd further
-
 module _ (scope : Scope) where
   -- a piece has events
   pub piece_some : (rest : List Piece) (piece : Piece) → MayStand scope rest piece
@@ -61,11 +51,11 @@ module _ (scope : Scope) where
   piece_long (Whole (acts.Reply command reply) events) said = say_long Peripheral _ events said.1
   piece_long (Whole (acts.Repeat command reply) events) said = say_long Peripheral _ events said
   piece_long (Whole acts.Foreign events) (inl opening) = say_long Controller _ events opening.2
-  piece_long (Whole acts.Foreign events) (inr further) =
-      rw further.1 (foreign_long further.0 further.2)
+  piece_long (Whole acts.Foreign events) (inr (Word at line word, is, low)) = rw is tt
+  piece_long (Whole acts.Foreign events) (inr (Break at length, is, low)) = absurd low
   piece_long (Whole (acts.Break length) events) said =
       rw said.1 (lasts (profile_of scope.begins) length said.2)
-  piece_long (Whole act events) said = one_long _ _ events said
+  piece_long (Whole act events) said = say_long _ (_ ∷ []) events said
   piece_long (AskTail bytes events) said = say_long Controller _ events said.1
   piece_long (ReplyTail command bytes events) said = say_long Peripheral _ events said.1
   piece_long (RepeatTail command reply words events) said = say_long Peripheral _ events said.1

@@ -1,8 +1,6 @@
 -- What is made of a word, position by position.
-use Rattle.std.proofs.Common.{rules, arith, refl, ap, sym, ◌∙◌, ◌≡◌, ◌≢◌, ◌+◌, ◌<◌, ◌≤◌, ◌%◌, ◌⊎◌, inl, inr, ℕ, zero, suc, List, [], ◌∷◌, ◌++◌, length, take, drop, slice_index, slice_get, sum, Option, Some, None, Result, Ok, Err, IfOk, OnOk, get_or, append_assoc, length-append, length-drop, Fits, w8, ◌&&◌, ◌↔◌, Bool, true, false, IsTrue}
 use Rattle.std.proofs.lemmas.Option.{slice_get-get_or, slice_get_past}
-use Rattle.std.specs.List.{All}
-use Rattle.mdb_bus.proofs.Words.{All-append, All-from_get_or, All-from_recursion, answer_byte, answer_most, Asked, Base, begins_options, Belongs, block_most, block_of, BytesHaveOneFault, Command, command_bytes, Controller, Counts, Covers, EnablesMore, Event, Exactly, Extended, Foreign, format_for, FrontIsOpen, HasCommand, HasFault, InAsk, InBlockTime, InReply, is_past, is_untimely, IsAskFront, IsBefore, IsByte, IsCommandFront, IsFirstByPlace, IsGoingOn, IsJudged, IsOpen, IsOpened, IsPast, IsRead, IsRepeatFront, IsReplyEnd, IsSettled, IsShort, IsSound, IsTimely, IsUnknownExpansion, Judged, leaves_options, LeavesProfile, Levels, MayAsk, More, MsgFault, Need, needed, needed_by, needed_in, nil_from_length, NotBefore, NotPast, OpenIsAnothersFront, OutOfOrder, Outside, Peripheral, peripheral_words, Place, place_of, Position, position_at, Profile, profile_of, Reply, reply_words, ReplyHasNoFault, RowBreaks, Rule, same_from_push, Scope, Situation, Spells, Word, WORD_GAP_MIN, WrongLength}
+use Rattle.mdb_bus.proofs.Words.{[], All, All-append, All-from_get_or, All-from_recursion, answer_byte, answer_most, ap, append_assoc, arith, Asked, Base, begins_options, Belongs, block_most, block_of, Bool, BytesHaveOneFault, Command, command_bytes, Controller, Counts, Covers, drop, EnablesMore, Err, Event, Exactly, Extended, false, Fits, Foreign, format_for, FrontIsOpen, get_or, HasCommand, HasFault, IfOk, InAsk, InBlockTime, inl, inr, InReply, is_past, is_untimely, IsAskFront, IsBefore, IsByte, IsCommandFront, IsFirstByPlace, IsGoingOn, IsJudged, IsJudgedBy, IsOpen, IsOpened, IsPast, IsRead, IsRepeatFront, IsReplyEnd, IsSettled, IsShort, IsTimely, IsTrue, IsUnknownExpansion, Judged, leaves_options, LeavesProfile, length, length-append, length-drop, Levels, List, More, MsgFault, Need, needed, needed_by, needed_in, nil_from_length, None, NotBefore, NotPast, Ok, OnOk, OpenIsAnothersFront, Option, OutOfOrder, Outside, Peripheral, peripheral_words, place_of, Position, Profile, profile_of, refl, Reply, reply_words, ReplyHasNoFault, Result, RowBreaks, Rule, rules, same_from_push, Scope, Situation, slice_get, slice_index, Some, Spells, suc, sum, sym, take, true, w8, Word, WORD_GAP_MIN, WrongLength, zero, ℕ, ◌%◌, ◌&&◌, ◌++◌, ◌+◌, ◌<◌, ◌↔◌, ◌∙◌, ◌∷◌, ◌≡◌, ◌≢◌, ◌≤◌, ◌⊎◌}
 use Rattle.mdb_blocks.specs.declared.answer.Answer.{Answer}
 use Rattle.mdb_msgs.specs.Answers.{HasDataAnswer}
 use Rattle.mdb_msgs.specs.Laws.{OpenIsAFront}
@@ -26,9 +24,8 @@ in_time least (Some before) to early = omega (arith, early)
 
 not_late : (most : Option ℕ) (from : Option Event) (to : Event) → (IsPast most from to → ⊥)
     → NotPast most from to
-not_late None from to late = tt
-not_late (Some most) None to late = tt
 not_late (Some most) (Some before) to late = omega (arith, late)
+not_late most from to late = search
 
 -- times cover those of the same profile
 pub covers_same : (times profile : Profile) → times ≡ profile → Covers times profile
@@ -39,11 +36,9 @@ covers_same times profile same = tt
 pub block_covered : (times profile : Profile) (from : Option Event) (to : Event)
     (result : Result Judged Rule) → Counts times profile result → InBlockTime times from to
     → IsPast (block_most profile) from to → ⊥
-block_covered times Extended from to result counts near past = past
-block_covered Base Base None to result counts near past = past
 block_covered Base Base (Some before) to result counts near past = omega (arith, near.1, past)
-block_covered Extended Base from to (Ok found) counts near past = counts
 block_covered Extended Base from to (Err broken) counts near past = cc counts
+block_covered times profile from to result counts near past = search
 
 -- and it is timely
 pub block_timely : (times : Profile) (position : Position) (from : Option Event) (to : Event)
@@ -65,16 +60,11 @@ not_foreign : (told : Need) → Wants told → told ≢ Foreign
 not_foreign told (inl more) foreign = cc
 not_foreign told (inr exact) foreign = let is = exact.1 in cc
 
--- a need that tells no length
-abbrev TellsNone : Need → Type 0
-TellsNone (Exactly n) = ⊥
-TellsNone _ = Unit {0}
-
 -- what two bytes don't tell a length of, the first leaves to the second
 left_by : (first word : ℕ) (told : Need) → needed (first ∷ []) ≡ told → IsShort told 1
-    → TellsNone (needed (first ∷ word ∷ [])) → needed (first ∷ []) ≡ More
+    → ((n : ℕ) → needed (first ∷ word ∷ []) ≡ Exactly n → ⊥) → needed (first ∷ []) ≡ More
 left_by first word More is short none = is
-left_by first word (Exactly n) is short none = absurd (rw ((narrows first).known word n is) at none)
+left_by first word (Exactly n) is short none = absurd (none n ((narrows first).known word n is))
 left_by first word other is short none = absurd short
 
 -- a second byte with which a command is open still
@@ -86,9 +76,7 @@ second_short first byte alone told is tell short other (inl more) =
 second_short first byte More told is tell short other (inr exact) =
     rw exact.1 ((narrows first).left byte exact.0 is (tell ∙ exact.1))
 second_short first byte (Exactly m) told is tell short other (inr exact) =
-    let e : Exactly m ≡ Exactly exact.0 =
-    sym ((narrows first).known byte m is) ∙ (tell ∙ exact.1) in
-    let same : m ≡ exact.0 = cc in
+    let same : m ≡ exact.0 = cc ((narrows first).known byte m is, tell, exact.1) in
     let two = (from_2_to_32 (first ∷ []) m (omega arith) is).0 in
     let not_two : m ≡ 2 → ⊥ = λ at. other (ap Exactly at) in
     rw exact.1 (omega arith)
@@ -182,10 +170,10 @@ module _ (profile : Profile) where
       by false none =
           let known = none_of_both (leaves_options profile) _ none in
           left_by first word _ refl alone
-          (rw (sym (known_need profile (first ∷ word ∷ []) known) ∙ foreign) tt)
+          (λ n tells. cc (known_need profile (first ∷ word ∷ []) known, foreign, tells))
 
   -- what is made of a second byte
-  module _ (bytes : List ℕ) (first byte word : ℕ) (told : Need) (is : bytes ≡ first ∷ [])
+  module _ {bytes : List ℕ} {first byte word : ℕ} {told : Need} (is : bytes ≡ first ∷ [])
       (low : byte ≡ word % 256) (small : word < 256)
       (tell : told ≡ needed_by profile (first ∷ byte ∷ [])) (begun : IsOpen bytes) where
     -- one that this profile leaves out
@@ -195,7 +183,8 @@ module _ (profile : Profile) where
         let same : word ≡ byte = omega (arith, low) in
         let unknown : needed_by profile (first ∷ byte ∷ []) ≡ Outside = sym tell ∙ out in
         let plain = unmasked profile (first ∷ byte ∷ []) Outside unknown (λ foreign. cc foreign) in
-        let more = left_by first byte _ refl (rw is at begun) (rw plain.1 tt) in
+        let more = left_by first byte _ refl (rw is at begun)
+        (λ n tells. cc (plain.1, tells)) in
         rw is (rw same (one_need profile first ∙ more, unknown))
 
     -- one that makes the block foreign
@@ -247,19 +236,15 @@ begins_followed first law scope word one told same is wanting =
 module _ (law : (content : List ℕ) → All IsByte content
     → needed content ≡ Exactly (length content + 1)
     → (command : Command) × Spells command (block_of content)) (tell : TwoTell)
-    (bytes : List ℕ) (word : ℕ) (some : 1 ≤ length bytes) (low : All IsByte bytes) (told : needed bytes ≡ Exactly (length bytes + 1))
-    (total : word ≡ sum bytes % 256) where
+    (bytes : List ℕ) (word : ℕ) (some : 1 ≤ length bytes) (low : All IsByte bytes)
+    (told : needed bytes ≡ Exactly (length bytes + 1)) (total : word ≡ sum bytes % 256) where
   ask_whole : (profile : Profile) → AreKnown profile bytes
       → (command : Command) × Spells command (block_of bytes) × Spells command (bytes ++ word ∷ [])
       × HasCommand profile command
   ask_whole profile known =
-      let found = law bytes low told in (
-        found.0,
-        found.1,
-        rw total found.1,
-        ap (λ b. leaves_options profile && b)
-            (sym (content_tells tell bytes found.0 (some_there bytes some) found.1)) ∙ known,
-      )
+      let found = law bytes low told in
+      let same = sym (content_tells tell bytes found.0 (some_there bytes some) found.1) in
+      (found.0, found.1, rw total found.1, ap (λ b. leaves_options profile && b) same ∙ known)
 
   -- which asks for more than is followed, or doesn't
   module _ (more : Bool) (means : (command : Command) → Spells command (block_of bytes)
@@ -272,27 +257,22 @@ module _ (law : (content : List ℕ) → All IsByte content
     pub ask_ends : more ≡ false → (profile : Profile) → AreKnown profile bytes
         → IsGoingOn profile bytes word (Ok judged.Ask)
     ask_ends is profile known =
-        let ask = ask_whole profile known in (
-          ask.0,
-          ask.2,
-          ask.3,
-          λ enables.
-              let clash : true ≡ false = sym ((means ask.0 ask.1).1 enables) ∙ is in cc clash,
-        )
+        let ask = ask_whole profile known in
+        (ask.0, ask.2, ask.3, λ enables. cc ((means ask.0 ask.1).1 enables, is))
 
--- an unmarked word inside a block of the controller, in its time
+-- an unmarked word inside a block of the controller
 module _ (scope : Scope) (bytes : List ℕ) (from : Option Event) (at word : ℕ) (levels : Levels)
     (order : OutOfOrder from (Word at Controller word) → ⊥)
-    (early : IsBefore WORD_GAP_MIN from (Word at Controller word) → ⊥)
-    (late : IsPast (block_most (profile_of scope.begins)) from (Word at Controller word) → ⊥)
-    (small : word < 256) (law : FirstTells) (some : bytes ≢ []) (followed : AreFollowed scope bytes)
-  where
-    abbrev Asking : Situation
-    Asking = record { scope = scope; position = InAsk bytes; last = from; levels = levels }
+    (early : IsBefore WORD_GAP_MIN from (Word at Controller word) → ⊥) (small : word < 256)
+    (law : FirstTells) (begun : IsOpen bytes) (followed : AreFollowed scope bytes) where
+  abbrev Asking : Situation
+  Asking = record { scope = scope; position = InAsk bytes; last = from; levels = levels }
 
-    abbrev Said : Event
-    Said = Word at Controller word
+  abbrev Said : Event
+  Said = Word at Controller word
 
+  -- that comes in its time
+  module _ (late : IsPast (block_most (profile_of scope.begins)) from Said → ⊥) where
     asks_first : (broken : Rule) → place_of broken ≤ place_of rule.Profile
         → (RowBreaks Asking Said rule.Sum → place_of broken ≤ place_of rule.Sum)
         → (other : Rule) → RowBreaks Asking Said other → place_of broken ≤ place_of other
@@ -304,21 +284,15 @@ module _ (scope : Scope) (bytes : List ℕ) (from : Option Event) (at word : ℕ
     on_time = (in_time WORD_GAP_MIN from Said early, not_late _ from Said late)
 
     goes_on : (more : List ℕ) → AreFollowed scope (bytes ++ more)
-    goes_on more = still_followed scope bytes more some followed
+    goes_on more = still_followed scope bytes more (some_bytes bytes begun) followed
 
-    pub going_on : (result : Result Judged Rule)
+    going_on : (result : Result Judged Rule)
         → IsGoingOn (profile_of scope.begins) bytes word result → IsJudged Asking Said result
     going_on (Ok judged.AskByte) h =
         (h.0, small, front_followed law scope (bytes ++ word % 256 ∷ []) h.1 (goes_on _), on_time)
-    going_on (Ok judged.Ask) h = (
-      h.0,
-      (
-        small,
-        asks_followed law scope h.0 (bytes ++ word ∷ []) h.1 h.2 (goes_on (word ∷ [])),
-        h.3,
-        on_time,
-      ),
-    )
+    going_on (Ok judged.Ask) h =
+        let asks = asks_followed law scope h.0 (bytes ++ word ∷ []) h.1 h.2 (goes_on _) in
+        (h.0, (small, asks, h.3, on_time))
     going_on (Ok judged.Foreign) h =
         (small, expansion_opens scope (bytes ++ word ∷ []) h (goes_on (word ∷ [])), on_time)
     going_on (Err rule.Sum) h = record {
@@ -327,24 +301,27 @@ module _ (scope : Scope) (bytes : List ℕ) (from : Option Event) (at word : ℕ
     }
     going_on (Err rule.Profile) (inl h) =
         let more = needed_followed scope bytes followed ∙ h.0 in
-        record {
-          breaks = inl (
-            more,
-            needed_followed scope (bytes ++ word ∷ []) (goes_on (word ∷ [])) ∙ h.1,
-          );
-          first = asks_first rule.Profile (omega arith) (λ b.
-              let clash : More ≡ Exactly (length bytes + 1) = sym more ∙ b.0 in absurd cc);
+        let out = needed_followed scope (bytes ++ word ∷ []) (goes_on (word ∷ [])) ∙ h.1 in record {
+          breaks = inl (more, out);
+          first = asks_first rule.Profile (omega arith) (λ b. cc (more, b.0));
         }
-    going_on (Err rule.Profile) (inr h) = record {
-      breaks = inr (
-        h.0,
-        asks_followed law scope h.0 (bytes ++ word ∷ []) h.1 h.2 (goes_on (word ∷ [])),
-        h.3,
-      );
-      first = asks_first rule.Profile (omega arith)
-          (λ b. absurd (b.1 (last_is_sum bytes word h.0 h.1)));
-    }
+    going_on (Err rule.Profile) (inr h) =
+        let asks = asks_followed law scope h.0 (bytes ++ word ∷ []) h.1 h.2 (goes_on _) in record {
+          breaks = inr (h.0, asks, h.3);
+          first = asks_first rule.Profile (omega arith)
+              (λ b. absurd (b.1 (last_is_sum bytes word h.0 h.1)));
+        }
     going_on result h = absurd h
+
+  -- by the times of a profile
+  pub going_by : (times : Profile) (result : Result Judged Rule) → InBlockTime times from Said
+      → is_past (block_most times) from Said ≡ false
+      → IsGoingOn (profile_of scope.begins) bytes word result → IsJudgedBy times Asking Said result
+  going_by times result near past going = record {
+    judged = λ counts. going_on
+        (block_covered times (profile_of scope.begins) from Said result counts near) result going;
+    timely = block_timely times (InAsk bytes) from Said result refl past;
+  }
 
 -- a marked word of a peripheral, in its time
 module _ (scope : Scope) (command : Command) (from : Option Event) (at word : ℕ) (levels : Levels)
@@ -431,7 +408,9 @@ module _ (scope : Scope) (command : Command) (from : Option Event) (at word : �
         reply_read : (result : Result Reply Rule) → IsRead scope.begins command bytes levels result
             → IsSettled Replying Told result
         reply_read (Ok reply) h =
-            (total, h.0, h.1, h.2, (in_time WORD_GAP_MIN from Told early, not_late _ from Told late))
+            let near : InBlockTime (profile_of scope.begins) from Told =
+            (in_time WORD_GAP_MIN from Told early, not_late _ from Told late) in
+            (total, h.0, h.1, h.2, near)
         reply_read (Err rule.Length) h =
             let bad = (bad_length (format_for scope.begins levels command) command bytes h).1 in
             let both : Some bad.0 ≡ Some has.0 = sym bad.1 ∙ has.1 in
@@ -445,7 +424,8 @@ module _ (scope : Scope) (command : Command) (from : Option Event) (at word : �
             (λ b. absurd (apart reading.Answer reading.Profile (λ e. cc) b h))
             (λ b. absurd (apart reading.Message reading.Profile (λ e. cc) b h))
         reply_read (Err rule.Profile) (inr h) = first rule.Profile (marked, inr h) (omega arith)
-            (λ b. absurd (faultless h reading.Answer b)) (λ b. absurd (faultless h reading.Message b))
+            (λ b. absurd (faultless h reading.Answer b))
+            (λ b. absurd (faultless h reading.Message b))
         reply_read result h = absurd h
 
     -- what is made of that word
@@ -496,18 +476,14 @@ words_count bytes =
     ∙ length-append bytes ((256 + sum bytes % 256) ∷ [])
 
 -- the word at an index of a sealed reply
-module _ (bytes content block : List ℕ) (i : ℕ) (same : content ≡ bytes)
-    (sealed : block ≡ block_of content) where
-  whole : block ≡ block_of bytes
-  whole = sealed ∙ ap block_of same
-
+module _ (bytes block : List ℕ) (i : ℕ) (is : block ≡ block_of bytes) where
   long : length block ≡ length bytes + 1
-  long = ap length whole ∙ length-append bytes ((sum bytes % 256) ∷ [])
+  long = ap length is ∙ length-append bytes ((sum bytes % 256) ∷ [])
 
   pub word_there : (word : ℕ) → i < length block → word ≡ slice_index (peripheral_words block) i
       → Some word ≡ slice_get (peripheral_words (block_of bytes)) i
-  word_there word within is =
-      ap Some (rw whole at is) ∙ sym (slice_get-get_or (peripheral_words (block_of bytes)) i 0
+  word_there word within at =
+      ap Some (rw is at at) ∙ sym (slice_get-get_or (peripheral_words (block_of bytes)) i 0
       (omega (arith, within, words_count bytes, long)))
 
   pub word_after : length block ≤ i → None ≡ slice_get (peripheral_words (block_of bytes)) i
@@ -519,16 +495,12 @@ pub opened_belongs : (scope : Scope) → FrontIsOpen → (least : ℕ) (from : O
     (result : Result Judged Rule) → IsOpened scope least from (Word at Controller word) word result
     → (here : Phase) (bytes : List ℕ) → (here ≡ phase.InAsk → ⊥)
     → IfOk result (Belongs here bytes (Word at Controller word))
+opened_belongs scope law least from at word (Ok judged.AskByte) opened phase.InAsk bytes other =
+    absurd (other refl)
 opened_belongs scope law least from at word (Ok judged.AskByte) opened here bytes other =
-    (tt, may_begin here other)
-  where
-    -- where no block of the controller is open, one may begin with a byte that leaves it open
-    may_begin : (here : Phase) → (here ≡ phase.InAsk → ⊥) → MayAsk here bytes (word % 256)
-    may_begin phase.InAsk other = absurd (other refl)
-    may_begin here other = open_front (profile_of scope.begins) law (word % 256 ∷ [])
-        (plain_front scope (word % 256 ∷ []) opened.1)
-opened_belongs scope law least from at word (Ok found) opened here bytes other = search
-opened_belongs scope law least from at word (Err broken) opened here bytes other = tt
+    let front = plain_front scope (word % 256 ∷ []) opened.1 in
+    (tt, open_front (profile_of scope.begins) law (word % 256 ∷ []) front)
+opened_belongs scope law least from at word result opened here bytes other = search
 
 -- what was judged of a word inside a block of the controller
 pub asking_belongs : FrontIsOpen → (profile : Profile) (bytes : List ℕ) (at word : ℕ)
@@ -542,5 +514,4 @@ asking_belongs law profile bytes at word (Ok judged.AskByte) going =
     (tt, (omega (arith, long, few), begun))
 asking_belongs law profile bytes at word (Ok judged.Ask) going =
     (refl, going.0, sealed bytes word going.0 going.1)
-asking_belongs law profile bytes at word (Ok found) going = search
-asking_belongs law profile bytes at word (Err broken) going = tt
+asking_belongs law profile bytes at word result going = search

@@ -1,5 +1,6 @@
 -- The names of std, of the crates below and of this crate's specs that its proofs share.
-pub use Rattle.std.proofs.lemmas.Bool.{cases_eq, cond_both, false_from_ne_true, lt-leb, lt-ltb}
+pub use Rattle.std.proofs.Common.{[], All, ap, append_assoc, arith, Bool, drop, Err, false, Fits, get_or, IfErr, IfOk, IfSome, if◌then◌else◌, inl, inr, IsTrue, length, length-append, length-drop, List, nat_le, None, not, Ok, OnOk, Option, refl, Result, rules, slice_get, slice_index, Some, subst, suc, sum, sym, take, true, w8, zero, ℕ, ◌%◌, ◌&&◌, ◌++◌, ◌+◌, ◌-◌, ◌<◌, ◌==◌, ◌||◌, ◌↔◌, ◌∙◌, ◌∷◌, ◌≡◌, ◌≢◌, ◌≤◌, ◌⊎◌}
+pub use Rattle.std.proofs.lemmas.Bool.{cases_eq, cond_both, false_from_ne_true, le-leb, lt-leb, lt-ltb}
 pub use Rattle.std.proofs.lemmas.List.{append-nil, get_or-append-add, get_or_append_left, length-map, map-append, nil_from_length, same_from_push}
 pub use Rattle.std.proofs.lemmas.List.Elements.{All-append, All-from_get_or, All-from_recursion, recursion_from_All}
 pub use Rattle.std.specs.List.{AllByRecursion, filter, list_any}
@@ -9,12 +10,12 @@ pub use Rattle.mdb_words.specs.declared.limits.TheConstants.{NEW_BLOCK_GAP_MIN, 
 pub use Rattle.mdb_words.specs.declared.word.Line.{Line}
 pub use Rattle.mdb_words.specs.declared.word.Line.TheVariants.{Controller, Peripheral}
 pub use Rattle.mdb_blocks.specs.Answer.{answer_byte, answer_word}
-pub use Rattle.mdb_blocks.specs.Block.{block_of, controller_words, peripheral_words, words_on}
+pub use Rattle.mdb_blocks.specs.Block.{block_of, controller_words, peripheral_words}
 pub use Rattle.mdb_msgs.proofs.CommandBytes.{spelled_low}
-pub use Rattle.mdb_msgs.specs.Commands.{bill_bytes, changer_bytes, command_bytes, device_of, EnablesMore, is_enable_options, IsByte, reader_address, reader_bytes, Spells}
+pub use Rattle.mdb_msgs.specs.Commands.{command_bytes, device_of, EnablesMore, is_enable_options, IsByte, Spells}
 pub use Rattle.mdb_msgs.specs.DeviceSets.{has}
 pub use Rattle.mdb_msgs.specs.Laws.{BlockHasOneReply, BytesHaveOneFault, FrontIsOpen, OpenIsAFront as PlainOpenIsAFront, OpenIsAnothersFront, ReplyHasNoFault}
-pub use Rattle.mdb_msgs.specs.Needs.{begins_options, bill_need, changer_need, is_to_one_of, need, need_for, needed, reader_need}
+pub use Rattle.mdb_msgs.specs.Needs.{begins_options, is_to_one_of, need, need_for, needed}
 pub use Rattle.mdb_msgs.specs.OpenBlocks.{IsOpen, IsShort, IsTold, TellsLength}
 pub use Rattle.mdb_msgs.specs.Readings.{base, is_extended, may_have_options}
 pub use Rattle.mdb_msgs.specs.Replies.{HasMessages, IsIn, IsReadFault, IsReplyTo, reply_bytes}
@@ -61,4 +62,4 @@ pub use Rattle.mdb_bus.specs.inner.Reading.{AreAlike, AreReply, IsOpenOr, IsPlai
 pub use Rattle.mdb_bus.specs.shared.Grammar.{Grammar}
 pub use Rattle.mdb_bus.specs.shared.RulePlaces.{IsFirstByPlace, place_of}
 pub use Rattle.mdb_bus.specs.shared.Step.{EachStep, SomeStep, Step}
-pub use Rattle.mdb_bus.specs.shared.Steps.{act_after, Answers, AnswersReply, asked_after, BeginsRepeat, Belongs, Counts, Covers, GoesOnAsking, GoesOnForeign, GoesOnRepeating, GoesOnReplying, grown, HasAdvanced, IsAt, IsCommandFront, IsEnded, IsGoingOn, IsJudged, IsOpened, IsRead, IsReadAt, IsReplyEnd, IsSettled, IsSound, IsTimely, IsUnknownExpansion, Leads, MayAsk, Opens, piece_after, pieces_after, position_after, WordLeads}
+pub use Rattle.mdb_bus.specs.shared.Steps.{act_after, asked_after, Belongs, Counts, Covers, GoesOnAsking, GoesOnForeign, grown, HasAdvanced, IsAt, IsCommandFront, IsEnded, IsGoingOn, IsJudged, IsJudgedBy, IsOpened, IsRead, IsReadAt, IsReplyEnd, IsSettled, IsSound, IsTimely, IsUnknownExpansion, Leads, Opens, piece_after, pieces_after, position_after, WordLeads}

@@ -1,5 +1,4 @@
-use Rattle.std.proofs.Common.{◌≡◌}
-use Rattle.mdb_bus.proofs.Words.{may_restart}
+use Rattle.mdb_bus.proofs.Words.{may_restart, ◌≡◌}
 use Rattle.mdb_bus.proofs.counts.may_restart.Given as goal
 
 abbrev pub invariant-loop-message : goal.invariant-loop-message

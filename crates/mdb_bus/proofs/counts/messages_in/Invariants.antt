@@ -1,5 +1,4 @@
-use Rattle.std.proofs.Common.{◌≡◌, ◌≤◌, ◌++◌, length}
-use Rattle.mdb_bus.proofs.Words.{counts, filter}
+use Rattle.mdb_bus.proofs.Words.{counts, filter, length, ◌++◌, ◌≡◌, ◌≤◌}
 use Rattle.arrayvec.specs.ArrayVec.{array_vec_len}
 use Rattle.mdb_bus.proofs.counts.messages_in.Given as goal
 

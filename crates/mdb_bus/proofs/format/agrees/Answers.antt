@@ -1,5 +1,4 @@
-use Rattle.std.proofs.Common.{ap}
-use Rattle.mdb_bus.proofs.Words.{what_counts}
+use Rattle.mdb_bus.proofs.Words.{ap, what_counts}
 use Rattle.mdb_bus.proofs.FormatLaws.{same_plain}
 use Rattle.mdb_bus.proofs.Promises.{one_reply}
 use Rattle.mdb_bus.proofs.format.agrees.Goals as goal

@@ -1,4 +1,4 @@
-use Rattle.std.proofs.Common.{refl}
+use Rattle.mdb_bus.proofs.Words.{refl}
 use Rattle.mdb_bus.proofs.FormatLaws.{alike_each}
 use Rattle.mdb_bus.proofs.format.are_alike.Goals as goal
 

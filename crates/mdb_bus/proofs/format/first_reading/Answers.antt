@@ -1,5 +1,4 @@
-use Rattle.std.proofs.Common.{inl, inr, refl, subst, sym}
-use Rattle.mdb_bus.proofs.Words.{HasFault}
+use Rattle.mdb_bus.proofs.Words.{HasFault, inl, inr, refl, subst, sym}
 use Rattle.mdb_bus.specs.declared.format.Format.TheVariants.{Open}
 use Rattle.mdb_bus.proofs.FormatLaws.{in_this, joint}
 use Rattle.mdb_bus.proofs.format.first_reading.Goals as goal

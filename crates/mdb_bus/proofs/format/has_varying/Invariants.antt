@@ -1,5 +1,4 @@
-use Rattle.std.proofs.Common.{◌≡◌}
-use Rattle.mdb_bus.proofs.Words.{list_any, varies}
+use Rattle.mdb_bus.proofs.Words.{list_any, varies, ◌≡◌}
 use Rattle.mdb_bus.proofs.format.has_varying.Given as goal
 
 abbrev pub invariant-loop-message : goal.invariant-loop-message

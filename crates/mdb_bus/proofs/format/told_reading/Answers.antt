@@ -1,5 +1,4 @@
-use Rattle.std.proofs.Common.{inl, inr, subst}
-use Rattle.mdb_bus.proofs.Words.{IsReadFault}
+use Rattle.mdb_bus.proofs.Words.{inl, inr, IsReadFault, subst}
 use Rattle.mdb_bus.proofs.FormatLaws.{plain_open, told_in}
 use Rattle.mdb_bus.proofs.Promises.{one_reply}
 use Rattle.mdb_bus.proofs.format.told_reading.Goals as goal

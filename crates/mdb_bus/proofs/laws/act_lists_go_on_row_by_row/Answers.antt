@@ -1,4 +1,3 @@
--- An act list of one row more goes on from one of the rows.
 use Rattle.mdb_bus.proofs.OneActList.{goes_on_from}
 use Rattle.mdb_bus.proofs.laws.act_lists_go_on_row_by_row.Goals as goal
 

@@ -1,5 +1,5 @@
 -- any wish will do, as that every free act is heard
-use Rattle.std.proofs.Common.{true}
+use Rattle.mdb_bus.proofs.Words.{true}
 use Rattle.mdb_bus.proofs.laws.act_lists_have_a_fitting_loss.Goals as goal
 
 pub returns : goal.returns

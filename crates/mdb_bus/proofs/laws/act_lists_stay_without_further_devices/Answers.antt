@@ -1,4 +1,4 @@
-use Rattle.std.proofs.Common.{◌∙◌}
+use Rattle.mdb_bus.proofs.Words.{◌∙◌}
 use Rattle.mdb_bus.proofs.laws.act_lists_stay_without_further_devices.Goals as goal
 
 pub returns : goal.returns

@@ -1,4 +1,3 @@
--- A front of what has an act list has one.
 use Rattle.mdb_bus.proofs.OneActList.{fronts}
 use Rattle.mdb_bus.proofs.laws.fronts_of_act_lists_have_act_lists.Goals as goal
 

@@ -14,8 +14,9 @@ returns c scope =
       tells = tells first two c.first_bytes_tell_the_length.ensures scope;
       open_front = open_front first c.need_leaves_a_command_open.ensures
           c.need_leaves_another_command_open.ensures scope;
-      one_reply = λ format command. one_as c.reply_has_no_fault.ensures command
-          (one_reply c.block_has_one_reply.ensures) format;
+      one_reply = λ format command one other is also answers too same.
+          one_as c.reply_has_no_fault.ensures command (one_reply c.block_has_one_reply.ensures) one
+          other answers too same format is also;
       no_fault = λ format command. none_as c.reply_has_no_fault.ensures command format;
       counted = c.reply_has_its_length.ensures.allowed;
     }

@@ -1,4 +1,3 @@
--- No act list goes on with a row that breaks a rule.
 use Rattle.mdb_bus.proofs.OneActList.{ends}
 use Rattle.mdb_bus.proofs.laws.rows_that_break_a_rule_end_the_act_list.Goals as goal
 

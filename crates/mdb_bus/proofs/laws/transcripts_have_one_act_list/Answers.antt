@@ -1,4 +1,3 @@
--- A transcript has at most one act list.
 use Rattle.mdb_bus.proofs.OneActList.{one_act_list}
 use Rattle.mdb_bus.proofs.laws.transcripts_have_one_act_list.Goals as goal
 

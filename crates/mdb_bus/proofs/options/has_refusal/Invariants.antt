@@ -1,5 +1,4 @@
-use Rattle.std.proofs.Common.{◌≡◌}
-use Rattle.mdb_bus.proofs.Words.{is_refusal, list_any}
+use Rattle.mdb_bus.proofs.Words.{is_refusal, list_any, ◌≡◌}
 use Rattle.mdb_bus.proofs.options.has_refusal.Given as goal
 
 abbrev pub invariant-loop-message : goal.invariant-loop-message

@@ -1,6 +1,5 @@
 -- A row in its time goes on, and leaves no haste.
-use Rattle.std.proofs.Common.{◌∙◌}
-use Rattle.mdb_bus.proofs.Words.{position_at, profile_of}
+use Rattle.mdb_bus.proofs.Words.{position_at, profile_of, ◌∙◌}
 use Rattle.mdb_bus.proofs.Feed.{no_haste, sends_none}
 use Rattle.mdb_bus.proofs.bus.Bus.feed_timely.Goals as goal
 

@@ -1,6 +1,5 @@
 -- The bus goes a step as its place advances.
-use Rattle.std.proofs.Common.{refl}
-use Rattle.mdb_bus.proofs.Words.{ended_act}
+use Rattle.mdb_bus.proofs.Words.{ended_act, refl}
 use Rattle.mdb_bus.proofs.Feed.{gone_ack, gone_ask, gone_break, gone_foreign, gone_on}
 use Rattle.mdb_bus.proofs.bus.Bus.go.Goals as goal
 

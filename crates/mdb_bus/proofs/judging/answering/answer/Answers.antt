@@ -1,4 +1,4 @@
-use Rattle.std.proofs.Common.{rules}
+use Rattle.mdb_bus.proofs.Words.{rules}
 use Rattle.mdb_bus.proofs.Verdicts.{no_answer}
 use Rattle.mdb_bus.proofs.judging.answering.answer.Goals as goal
 

@@ -1,5 +1,5 @@
 -- A marked word begins the block of a command.
-use Rattle.std.proofs.Common.{rules, Ok}
+use Rattle.mdb_bus.proofs.Words.{Ok, rules}
 use Rattle.mdb_bus.specs.declared.judged.Judged.TheVariants.{AskByte}
 use Rattle.mdb_bus.proofs.Verdicts.{begins_followed, opened_belongs}
 use Rattle.mdb_bus.proofs.judging.asking.begin_block.Goals as goal

@@ -1,13 +1,8 @@
 -- A further byte of a block leaves a command open, or is its last.
-use Rattle.std.proofs.Common.{rules, arith, ◌%◌, ap, ◌≡◌, ◌≤◌, ◌+◌, length, sym, ◌∙◌, ℕ}
-use Rattle.mdb_bus.proofs.Words.{Exactly, needed}
+use Rattle.mdb_bus.proofs.Words.{ap, arith, Exactly, length, needed, rules, sym, ℕ, ◌%◌, ◌+◌, ◌∙◌, ◌≡◌, ◌≤◌}
 use Rattle.mdb_bus.proofs.Verdicts.{are_bytes, further_end, further_front}
 use Rattle.mdb_bus.proofs.judging.asking.further_byte.Goals.{in_default-via-in-Exactly+else-so_far-length, in_default-via-in_default}
 use Rattle.mdb_bus.proofs.judging.asking.further_byte.Goals as goal
-
--- of two equal lengths the one is as small as the other
-at_most : (one other : ℕ) {most : ℕ} → Exactly one ≡ Exactly other → one ≤ most → other ≤ most
-at_most one other same small = let e : one ≡ other = cc in omega (arith, small, e)
 
 pub returns-in-Exactly : goal.returns-in-Exactly
 returns-in-Exactly c profile known =
@@ -24,8 +19,9 @@ judge_end_of_ask-requires-clause-last c =
     let same = ap length c.requires.is in
     let most : (n : ℕ) → c.need_of.result ≡ Exactly n → n ≤ length c.args.bytes.now + 1 =
     λ n exact. (elim c.in_default.branch [
-      | in_default-via-in-Exactly+else-so_far-length w ↦ at_most w.in-Exactly.length n
-          (sym w.in-Exactly.is ∙ exact) (omega (arith, w.if-so_far-length.false))
+      | in_default-via-in-Exactly+else-so_far-length w ↦
+          let one : w.in-Exactly.length ≡ n = cc (w.in-Exactly.is, exact) in
+          omega (arith, w.if-so_far-length.false)
       | in_default-via-in_default w ↦ absurd (search rules)
     ]) in
     let told = ap needed c.requires.is ∙ sym c.need_of.ensures in

@@ -1,4 +1,4 @@
-use Rattle.std.proofs.Common.{rules, ◌≡◌, ◌%◌, sum}
+use Rattle.mdb_bus.proofs.Words.{rules, sum, ◌%◌, ◌≡◌}
 use Rattle.mdb_bus.proofs.Verdicts.{ask_ends, ask_more}
 use Rattle.mdb_bus.proofs.judging.asking.judge_end_of_ask.Goals as goal
 

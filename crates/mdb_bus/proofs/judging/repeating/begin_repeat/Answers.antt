@@ -1,5 +1,4 @@
-use Rattle.std.proofs.Common.{rules, arith, ◌≡◌, length, slice_get, Some, refl}
-use Rattle.mdb_bus.proofs.Words.{reply_words}
+use Rattle.mdb_bus.proofs.Words.{arith, length, refl, reply_words, rules, slice_get, Some, ◌≡◌}
 use Rattle.mdb_bus.proofs.Verdicts.{repeats}
 use Rattle.mdb_bus.proofs.judging.repeating.begin_repeat.Goals as goal
 

@@ -1,6 +1,5 @@
 -- A word goes on with a repeat, or ends it.
-use Rattle.std.proofs.Common.{rules, arith, ap, ◌≡◌, length, slice_get, Some, refl}
-use Rattle.mdb_bus.proofs.Words.{reply_words}
+use Rattle.mdb_bus.proofs.Words.{ap, arith, length, refl, reply_words, rules, slice_get, Some, ◌≡◌}
 use Rattle.mdb_bus.proofs.Verdicts.{repeats, repeated}
 use Rattle.mdb_bus.proofs.judging.repeating.go_on_repeating.Goals as goal
 

@@ -1,6 +1,5 @@
 -- The marked word of a reply is judged as its end.
-use Rattle.std.proofs.Common.{rules, refl}
-use Rattle.mdb_bus.proofs.Words.{profile_of}
+use Rattle.mdb_bus.proofs.Words.{profile_of, refl, rules}
 use Rattle.mdb_bus.proofs.Verdicts.{block_covered, block_timely, reply_ended}
 use Rattle.mdb_bus.proofs.judging.replying.go_on_replying.Goals as goal
 
