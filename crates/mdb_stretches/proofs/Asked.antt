@@ -1,23 +1,12 @@
 -- Which reader the block in which rows end asks for what isn't followed.
-use Rattle.std.proofs.Common.{ap, ◌∙◌, refl, sym, ◌≡◌, ℕ, List, [], ◌∷◌, Option, Some, None}
-use Rattle.mdb_words.specs.declared.event.Event.{Event}
+use Rattle.mdb_stretches.proofs.Words.{ap, ◌∙◌, refl, sym, ◌≡◌, ℕ, List, [], ◌∷◌, Option, Some, None, Event, ReaderCommand, ReaderUnit, EnablesMore, Spells, Act, Rule, Scope, IsActList, Piece, Whole, AskTail, ReplyTail, RepeatTail, events_of, first_position, left_open, position_of, open_block, OtherMoneyIsAsked, WhoIsAsked, WhoIsAskedBefore, EndInBlock}
 use Rattle.mdb_blocks.specs.Block.{block_of}
 use Rattle.mdb_msgs.specs.declared.command.Command.TheVariants.{Reader}
-use Rattle.mdb_msgs.specs.declared.command.ReaderCommand.{ReaderCommand}
 use Rattle.mdb_msgs.specs.declared.command.ReaderCommand.TheVariants as readers
-use Rattle.mdb_msgs.specs.declared.command.ReaderUnit.{ReaderUnit}
-use Rattle.mdb_msgs.specs.Commands.{EnablesMore, Spells}
 use Rattle.mdb_msgs.proofs.OneCommand.{one_command}
-use Rattle.mdb_bus.specs.declared.act.Act.{Act}
 use Rattle.mdb_bus.specs.declared.act.Act.TheVariants as acts
-use Rattle.mdb_bus.specs.declared.fault.Rule.{Rule}
 use Rattle.mdb_bus.specs.declared.fault.Rule.TheVariants as rules
-use Rattle.mdb_bus.specs.declared.scope.Scope.{Scope}
-use Rattle.mdb_bus.specs.ActLists.{IsActList, Piece, Whole, AskTail, ReplyTail, RepeatTail, events_of, first_position, left_open, position_of}
-use Rattle.mdb_bus.specs.Bus.{open_block}
 use Rattle.mdb_bus.proofs.Lists.{at_first}
-use Rattle.mdb_stretches.specs.OtherMoney.{OtherMoneyIsAsked, WhoIsAsked, WhoIsAskedBefore}
-use Rattle.mdb_stretches.specs.Parts.{EndInBlock}
 
 -- the same bytes ask for the same
 pub asked_there : (broken : Rule) (bytes others : List ℕ) (asked : Option ReaderUnit)

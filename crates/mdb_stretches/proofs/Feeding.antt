@@ -1,12 +1,6 @@
 -- Rows that a surveyor was fed.
-use Rattle.std.proofs.Common.{arith, add-one, ◌≡◌, ◌+◌, ◌-◌, ◌<◌, ℕ, List, [], ◌∷◌, ◌++◌, length, length-drop, take, drop, get_or}
+use Rattle.mdb_stretches.proofs.Words.{arith, add-one, ◌≡◌, ◌+◌, ◌-◌, ◌<◌, ℕ, List, [], ◌∷◌, ◌++◌, length, length-drop, take, drop, get_or, length-take-le, take_all, Event, Scope, Ended, Surveyor, EndsAmong, StandsFor, rows_of}
 use Rattle.std.proofs.Math.Seq.{split_at}
-use Rattle.std.proofs.lemmas.List.{length-take-le, take_all}
-use Rattle.mdb_words.specs.declared.event.Event.{Event}
-use Rattle.mdb_bus.specs.declared.scope.Scope.{Scope}
-use Rattle.mdb_stretches.specs.declared.stretch.Ended.{Ended}
-use Rattle.mdb_stretches.specs.declared.surveyor.Surveyor.{Surveyor}
-use Rattle.mdb_stretches.specs.Surveyor.{EndsAmong, StandsFor, rows_of}
 
 -- it has taken so many rows
 pub record HasFed (old : Surveyor) (rows : List Event) (count : ℕ) (new : Surveyor) : Type 0 where

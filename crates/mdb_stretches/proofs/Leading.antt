@@ -1,8 +1,5 @@
 -- How rows lead over faults to the stretch that runs.
-use Rattle.std.proofs.Common.{arith, refl, ap, ◌∙◌, ◌≡◌, ◌+◌, List, [], ◌∷◌, ◌++◌, length, length-append, append_assoc}
-use Rattle.mdb_words.specs.declared.event.Event.{Event}
-use Rattle.mdb_stretches.specs.declared.stretch.Ended.{Ended}
-use Rattle.mdb_stretches.specs.Stretches.{GoesOnAfter, EndsBy, LeadFrom, StretchStart}
+use Rattle.mdb_stretches.proofs.Words.{arith, refl, ap, ◌∙◌, ◌≡◌, ◌+◌, List, [], ◌∷◌, ◌++◌, length, length-append, append_assoc, Event, Ended, GoesOnAfter, EndsBy, LeadFrom, StretchStart}
 
 -- the same fault after other first rows, or before other last ones
 pub carried : {Lead Other : List Event → List Event → StretchStart → Type 0}

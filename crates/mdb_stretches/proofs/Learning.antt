@@ -1,44 +1,23 @@
 -- What is told, and what was said last.
-use Rattle.std.proofs.lemmas.Grind.{common_steps}
-use Rattle.std.proofs.Common.{arith, refl, ap, sym, ◌∙◌, ◌≡◌, List, [], ◌∷◌, Option, Some, None, option_map}
-use Rattle.mdb_msgs.specs.declared.command.Command.{Command}
+use Rattle.mdb_stretches.proofs.Words.{common_steps, arith, refl, ap, sym, ◌∙◌, ◌≡◌, List, [], ◌∷◌, Option, Some, None, option_map, Command, Device, ReaderUnit, First, Second, ReaderConfig, Setups, device_of, ReaderMessages, known_with, last_config, with_config, nothing_known, Act, Beginning, PowerOn, Joined, Profile, Piece, Whole, acts_of, levels_by, levels_of, levels_told, profile_of, last_told, or_else, Told, AreKnown, learnt_by, setups_of, told_after, with_answer}
 use Rattle.mdb_msgs.specs.declared.command.Command.TheVariants as commands
-use Rattle.mdb_msgs.specs.declared.command.Device.{Device}
 use Rattle.mdb_msgs.specs.declared.command.Device.TheVariants as devices
-use Rattle.mdb_msgs.specs.declared.command.ReaderUnit.{ReaderUnit}
-use Rattle.mdb_msgs.specs.declared.command.ReaderUnit.TheVariants.{First, Second}
 use Rattle.mdb_msgs.specs.declared.reply.reader.ReaderMsg.{ReaderMsg}
 use Rattle.mdb_msgs.specs.declared.reply.reader.ReaderMsg.TheVariants as messages
 use Rattle.mdb_msgs.specs.declared.reply.Reply.TheVariants as replies
-use Rattle.mdb_msgs.specs.declared.setups.ReaderConfig.{ReaderConfig}
-use Rattle.mdb_msgs.specs.declared.setups.Setups.{Setups}
-use Rattle.mdb_msgs.specs.Commands.{device_of}
-use Rattle.mdb_msgs.specs.Reader.{ReaderMessages}
 use Rattle.mdb_msgs.specs.SetupData as setup
-use Rattle.mdb_msgs.specs.SetupData.{known_with, last_config, with_config}
 use Rattle.mdb_msgs.specs.Setups.{config_known}
-use Rattle.mdb_msgs.specs.Settings.{nothing_known}
-use Rattle.mdb_bus.specs.declared.act.Act.{Act}
 use Rattle.mdb_bus.specs.declared.act.Act.TheVariants as acts
-use Rattle.mdb_bus.specs.declared.scope.Beginning.{Beginning}
-use Rattle.mdb_bus.specs.declared.scope.Beginning.TheVariants.{PowerOn, Joined}
-use Rattle.mdb_bus.specs.declared.scope.Profile.{Profile}
 use Rattle.mdb_bus.specs.declared.scope.Profile.TheVariants as profiles
-use Rattle.mdb_bus.specs.ActLists.{Piece, Whole, acts_of, levels_by, levels_of, levels_told}
-use Rattle.mdb_bus.specs.Scopes.{profile_of}
 use Rattle.mdb_cash.specs.BillFacts as bill
 use Rattle.mdb_cash.specs.ChangerFacts as changer
 use Rattle.mdb_machine.specs.Keeper.{setup_by}
 use Rattle.mdb_machine.specs.Known.{known_before}
-use Rattle.mdb_machine.specs.Past.{last_told, or_else}
 use Rattle.mdb_cashless.specs.ByProfileFacts.{config_of, facts_of}
 use Rattle.mdb_cashless.specs.ExtendedFacts as extended
 use Rattle.mdb_cashless.specs.ReaderFacts as reader
 use Rattle.mdb_cashless.specs.ReaderMessages.{config_in, last_said}
 use Rattle.mdb_cashless.specs.shared.ReaderWays.{first_of_three}
-use Rattle.mdb_stretches.specs.declared.told.Told.{Told}
-use Rattle.mdb_stretches.specs.Learning.{AreKnown}
-use Rattle.mdb_stretches.specs.Told.{learnt_by, setups_of, told_after, with_answer}
 
 -- the feature levels
 answer_leaves_levels : (device : Device) (known : Option Setups) (told : Told)
@@ -83,42 +62,51 @@ known_first : {X : Type 0} (of : Setups → Option X) → of nothing_known ≡ N
 known_first of none (PowerOn profile) told is = ap of is ∙ none
 known_first of none (Joined setups profile) told is = ap of is
 
--- a reader's answer leaves what is known of changer and validator, and of the other reader
-config_leaves : (unit : ReaderUnit) (config : Option ReaderConfig) (told : Told)
-    → ((with_answer (devices.Reader unit) (option_map (with_config told.setups unit) config)
-    told).setups.changer ≡ told.setups.changer)
-    × ((with_answer (devices.Reader unit) (option_map (with_config told.setups unit) config)
-    told).setups.bill ≡ told.setups.bill)
-config_leaves unit None told = (refl, refl)
-config_leaves First (Some config) told = (refl, refl)
-config_leaves Second (Some config) told = (refl, refl)
-
 -- what is told once a reader's level is
 abbrev pub heard : Profile → Command → ReaderMessages → Told → Told
 heard profile command list told = record told {
   levels = levels_told profile command (replies.Reader list) told.levels;
 }
 
-changer_step : (profile : Profile) (act : Act) (told : Told)
-    → (learnt_by profile act told).setups.changer
-    ≡ or_else (setup_by changer.tables act) told.setups.changer
-changer_step profile (acts.Reply (commands.Changer command) (replies.ChangerSetup table)) told =
-    refl
-changer_step profile (acts.Reply (commands.Bill command) (replies.BillSetup table)) told = refl
-changer_step profile (acts.Reply (commands.Reader unit command) (replies.Reader list)) told =
-    (config_leaves unit (last_config list.messages)
-    (heard profile (commands.Reader unit command) list told)).0
-changer_step profile act told = refl
+-- what a reader's answer tells: its config, and nothing of other devices
+abbrev answered : ReaderUnit → Option ReaderConfig → Told → Setups
+answered unit config told =
+    (with_answer (devices.Reader unit) (option_map (with_config told.setups unit) config)
+    told).setups
 
-bill_step : (profile : Profile) (act : Act) (told : Told)
-    → (learnt_by profile act told).setups.bill
-    ≡ or_else (setup_by bill.tables act) told.setups.bill
-bill_step profile (acts.Reply (commands.Changer command) (replies.ChangerSetup table)) told = refl
-bill_step profile (acts.Reply (commands.Bill command) (replies.BillSetup table)) told = refl
-bill_step profile (acts.Reply (commands.Reader unit command) (replies.Reader list)) told =
-    (config_leaves unit (last_config list.messages)
-    (heard profile (commands.Reader unit command) list told)).1
-bill_step profile act told = refl
+config_leaves : (unit : ReaderUnit) (config : Option ReaderConfig) (told : Told)
+    → ((answered unit config told).changer ≡ told.setups.changer)
+    × ((answered unit config told).bill ≡ told.setups.bill)
+config_leaves unit None told = (refl, refl)
+config_leaves First (Some config) told = (refl, refl)
+config_leaves Second (Some config) told = (refl, refl)
+
+own_config : (unit : ReaderUnit) (config : Option ReaderConfig) (told : Told)
+    → config_known (answered unit config told) unit
+    ≡ or_else config (config_known told.setups unit)
+own_config unit None told = refl
+own_config First (Some config) told = refl
+own_config Second (Some config) told = refl
+
+other_config : (config : Option ReaderConfig) (told : Told)
+    → ((answered Second config told).first_reader ≡ told.setups.first_reader)
+    × ((answered First config told).second_reader ≡ told.setups.second_reader)
+other_config None told = (refl, refl)
+other_config (Some config) told = (refl, refl)
+
+-- changer and validator
+cash_step : (profile : Profile) (act : Act) (told : Told)
+    → ((learnt_by profile act told).setups.changer
+    ≡ or_else (setup_by changer.tables act) told.setups.changer)
+    × ((learnt_by profile act told).setups.bill
+    ≡ or_else (setup_by bill.tables act) told.setups.bill)
+cash_step profile (acts.Reply (commands.Changer command) (replies.ChangerSetup table)) told =
+    (refl, refl)
+cash_step profile (acts.Reply (commands.Bill command) (replies.BillSetup table)) told = (refl, refl)
+cash_step profile (acts.Reply (commands.Reader unit command) (replies.Reader list)) told =
+    config_leaves unit (last_config list.messages)
+    (heard profile (commands.Reader unit command) list told)
+cash_step profile act told = (refl, refl)
 
 -- the config of a reader's last config message, in one way and the other
 same_config : (message : ReaderMsg) → setup.config_in message ≡ config_in message
@@ -135,23 +123,7 @@ same_last (message ∷ list) =
     ∙ ap (λ c. or_else (last_config list) c) (same_config message)
     ∙ ap (λ c. or_else c (config_in message)) (same_last list)
 
--- a reader's answer tells its config, and leaves that of the other reader
-own_config : (unit : ReaderUnit) (config : Option ReaderConfig) (told : Told)
-    → config_known (with_answer (devices.Reader unit)
-    (option_map (with_config told.setups unit) config) told).setups unit
-    ≡ or_else config (config_known told.setups unit)
-own_config unit None told = refl
-own_config First (Some config) told = refl
-own_config Second (Some config) told = refl
-
-other_config : (config : Option ReaderConfig) (told : Told)
-    → ((with_answer (devices.Reader Second) (option_map (with_config told.setups Second) config)
-    told).setups.first_reader ≡ told.setups.first_reader)
-    × ((with_answer (devices.Reader First) (option_map (with_config told.setups First) config)
-    told).setups.second_reader ≡ told.setups.second_reader)
-other_config None told = (refl, refl)
-other_config (Some config) told = (refl, refl)
-
+-- a reader
 own_step : (unit : ReaderUnit) (profile : Profile) (act : Act) (told : Told)
     → config_known (learnt_by profile act told).setups unit
     ≡ or_else (reader.config_by unit act) (config_known told.setups unit)
@@ -209,10 +181,10 @@ pub setups_after : (begins : Beginning) (told : Told) (acts : List Act)
     → told.setups ≡ setups_of begins → AreKnown begins (told_after begins told acts).setups acts
 setups_after begins told acts is = record {
   changer = known_last (λ setups. setups.changer) (setup_by changer.tables) begins
-      (changer_step (profile_of begins)) told
+      (λ act told. (cash_step (profile_of begins) act told).0) told
       (known_first (λ setups. setups.changer) refl begins told is) acts;
   bill = known_last (λ setups. setups.bill) (setup_by bill.tables) begins
-      (bill_step (profile_of begins)) told
+      (λ act told. (cash_step (profile_of begins) act told).1) told
       (known_first (λ setups. setups.bill) refl begins told is) acts;
   reader = λ unit. known_last (λ setups. config_known setups unit) (reader.config_by unit) begins
       (own_step unit (profile_of begins)) told

@@ -1,3 +1,4 @@
+pub mod Words
 mod Asked
 mod Feeding
 mod Leading

@@ -1,24 +1,7 @@
 -- Rows have one survey.
-use Rattle.std.proofs.Common.{arith, refl, ap, sym, ◌∙◌, ◌≡◌, ◌+◌, ◌<◌, ℕ}
-use Rattle.std.proofs.Common.{List, [], ◌∷◌, ◌++◌, Option, Some, None, length, append_assoc, get_or, take}
-use Rattle.std.proofs.lemmas.List.{take_more}
-use Rattle.std.specs.Prelude.{IfNone, IfSome}
-use Rattle.mdb_words.specs.declared.event.Event.{Event}
-use Rattle.mdb_bus.specs.declared.scope.Scope.{Scope}
-use Rattle.mdb_bus.specs.ActLists.{position_of}
-use Rattle.mdb_bus.specs.Bus.{open_block}
-use Rattle.mdb_follow.specs.declared.offence.Offence.{Offence}
-use Rattle.mdb_follow.specs.declared.report.Report.{Report}
-use Rattle.mdb_follow.specs.Offences.{IsOffence}
+use Rattle.mdb_stretches.proofs.Words.{arith, refl, ap, sym, ◌∙◌, ◌≡◌, ◌+◌, ◌<◌, ℕ, List, [], ◌∷◌, ◌++◌, Option, Some, None, length, append_assoc, get_or, take, take_more, IfNone, IfSome, Event, Scope, position_of, open_block, Offence, Report, IsOffence, IsReport, Ended, Stretch, EndsBy, IsSurvey, LeadFrom, StretchStart, fault_at, first_fault, first_place, stretch_at, Surveyor, StandsFor, rows_of}
 use Rattle.mdb_follow.specs.FirstOffences.{HasOffence}
-use Rattle.mdb_follow.specs.Report.{IsReport}
 use Rattle.mdb_follow.specs.Runs.{IsReached}
-use Rattle.mdb_stretches.specs.declared.stretch.Ended.{Ended}
-use Rattle.mdb_stretches.specs.declared.stretch.Stretch.{Stretch}
-use Rattle.mdb_stretches.specs.Stretches.{EndsBy, IsSurvey, LeadFrom, StretchStart, fault_at}
-use Rattle.mdb_stretches.specs.declared.surveyor.Surveyor.{Surveyor}
-use Rattle.mdb_stretches.specs.Surveyor.{StandsFor, rows_of}
-use Rattle.mdb_stretches.specs.Stretches.{first_fault, first_place, stretch_at}
 use Rattle.mdb_stretches.proofs.Leading.{carried}
 use Rattle.mdb_stretches.proofs.Asked.{one_asked}
 use Rattle.mdb_stretches.proofs.Standing.{OneActList}

@@ -1,29 +1,12 @@
 -- Whose options are told, and what the next stretch knows of levels and options.
-use Rattle.std.proofs.lemmas.Grind.{common_steps}
-use Rattle.std.proofs.Common.{arith, refl, ap, ◌∙◌, ◌≡◌, Bool, true, false, if◌then◌else◌, List, [], ◌∷◌, Option, Some, None}
-use Rattle.mdb_msgs.specs.declared.command.Command.{Command}
-use Rattle.mdb_msgs.specs.declared.command.ReaderCommand.{ReaderCommand}
+use Rattle.mdb_stretches.proofs.Words.{common_steps, arith, refl, ap, ◌∙◌, ◌≡◌, Bool, true, false, if◌then◌else◌, List, [], ◌∷◌, Option, Some, None, Command, ReaderCommand, ReaderUnit, First, Second, Act, Beginning, Joined, Extended, Scope, first_levels, levels_before, profile_of, effect_taken, last_told, or_else, powers_on, resets, taken_by, Offence, Told, AreOptionsTold, enables_options, options_told_by, scope_after, asked_on, levels_at, setups_on, told_after, told_on}
 use Rattle.mdb_msgs.specs.declared.command.ReaderCommand.TheVariants as readers
-use Rattle.mdb_msgs.specs.declared.command.ReaderUnit.{ReaderUnit}
-use Rattle.mdb_msgs.specs.declared.command.ReaderUnit.TheVariants.{First, Second}
-use Rattle.mdb_bus.specs.declared.act.Act.{Act}
 use Rattle.mdb_bus.specs.declared.act.Act.TheVariants as acts
 use Rattle.mdb_bus.specs.declared.options.KnownOptions.{KnownOptions}
-use Rattle.mdb_bus.specs.declared.scope.Beginning.{Beginning}
-use Rattle.mdb_bus.specs.declared.scope.Beginning.TheVariants.{Joined}
-use Rattle.mdb_bus.specs.declared.scope.Profile.TheVariants.{Extended}
-use Rattle.mdb_bus.specs.declared.scope.Scope.{Scope}
-use Rattle.mdb_bus.specs.Scopes.{first_levels, levels_before, profile_of}
 use Rattle.mdb_bus.specs.ExtendedMoney.{first_known}
-use Rattle.mdb_machine.specs.Past.{effect_taken, last_told, or_else, powers_on, resets, taken_by}
 use Rattle.mdb_cashless.specs.ReaderFacts.{effect_of, own_of}
 use Rattle.mdb_cashless.specs.Units.{own}
-use Rattle.mdb_follow.specs.declared.offence.Offence.{Offence}
-use Rattle.mdb_stretches.specs.declared.told.Told.{Told}
-use Rattle.mdb_stretches.specs.Learning.{AreOptionsTold, enables_options, options_told_by}
 use Rattle.mdb_stretches.specs.Options.{options_after, options_at, reader_told_by, told_taking}
-use Rattle.mdb_stretches.specs.Stretches.{scope_after}
-use Rattle.mdb_stretches.specs.Told.{asked_on, levels_at, setups_on, told_after, told_on}
 
 -- whether a reader's options are told after an act
 abbrev Flag : Bool → Option ReaderCommand → Bool → Bool

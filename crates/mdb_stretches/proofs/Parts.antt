@@ -1,36 +1,13 @@
 -- The parts of a survey.
-use Rattle.std.proofs.Common.{arith, refl, ap, sym, subst, ◌∙◌, ◌≡◌, ◌+◌, ◌⊎◌, inl, inr, suc, Bool, true, false, if◌then◌else◌, ℕ, List, [], ◌∷◌, ◌++◌, Option, None, Some, All, Any, length, append_assoc}
+use Rattle.mdb_stretches.proofs.Words.{arith, refl, ap, sym, subst, ◌∙◌, ◌≡◌, ◌+◌, ◌⊎◌, inl, inr, suc, Bool, true, false, if◌then◌else◌, ℕ, List, [], ◌∷◌, ◌++◌, Option, None, Some, All, Any, length, append_assoc, All-cons, All-nil, Event, Device, ReaderUnit, First, Second, DeviceSet, with_device, Rule, Profile, Base, Extended, Scope, acts_of, position_of, open_block, IsFollowed, profile_of, Offence, Report, IsOffence, Ended, Stretch, Told, EndBefore, EndInBlock, IsReaderAsked, IsReaderBeyond, GoesOnAfter, IsCutAt, IsSurvey, LeadFrom, StretchStart, first_place, left_out_asked, left_out_by_profile, left_out_for, is_told_below_2, told_after}
 use Rattle.std.proofs.lemmas.Bool.{false_from_ne_true, true≢false}
-use Rattle.std.proofs.lemmas.List.Elements.{All-cons, All-nil}
-use Rattle.mdb_words.specs.declared.event.Event.{Event}
-use Rattle.mdb_msgs.specs.declared.command.Device.{Device}
 use Rattle.mdb_msgs.specs.declared.command.Device.TheVariants.{Changer, Bill, Reader}
-use Rattle.mdb_msgs.specs.declared.command.ReaderUnit.{ReaderUnit}
-use Rattle.mdb_msgs.specs.declared.command.ReaderUnit.TheVariants.{First, Second}
-use Rattle.mdb_msgs.specs.declared.device_set.DeviceSet.{DeviceSet}
 use Rattle.mdb_msgs.specs.DeviceSets.{has}
-use Rattle.mdb_msgs.specs.Settings.{with_device}
 use Rattle.mdb_bus.specs.declared.fault.Blame.{Blame}
 use Rattle.mdb_bus.specs.declared.fault.Blame.TheVariants as blames
-use Rattle.mdb_bus.specs.declared.fault.Rule.{Rule}
 use Rattle.mdb_bus.specs.declared.fault.Rule.TheVariants as rules
-use Rattle.mdb_bus.specs.declared.scope.Profile.{Profile}
-use Rattle.mdb_bus.specs.declared.scope.Profile.TheVariants.{Base, Extended}
-use Rattle.mdb_bus.specs.declared.scope.Scope.{Scope}
-use Rattle.mdb_bus.specs.ActLists.{acts_of, position_of}
-use Rattle.mdb_bus.specs.Bus.{open_block}
 use Rattle.mdb_bus.specs.LinkFaults.{blame_on}
-use Rattle.mdb_bus.specs.Scopes.{IsFollowed, profile_of}
 use Rattle.mdb_bus.specs.LeavingOut.{IsLeftOut}
-use Rattle.mdb_follow.specs.declared.offence.Offence.{Offence}
-use Rattle.mdb_follow.specs.declared.report.Report.{Report}
-use Rattle.mdb_follow.specs.Offences.{IsOffence}
-use Rattle.mdb_stretches.specs.declared.stretch.Ended.{Ended}
-use Rattle.mdb_stretches.specs.declared.stretch.Stretch.{Stretch}
-use Rattle.mdb_stretches.specs.declared.told.Told.{Told}
-use Rattle.mdb_stretches.specs.Parts.{EndBefore, EndInBlock, IsReaderAsked, IsReaderBeyond}
-use Rattle.mdb_stretches.specs.Stretches.{GoesOnAfter, IsCutAt, IsSurvey, LeadFrom, StretchStart, first_place, left_out_asked, left_out_by_profile, left_out_for}
-use Rattle.mdb_stretches.specs.Told.{is_told_below_2, told_after}
 use Rattle.mdb_stretches.proofs.Asked.{asked_beyond, ends_so}
 use Rattle.mdb_stretches.proofs.Leading.{carried, lead_faults, lead_further, lead_rows}
 

@@ -1,40 +1,10 @@
 -- What a surveyor stands for, row by row.
-use Rattle.std.proofs.Common.{arith, refl, ap, sym, subst, ◌∙◌, ◌≡◌, ◌+◌, ℕ, List, [], ◌∷◌, ◌++◌, Option, Some, None, length, map}
-use Rattle.std.proofs.lemmas.List.{length-map}
-use Rattle.std.specs.Prelude.{IsSomeAnd}
-use Rattle.mdb_words.specs.declared.event.Event.{Event}
-use Rattle.mdb_msgs.specs.declared.command.ReaderUnit.{ReaderUnit}
-use Rattle.mdb_msgs.specs.declared.device_set.DeviceSet.{DeviceSet}
-use Rattle.mdb_bus.specs.declared.act.Act.{Act}
-use Rattle.mdb_bus.specs.declared.scope.Beginning.{Beginning}
-use Rattle.mdb_bus.specs.declared.scope.Profile.{Profile}
-use Rattle.mdb_bus.specs.declared.scope.Profile.TheVariants.{Base}
-use Rattle.mdb_bus.specs.declared.scope.Scope.{Scope}
-use Rattle.mdb_bus.specs.ActLists.{IsActList, Piece, acts_of, position_of}
+use Rattle.mdb_stretches.proofs.Words.{arith, refl, ap, sym, subst, ◌∙◌, ◌≡◌, ◌+◌, ℕ, List, [], ◌∷◌, ◌++◌, Option, Some, None, length, map, length-map, IsSomeAnd, Event, ReaderUnit, DeviceSet, Act, Beginning, Profile, Base, Scope, IsActList, Piece, acts_of, position_of, open_block, profile_of, Offence, Report, HasRefused, IsOffence, IsReport, FaultCounts, Ended, Stretch, Surveyor, Told, Totals, WhoIsAskedBefore, counts_of_ended, counts_of_faults, IsSurvey, LeadFrom, StretchStart, first_place, left_out_by_profile, place_after, scope_after, stretch_at, StandsFor, told_after, told_if, told_on, with_report}
 use Rattle.mdb_bus.specs.Pieces.{with_act}
-use Rattle.mdb_bus.specs.Bus.{open_block}
-use Rattle.mdb_bus.specs.Scopes.{profile_of}
 use Rattle.mdb_follow.specs.declared.follower.Follower.{Follower}
-use Rattle.mdb_follow.specs.declared.offence.Offence.{Offence}
-use Rattle.mdb_follow.specs.declared.report.Report.{Report}
 use Rattle.mdb_follow.specs.EndedActs.{IsEndedAct}
-use Rattle.mdb_follow.specs.Feeding.{HasRefused}
 use Rattle.mdb_follow.specs.Follower as follow
-use Rattle.mdb_follow.specs.Offences.{IsOffence}
-use Rattle.mdb_follow.specs.Report.{IsReport}
-use Rattle.mdb_stretches.specs.declared.counts.FaultCounts.{FaultCounts}
-use Rattle.mdb_stretches.specs.declared.stretch.Ended.{Ended}
-use Rattle.mdb_stretches.specs.declared.stretch.Stretch.{Stretch}
 use Rattle.mdb_stretches.specs.declared.summary.Summary.{Summary}
-use Rattle.mdb_stretches.specs.declared.surveyor.Surveyor.{Surveyor}
-use Rattle.mdb_stretches.specs.declared.told.Told.{Told}
-use Rattle.mdb_stretches.specs.declared.totals.Totals.{Totals}
-use Rattle.mdb_stretches.specs.OtherMoney.{WhoIsAskedBefore}
-use Rattle.mdb_stretches.specs.Counts.{counts_of_ended, counts_of_faults}
-use Rattle.mdb_stretches.specs.Stretches.{IsSurvey, LeadFrom, StretchStart, first_place, left_out_by_profile, place_after, scope_after, stretch_at}
-use Rattle.mdb_stretches.specs.Surveyor.{StandsFor}
-use Rattle.mdb_stretches.specs.Told.{told_after, told_if, told_on}
-use Rattle.mdb_stretches.specs.Totals.{with_report}
 use Rattle.mdb_stretches.specs.inner.Halts.{HasHalted}
 use Rattle.mdb_stretches.proofs.Asked.{asked_there}
 use Rattle.mdb_stretches.proofs.Leading.{lead_faults, lead_further, lead_on}

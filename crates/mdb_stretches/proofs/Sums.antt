@@ -1,24 +1,12 @@
 -- What totals come to with a report more.
-use Rattle.std.proofs.Common.{arith, refl, subst, ◌≡◌, ◌+◌, ◌≤◌, ℕ, Option, Some, None}
-use Rattle.std.proofs.lemmas.Int.{ints}
+use Rattle.mdb_stretches.proofs.Words.{arith, refl, subst, ◌≡◌, ◌+◌, ◌≤◌, ℕ, Option, Some, None, ints, Device, Account, Range, Report, IsAccountWithin, IsRangeWithin, IsReportWithin, device_silences, device_unvalued, account_of, few-times, Totals, AreWithin, added_account, added_range, added_untimely, total_of, total_silences, total_unvalued, untimely_of_both, with_report}
 use Rattle.std.proofs.lemmas.Option.{same_Some}
 use Rattle.std.specs.Option.{ForSome}
-use Rattle.mdb_msgs.specs.declared.command.Device.{Device}
 use Rattle.mdb_bus.specs.declared.untimely.Untimely.{Untimely}
 use Rattle.mdb_bus.specs.ExtendedTimes.{AreFew}
-use Rattle.mdb_follow.specs.declared.account.Account.{Account}
 use Rattle.mdb_follow.specs.declared.account_name.AccountName.{AccountName}
-use Rattle.mdb_follow.specs.declared.range.Range.{Range}
-use Rattle.mdb_follow.specs.declared.report.Report.{Report}
-use Rattle.mdb_follow.specs.Limits.{IsAccountWithin, IsRangeWithin}
-use Rattle.mdb_follow.specs.ReportLimits.{IsReportWithin}
-use Rattle.mdb_follow.specs.Report.{device_silences, device_unvalued}
-use Rattle.mdb_follow.specs.AccountNames.{account_of}
 use Rattle.mdb_follow.proofs.Accounts.{listed}
-use Rattle.mdb_follow.proofs.Following.{few-times}
 use Rattle.mdb_follow.proofs.Told.{listed as by-device}
-use Rattle.mdb_stretches.specs.declared.totals.Totals.{Totals}
-use Rattle.mdb_stretches.specs.Totals.{AreWithin, added_account, added_range, added_untimely, total_of, total_silences, total_unvalued, untimely_of_both, with_report}
 
 -- by account, and by device
 pub account_sums : (totals : Totals) (report : Report) (account : AccountName)

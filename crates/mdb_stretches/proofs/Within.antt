@@ -1,19 +1,7 @@
 -- Numbers far from the limits of their types.
-use Rattle.std.proofs.Common.{arith, refl, ◌≡◌, ◌+◌, ◌*◌, ◌^◌, ◌≤◌, ℕ}
-use Rattle.std.proofs.lemmas.Int.{ints}
-use Rattle.mdb_follow.specs.declared.account.Account.{Account}
-use Rattle.mdb_follow.specs.declared.range.Range.{Range}
-use Rattle.mdb_follow.specs.declared.report.Report.{Report}
-use Rattle.mdb_follow.specs.Limits.{IsAccountWithin, IsRangeWithin}
-use Rattle.mdb_follow.specs.AccountNames.{account_of}
-use Rattle.mdb_follow.specs.Report.{device_report}
-use Rattle.mdb_follow.specs.ReportLimits.{IsReportWithin}
-use Rattle.mdb_follow.proofs.Following.{few-times}
+use Rattle.mdb_stretches.proofs.Words.{arith, refl, ◌≡◌, ◌+◌, ◌*◌, ◌^◌, ◌≤◌, ℕ, ints, Account, Range, Report, IsAccountWithin, IsRangeWithin, account_of, device_report, IsReportWithin, few-times, FaultCounts, Totals, AreWithin, CanBeAdded, total_of, with_report}
 use Rattle.mdb_follow.proofs.Kept.{at-most-weaker}
-use Rattle.mdb_stretches.specs.declared.counts.FaultCounts.{FaultCounts}
-use Rattle.mdb_stretches.specs.declared.totals.Totals.{Totals}
 use Rattle.mdb_stretches.specs.Counts.{AreFew}
-use Rattle.mdb_stretches.specs.Totals.{AreWithin, CanBeAdded, total_of, with_report}
 use Rattle.mdb_stretches.proofs.Sums.{with_within}
 
 range_weaker : (limit more : ℕ) (range : Range) → limit ≤ more → IsRangeWithin limit range

@@ -1,5 +1,5 @@
 -- The rows so far are surveyed.
-use Rattle.std.proofs.Common.{take}
+use Rattle.mdb_stretches.proofs.Words.{take}
 use Rattle.mdb_stretches.proofs.OneSurvey.{HasSurveyed}
 use Rattle.mdb_stretches.proofs.laws.only.rows_have_a_survey.Given as goal
 

@@ -1,5 +1,5 @@
 -- The stretch that a fault ends, and the next one.
-use Rattle.std.proofs.Common.{arith, refl, sym, ◌∙◌, ◌+◌}
+use Rattle.mdb_stretches.proofs.Words.{arith, refl, sym, ◌∙◌, ◌+◌}
 use Rattle.mdb_follow.specs.Follower as follow
 use Rattle.mdb_stretches.proofs.Standing.{next_stands}
 use Rattle.mdb_stretches.proofs.Within.{added_within, can_be_added, few_weaker}

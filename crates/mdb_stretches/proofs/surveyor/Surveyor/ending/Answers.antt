@@ -1,8 +1,5 @@
 -- The stretch that runs at the end, and the summary.
-use Rattle.std.proofs.Common.{arith, ap, sym, ◌∙◌}
-use Rattle.mdb_stretches.specs.declared.stretch.Stretch.{Stretch}
-use Rattle.mdb_stretches.specs.declared.totals.Totals.{Totals}
-use Rattle.mdb_stretches.specs.Totals.{totals_of, with_report}
+use Rattle.mdb_stretches.proofs.Words.{arith, ap, sym, ◌∙◌, Stretch, Totals, totals_of, with_report}
 use Rattle.mdb_stretches.proofs.Standing.{runs, same_summary}
 use Rattle.mdb_stretches.proofs.Within.{can_be_added}
 use Rattle.mdb_stretches.proofs.surveyor.Surveyor.ending.Goals as goal

@@ -1,5 +1,5 @@
 -- Rows are fed one by one until a stretch ends.
-use Rattle.std.proofs.Common.{sym, arith}
+use Rattle.mdb_stretches.proofs.Words.{sym, arith}
 use Rattle.mdb_stretches.proofs.Feeding.{fed_to}
 use Rattle.mdb_stretches.proofs.surveyor.Surveyor.feed_all.Goals as goal
 

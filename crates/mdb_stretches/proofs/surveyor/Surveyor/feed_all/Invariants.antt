@@ -1,5 +1,5 @@
 -- The rows so far are taken.
-use Rattle.std.proofs.Common.{take}
+use Rattle.mdb_stretches.proofs.Words.{take}
 use Rattle.mdb_stretches.proofs.Feeding.{HasFed}
 use Rattle.mdb_stretches.proofs.surveyor.Surveyor.feed_all.Given as goal
 

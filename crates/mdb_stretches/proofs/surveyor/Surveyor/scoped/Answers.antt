@@ -1,6 +1,5 @@
 -- A new surveyor stands for no rows.
-use Rattle.std.proofs.Common.{refl, ◌∙◌, []}
-use Rattle.mdb_stretches.specs.Stretches.{first_place}
+use Rattle.mdb_stretches.proofs.Words.{refl, ◌∙◌, [], first_place}
 use Rattle.mdb_stretches.proofs.Standing.{told_nothing}
 use Rattle.mdb_stretches.proofs.surveyor.Surveyor.scoped.Goals as goal
 

@@ -1,5 +1,5 @@
 -- The stretch that runs has the report on its rows.
-use Rattle.std.proofs.Common.{arith}
+use Rattle.mdb_stretches.proofs.Words.{arith}
 use Rattle.mdb_stretches.proofs.Standing.{runs}
 use Rattle.mdb_stretches.proofs.surveyor.Surveyor.stretch.Goals as goal
 

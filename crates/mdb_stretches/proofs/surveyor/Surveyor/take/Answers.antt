@@ -1,9 +1,6 @@
 -- A row is taken, or it halts the stretch.
-use Rattle.std.proofs.Common.{◌≡◌, arith, refl}
-use Rattle.mdb_bus.specs.Bus.{ended_act}
-use Rattle.mdb_follow.specs.Feeding.{HasRefused}
+use Rattle.mdb_stretches.proofs.Words.{◌≡◌, arith, refl, ended_act, HasRefused, by-some}
 use Rattle.mdb_follow.specs.Follower as follow
-use Rattle.mdb_follow.proofs.Following.{by-some}
 use Rattle.mdb_stretches.proofs.Standing.{halted_by, taken_more}
 use Rattle.mdb_stretches.proofs.surveyor.Surveyor.take.Goals as goal
 
