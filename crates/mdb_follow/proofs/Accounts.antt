@@ -1,8 +1,6 @@
 -- The accounts one by one.
-use Rattle.mdb_follow.proofs.Words.{◌≡◌, ◌<◌, map, refl, arith, First, SLOTS, Account, AccountName}
-use Rattle.mdb_follow.proofs.Words.{ALL}
+use Rattle.mdb_follow.proofs.Words.{◌≡◌, ◌<◌, map, refl, arith, First, SLOTS, Account, AccountName, ALL, account_in, account_slot}
 use Rattle.mdb_follow.specs.declared.account_name.AccountName.TheVariants.{Approved, Sold}
-use Rattle.mdb_follow.specs.AccountNames.{account_in, account_slot}
 
 -- each account has a slot
 pub slot-below : (account : AccountName) → account_slot account < SLOTS

@@ -1,11 +1,6 @@
 -- A table of one entry, which is led over an act where it stands.
-use Rattle.mdb_follow.proofs.Words
-use Words.{◌≡◌, ◌⊎◌, ◌+◌, ◌<◌, ◌^◌, ℕ, Bool, false, true, refl, arith, List, [], ◌∷◌, length}
-use Words.{Option, Some, None, OnFalse, OnTrue, All, IfSome, ◌↔◌, All-nil, Device, Act, Plain}
-use Words.{Gains, IsSmall, IsChosenStep, IsMove, IsStep, small_moves, Machine, Cell, Arrives}
-use Words.{IsCellWithin, IsTableWithin, ArrivesAt, Bounds, IsTable, AreBelow, AreMoves, LeadTo}
-use Rattle.mdb_follow.proofs.Led.{keyed-with_moves, led-more, led-none}
-use Rattle.mdb_follow.proofs.Led.{moves-kept, within-with_moves}
+use Rattle.mdb_follow.proofs.Words.{◌≡◌, ◌⊎◌, ◌+◌, ◌<◌, ◌^◌, ℕ, Bool, false, true, refl, arith, List, [], ◌∷◌, length, Option, Some, None, OnFalse, OnTrue, All, IfSome, ◌↔◌, All-nil, Device, Act, Plain, Gains, IsSmall, IsChosenStep, IsMove, IsStep, small_moves, Machine, Cell, Arrives, IsCellWithin, IsTableWithin, ArrivesAt, Bounds, IsTable, AreBelow, AreMoves, LeadTo}
+use Rattle.mdb_follow.proofs.Led.{apart-with_moves, keyed-with_moves, led-more, led-none, moves-kept, within-with_moves}
 use Rattle.mdb_follow.proofs.Listed.{contains-here}
 use Rattle.mdb_follow.proofs.TwoSteps.{either-moves, two-moves}
 use Rattle.mdb_follow.proofs.Ways.{table-led}
@@ -64,8 +59,9 @@ alone-led device code_of machine act acts entries entry code one other after onl
     let steps = either-moves act code_of (machine.Step acts act) code device one other led.0
     one_is sound whole led.1 in
     table-led code_of machine act acts (entry ∷ []) after apart alone
+    (rw led.2 (apart-with_moves [] entry.1 led.0 tt))
     (rw led.2 (led-more _ _ [] entry led.0 []
-    (alone.bounds.exact entry.0 entry.1 (contains-here entry [] entry refl)) (rw here at steps) tt
+    (alone.bounds.exact entry.0 entry.1 (contains-here entry [] entry refl)) (rw here at steps)
     (led-none _ _)))
 
 -- no step leads to no entry

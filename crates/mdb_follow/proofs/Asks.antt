@@ -1,9 +1,5 @@
 -- How the lists of asks go on with the pieces, and silences with them.
-use Rattle.mdb_follow.proofs.Words.{refl, ap, sym, ◌∙◌, ◌≡◌, inl, inr, ℕ, List, [], ◌∷◌, ◌++◌}
-use Rattle.mdb_follow.proofs.Words.{Option, Some, None, Event, Device, First, Second, Act, Piece}
-use Rattle.mdb_follow.proofs.Words.{Whole, acts_of, piece_events, IsTail, act_in, Beginning}
-use Rattle.mdb_follow.proofs.Words.{PowerOn, Joined, Grown, reported_of, stands_for, TimedAsk}
-use Rattle.mdb_follow.proofs.Words.{asks_of, last_start, limit_of, asks_after, limit_in}
+use Rattle.mdb_follow.proofs.Words.{refl, ap, sym, ◌∙◌, ◌≡◌, inl, inr, ℕ, List, [], ◌∷◌, ◌++◌, Option, Some, None, Event, Device, First, Second, Act, Piece, Whole, acts_of, piece_events, IsTail, act_in, Beginning, PowerOn, Joined, Grown, reported_of, stands_for, TimedAsk, asks_of, last_start, limit_of, asks_after, limit_in}
 use Rattle.mdb_words.specs.Event.{start_of}
 use Rattle.mdb_msgs.specs.declared.command.Device.TheVariants as devices
 use Rattle.mdb_cashless.specs.declared.by_profile.facts.KnownByProfile.{KnownByProfile}

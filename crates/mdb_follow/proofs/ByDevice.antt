@@ -1,8 +1,6 @@
 -- What is kept of each device, by the places of the devices: that of one goes on, and in a loop
 -- over the devices that of each.
-use Rattle.mdb_follow.proofs.Words.{refl, ap, sym, inl, inr, ◌∙◌, ◌≡◌, ◌⊎◌, ◌+◌, ◌<◌, ◌≤◌, ℕ, suc}
-use Rattle.mdb_follow.proofs.Words.{arith, get_or, cases_eq, Device, First, Second, DEVICES}
-use Rattle.mdb_follow.proofs.Words.{device_place}
+use Rattle.mdb_follow.proofs.Words.{refl, ap, sym, inl, inr, ◌∙◌, ◌≡◌, ◌⊎◌, ◌+◌, ◌<◌, ◌≤◌, ℕ, suc, arith, get_or, cases_eq, Device, First, Second, DEVICES, device_place}
 use Rattle.mdb_msgs.specs.declared.command.Device.TheVariants as devices
 use Rattle.mdb_follow.specs.ByDevice.{OneGoes}
 

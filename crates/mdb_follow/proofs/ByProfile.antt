@@ -1,8 +1,5 @@
 -- A way of a reader by either profile is one of the machine of its profile.
-use Rattle.mdb_follow.proofs.Words.{refl, ◌≡◌, List, [], ◌∷◌, Option, Some, None, IsSomeAnd}
-use Rattle.mdb_follow.proofs.Words.{same_Some, Act, Gains, Machine, StateByProfile, Choices}
-use Rattle.mdb_follow.proofs.Words.{Follows, Sums}
-use Rattle.mdb_cashless.specs.ByProfile.{StepOf, machine_in}
+use Rattle.mdb_follow.proofs.Words.{refl, ◌≡◌, List, [], ◌∷◌, Option, Some, None, IsSomeAnd, same_Some, Act, Gains, Machine, StateByProfile, Choices, Follows, Sums, StepOf, machine_in}
 
 module _ {State : Type 0} (its_state : StateByProfile → Option State) (power_on : StateByProfile)
     (machine : Machine State) where

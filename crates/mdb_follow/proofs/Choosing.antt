@@ -1,7 +1,6 @@
 -- What is chosen of each act. Ways of machines, each with choices of its own, are ways with one
 -- list of choices.
-use Rattle.mdb_follow.proofs.Words.{◌≡◌, List, [], ◌∷◌, Device, Act, Machine, IsActOf, IsMachineOf}
-use Rattle.mdb_follow.proofs.Words.{Arrives, Choices, Follows, Sums}
+use Rattle.mdb_follow.proofs.Words.{◌≡◌, List, [], ◌∷◌, Device, Act, Machine, IsActOf, IsMachineOf, Arrives, Choices, Follows, Sums}
 use Rattle.mdb_follow.proofs.Machines.{elsewhere_as, same_choice, whose}
 
 module _ {State : Type 0} (machine : Machine State) where

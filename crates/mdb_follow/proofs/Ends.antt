@@ -1,12 +1,6 @@
 -- Ranges of sums of one kind and another, and of sums that a step added to.
-use Rattle.mdb_follow.proofs.Words
-use Words.{◌≡◌, ◌⊎◌, inl, inr, ℕ, ◌+◌, ◌≤◌, ◌<◌, ◌^◌, refl, sym, ◌∙◌, ap, arith, ℤ, pos, neg_ℤ}
-use Words.{◌+ℤ◌, ◌-ℤ◌, ◌≤ℤ◌, ints, clamps, Gains, IsSmall, Range, Account, Cell, at_slot, small_at}
-use Words.{joined_cell, IsCell, moved_cell, IsAccountWithin, IsCellWithin, IsRangeWithin, IsRange}
-use Words.{no_account, IsAccount, AccountSums, Sums, added, no_range}
+use Rattle.mdb_follow.proofs.Words.{◌≡◌, ◌⊎◌, inl, inr, ℕ, ◌+◌, ◌≤◌, ◌^◌, refl, sym, ◌∙◌, ap, arith, ℤ, pos, ◌+ℤ◌, ◌-ℤ◌, ints, clamps, Gains, IsSmall, Range, Account, Cell, at_slot, small_at, joined_cell, IsCell, moved_cell, IsCellWithin, IsRange, no_account, IsAccount, AccountSums, Sums, added, no_range, joined_range, joined_slot, moved_range, moved_slot}
 use Rattle.std.specs.Int.{int_max, int_min}
-use Rattle.mdb_follow.specs.Cells.{joined_range, joined_slot}
-use Rattle.mdb_follow.specs.Cells.{moved_account, moved_range, moved_slot}
 
 -- sums of a kind, with the gains of a step
 pub record Moved (Kind : Sums → Type 0) (gains : Gains) (sums : Sums) : Type 0 where
@@ -90,14 +84,9 @@ module _ (K L : Sums → Type 0) where
       | inl e ↦ (is.greatest.0, inl is.greatest.1, is.greatest.2 ∙ sym e)
       | inr e ↦ (so.greatest.0, inr so.greatest.1, so.greatest.2 ∙ sym e)
     ];
-    low = λ sums either. elim either [
-      | inl k ↦ (let f = is.low sums k in omega (arith, ints, clamps))
-      | inr l ↦ (let f = so.low sums l in omega (arith, ints, clamps))
-    ];
-    high = λ sums either. elim either [
-      | inl k ↦ (let f = is.high sums k in omega (arith, ints, clamps))
-      | inr l ↦ (let f = so.high sums l in omega (arith, ints, clamps))
-    ];
+    low = λ sums either. let k = is.low sums in let l = so.low sums in search (arith, ints, clamps);
+    high = λ sums either.
+        let k = is.high sums in let l = so.high sums in search (arith, ints, clamps);
   }
 
   pub cell-joined : (one other : Cell) → IsCell K one → IsCell L other
@@ -144,23 +133,10 @@ cell-moved K cell gains is slot below =
 
 -- limits
 
-range-within-weaker : (limit more : ℕ) (range : Range) → limit ≤ more
-    → IsRangeWithin limit range → IsRangeWithin more range
-range-within-weaker limit more range le is = search (arith, ints)
-
 pub cell-within-weaker : (limit more : ℕ) (cell : Cell) → limit ≤ more
     → IsCellWithin limit cell → IsCellWithin more cell
 cell-within-weaker limit more cell le is slot below =
-    let its = is slot below in
-    record {
-      device = range-within-weaker limit more _ le its.device;
-      controller = range-within-weaker limit more _ le its.controller;
-      difference = range-within-weaker limit more _ le its.difference;
-    }
-
-range-joined-within : (limit : ℕ) (one other : Range) → IsRangeWithin limit one
-    → IsRangeWithin limit other → IsRangeWithin limit (joined_range one other)
-range-joined-within limit one other is so = search (arith, ints, clamps)
+    let its = is slot below in search (arith, ints)
 
 pub cell-joined-within : (limit : ℕ) (one other : Cell) → IsCellWithin limit one
     → IsCellWithin limit other → IsCellWithin limit (joined_cell one other)
@@ -168,32 +144,13 @@ unfolding joined_cell
 cell-joined-within limit one other is so slot below =
     let one_is = is slot below in
     let other_is = so slot below in
-    rw (at_slot (joined_slot one other) slot no_account below) (record {
-      device = range-joined-within limit _ _ one_is.device other_is.device;
-      controller = range-joined-within limit _ _ one_is.controller other_is.controller;
-      difference = range-joined-within limit _ _ one_is.difference other_is.difference;
-    })
-
-range-moved-within : (limit more : ℕ) (range : Range) (by : ℤ) → IsRangeWithin limit range
-    → neg_ℤ (pos more) ≤ℤ by → by ≤ℤ pos more
-    → IsRangeWithin (limit + more) (moved_range range by)
-range-moved-within limit more range by is low high = search (arith, ints)
-
-account-moved-within : (limit more : ℕ) (ranges : Account) (device controller : ℕ)
-    → IsAccountWithin limit ranges → device < more → controller < more
-    → IsAccountWithin (limit + more) (moved_account ranges device controller)
-account-moved-within limit more ranges device controller is d c =
-    let moved = range-moved-within limit more in
-    record {
-      device = moved _ _ is.device (omega (arith, ints)) (omega (arith, ints));
-      controller = moved _ _ is.controller (omega (arith, ints)) (omega (arith, ints));
-      difference = moved _ _ is.difference (omega (arith, ints)) (omega (arith, ints));
-    }
+    rw (at_slot (joined_slot one other) slot no_account below) (search (arith, ints, clamps))
 
 pub cell-moved-within : (limit : ℕ) (cell : Cell) (gains : Gains) → IsCellWithin limit cell
     → IsSmall gains → IsCellWithin (limit + 2 ^ 32) (moved_cell cell gains)
 unfolding moved_cell
 cell-moved-within limit cell gains is small slot below =
-    rw (at_slot (moved_slot cell gains) slot no_account below)
-    (account-moved-within limit (2 ^ 32) _ _ _ (is slot below)
-    (small_at gains.device slot small.device) (small_at gains.controller slot small.controller))
+    let its = is slot below in
+    let device = small_at gains.device slot small.device in
+    let controller = small_at gains.controller slot small.controller in
+    rw (at_slot (moved_slot cell gains) slot no_account below) (search (arith, ints))

@@ -1,17 +1,6 @@
 -- What a follower that stands for events goes on to, and what it answers.
-use Rattle.mdb_follow.proofs.Words
-use Words.{refl, sym, ap, subst, ◌∙◌, ◌≡◌, inl, inr, ℕ, ◌+◌, List, [], ◌∷◌, ◌++◌, length, ◌<◌, ◌≤◌}
-use Words.{take, get_or, append_assoc, add-one, arith, map, Option, Some, None, take_all, take_more}
-use Words.{OnTrue, Bool, true, false, Result, Ok, Err, IfErr, IfOk, IsErrAnd, IsSomeAnd, Event}
-use Words.{Device, First, Second, Act, Blame, LinkFault, Rule, ArePieces, IsActList, Piece, Whole}
-use Words.{acts_of, events_of, piece_events, HasActList, act_in, GoesOn, IsLinkFault, profile_of}
-use Words.{Profile, Beginning, SLOTS, AccountName, ALL, Cell, Offence, Report, account_by, IsCell}
-use Words.{slot_account, counted_with, HasTakenRows, IsAccountWithin, IsCellWithin, IsAccount, Sums}
-use Words.{ArrivesAnywhere, EachArrives, IsOffence, NoStep, rule_of, HasOffence, AreAccounts}
-use Words.{IsReport, report_of, Account, AllSums, IsReached, Run, Arrives, IsCell, slot_account}
-use Words.{machine_of, AreSides, asks_of, AreStanding, SidesStay, Scope, IfOk-weaker}
-use Rattle.std.proofs.Common.{length-append, drop}
-use Rattle.std.proofs.Math.Seq.{split_at, take-append-add}
+use Rattle.mdb_follow.proofs.Words.{same_Some, refl, sym, ap, ◌∙◌, ◌≡◌, inl, inr, ℕ, ◌+◌, List, [], ◌∷◌, ◌++◌, length, ◌<◌, ◌≤◌, arith, map, Option, Some, None, OnTrue, Bool, true, false, Result, Ok, Err, IfErr, IfOk, IsErrAnd, IsSomeAnd, Event, Device, First, Second, Act, Blame, LinkFault, Rule, ArePieces, IsActList, Piece, Whole, acts_of, events_of, piece_events, HasActList, act_in, GoesOn, IsLinkFault, profile_of, Profile, Beginning, SLOTS, AccountName, ALL, Cell, Offence, account_by, IsCell, slot_account, counted_with, HasTakenRows, IsAccountWithin, IsCellWithin, IsAccount, Sums, ArrivesAnywhere, EachArrives, IsOffence, NoStep, rule_of, AreAccounts, Account, AllSums, IsReached, Run, Arrives, machine_of, AreSides, asks_of, AreStanding, SidesStay, Scope, IfOk-weaker, account_device, account_in, account_slot, SalesFollowApprovals, HasFollowedAct, HasStopped, IsLike}
+use Rattle.std.proofs.Common.{length-append}
 use Rattle.mdb_msgs.specs.declared.command.Device.TheVariants as devices
 use Rattle.mdb_bus.specs.declared.bus.Bus.{Bus}
 use Rattle.mdb_bus.specs.declared.fault.Rule.TheVariants as rules
@@ -21,11 +10,8 @@ use Rattle.mdb_bus.specs.ExtendedTimes.{AreFew, counted_for, times_of, untimely_
 use Rattle.mdb_bus.specs.declared.scope.Profile.TheVariants.{Base, Extended}
 use Rattle.mdb_bus.specs.declared.untimely.Untimely.{Untimely}
 use Rattle.mdb_follow.specs.declared.follower.Follower.{Follower}
-use Rattle.mdb_follow.specs.AccountNames.{account_device, account_in, account_slot}
 use Rattle.mdb_follow.specs.EndedActs.{IsEndedAct}
 use Rattle.mdb_follow.specs.Follower.{HasAccepted, StandsFor, is_late, rows_of, scope_of}
-use Rattle.mdb_follow.specs.Sales.{SalesFollowApprovals}
-use Rattle.mdb_follow.specs.inner.FollowerSteps.{HasFollowedAct, HasStopped}
 use Rattle.mdb_follow.proofs.Accounts.{listed, slot-below}
 use Rattle.mdb_follow.proofs.Asks.{asks-go-on, asks-stay}
 use Rattle.mdb_follow.proofs.Machines.{with_one, with_one-same}
@@ -33,7 +19,6 @@ use Rattle.mdb_follow.proofs.Reaching.{Joins, SomeArrive, SomeWay, run_of}
 use Rattle.mdb_follow.proofs.Joining.{split}
 use Rattle.mdb_follow.proofs.Sided.{by-stay}
 use Rattle.mdb_follow.proofs.Ends.{account-moves}
-use Rattle.mdb_follow.specs.inner.FollowerSteps.{IsLike}
 
 -- a transcript divides into acts in at most one way
 abbrev pub OneActList : (scope : Scope) → Type 0
@@ -62,10 +47,6 @@ by-some None P Q gives h = absurd h
 pub some-at : {T : Type 0} (o : Option T) (x : T) (P : T → Type 0) → o ≡ Some x → P x
     → IsSomeAnd o P
 some-at o x P is h = rw is h
-
-pub of-some : {T : Type 0} (o : Option T) (x : T) (P : T → Type 0) → o ≡ Some x
-    → IsSomeAnd o P → P x
-of-some o x P is h = rw is at h
 
 pub if-err-is : {T E : Type 0} (r : Result T E) (e : E) (P : E → Type 0)
     → IsErrAnd r (λ x. x ≡ e) → P e → IfErr r P
@@ -121,7 +102,7 @@ module _ (follower : Follower) (events : List Event) where
   }
 
   -- its tables have some way of each device
-  some-ways : (has : HasAccepted follower events)
+  pub some-ways : (has : HasAccepted follower events)
       → SomeArrive (scope_of follower).begins (acts_of has.pieces)
   some-ways has device =
       let some = (has.sides device).table.some in
@@ -129,7 +110,7 @@ module _ (follower : Follower) (events : List Event) where
 
 module _ (joins : (scope : Scope) → Joins scope) where
   -- so its rows are reached
-  accepted-reached : (follower : Follower) (events : List Event)
+  pub accepted-reached : (follower : Follower) (events : List Event)
       → HasAccepted follower events → IsReached (scope_of follower) events
   accepted-reached follower events has =
       let some = some-ways follower events has in (
@@ -173,35 +154,30 @@ module _ (joins : (scope : Scope) → Joins scope) where
   }
 
 -- a rule of a device isn't that of what isn't followed, nor that of a word that comes too late
-no-device-is-beyond : (device : Device) → rule_of device ≡ rules.Profile → ⊥
-no-device-is-beyond (devices.Reader unit) is = cc
-no-device-is-beyond device is = cc
+abbrev IsOfActs : Rule → Type 0
+IsOfActs rule = (rule ≡ rules.Profile → ⊥) × (is_late rule ≡ true → ⊥)
 
-no-device-is-late : (device : Device) → is_late (rule_of device) ≡ true → ⊥
-no-device-is-late (devices.Reader unit) is = cc is
-no-device-is-late device is = cc is
+of-device : (device : Device) → IsOfActs (rule_of device)
+of-device (devices.Reader unit) = (λ is. cc is, λ is. cc is)
+of-device device = (λ is. cc is, λ is. cc is)
 
 -- nor is the one that counts in haste
 module _ (old : Follower) (act : Act) (row : Event) (new : Follower)
     (offence : Offence) (has : HasStopped old act row new offence) where
-  by-rule : (Never : Rule → Type 0) → ((device : Device) → Never (rule_of device))
-      → Never rules.Early → Never offence.rule
-  by-rule Never own early = elim has.either [
-    | inl is ↦ rw (is, has.none.1.rule) (own has.none.0)
-    | inr is ↦ rw is early
+  of-acts : IsOfActs offence.rule
+  of-acts = elim has.either [
+    | inl is ↦ rw (is, has.none.1.rule) (of-device has.none.0)
+    | inr is ↦ rw is (λ is. cc is, λ is. cc is)
   ]
 
   pub none-beyond : {T : Type 0} → offence.rule ≡ rules.Profile → T
-  none-beyond beyond = absurd (by-rule (λ rule. rule ≡ rules.Profile → ⊥) no-device-is-beyond
-      (λ is. cc is) beyond)
+  none-beyond beyond = absurd (of-acts.0 beyond)
 
   pub none-late : {T : Type 0} (met : Offence) → new.offence ≡ Some met
       → is_late met.rule ≡ true → T
   none-late met noted late =
-      let same : Some offence ≡ Some met = sym has.noted ∙ noted in
-      let one : offence ≡ met = cc same in
-      absurd (by-rule (λ rule. is_late rule ≡ true → ⊥) no-device-is-late (λ is. cc is)
-      (rw one late))
+      let one : offence ≡ met = same_Some offence met (sym has.noted ∙ noted) in
+      absurd (of-acts.1 (rw one late))
 
 -- A follower that has stopped has accepted still what it stood for.
 pub accepted-still : (old new : Follower) (events : List Event) → StandsFor old events
@@ -265,32 +241,36 @@ stands-still old new bus events row on goes same_bus same_scope same_sides same_
       untimely = times;
     }
 
+-- two followers are alike, but for their rows out of their time and their room for an act
+abbrev pub IsCounted : Follower → Follower → Type 0
+IsCounted one other = (other.bus ≡ one.bus) × (other.rows ≡ one.rows)
+    × (other.offence ≡ one.offence) × (other.sides ≡ one.sides) × (other.silences ≡ one.silences)
+
 -- an act was followed
 pub stands-on : (old mid new : Follower) (events : List Event) (row : Event) (act : Act)
     (on : StandsFor old events) (goes : GoesOn mid.bus on.pieces row (Some act))
     → scope_of mid ≡ scope_of old → IsLike mid old → HasFollowedAct mid act row new
-    → (counts : Option Untimely)
-    → (few : (times : Untimely) → counts ≡ Some times → AreFew new.rows times)
-    → counts ≡ times_of (scope_of new) goes.longer
-    → StandsFor (record new { untimely = counts; few_untimely = few }) (events ++ row ∷ [])
-stands-on old mid new events row act on goes old_scope like has counts few times =
+    → (final : Follower) → IsCounted new final
+    → final.untimely ≡ times_of (scope_of new) goes.longer → StandsFor final (events ++ row ∷ [])
+stands-on old mid new events row act on goes old_scope like has final is times =
     let begins : Beginning = (scope_of old).begins in
     let same_scope : scope_of new ≡ scope_of old = ap link.scope_of has.on_bus ∙ old_scope in
     let sides : AreSides begins new.sides (act ∷ acts_of on.pieces) = λ device.
     (has.sides device).stands begins (acts_of on.pieces) (rw like.0 (on.sides device)) in
     record {
       pieces = goes.longer;
-      on_bus = rw has.on_bus goes.stands;
+      on_bus = rw (is.0, has.on_bus) goes.stands;
       whole = rw on.whole at goes.rows;
-      rows = has.rows ∙ ap (λ n. n + 1) (like.3 ∙ on.rows) ∙ sym (length-append events (row ∷ []));
-      going = has.going ∙ like.4 ∙ on.going;
-      sides = rw (same_scope, goes.acts) sides;
-      silences = λ device. rw same_scope (rw (asks-go-on begins device on.pieces row act
+      rows = is.1 ∙ has.rows ∙ ap (λ n. n + 1) (like.3 ∙ on.rows)
+          ∙ sym (length-append events (row ∷ []));
+      going = is.2 ∙ has.going ∙ like.4 ∙ on.going;
+      sides = rw (is.0, same_scope, goes.acts, is.3) sides;
+      silences = λ device. rw (is.0, same_scope, is.4) (rw (asks-go-on begins device on.pieces row act
           goes.longer new.sides.first_reader.facts new.sides.second_reader.facts goes.grown
           (sides (devices.Reader First)).facts (sides (devices.Reader Second)).facts) at
           ((has.silences device).stands (asks_of begins device on.pieces)
           (rw like.1 (on.silences device))));
-      untimely = times;
+      untimely = rw is.0 times;
     }
 
 -- a piece that is an act is a whole one
@@ -355,7 +335,7 @@ module _ (scope : Scope) (one : OneActList scope) (rows : List Event) (pieces : 
       (reached.1.states stops.device) way.gains way.step
 
   -- A way of one device is one of all, beside some way of each other device.
-  device-is : Joins scope → SomeArrive scope.begins (acts_of pieces) → (device : Device)
+  pub device-is : Joins scope → SomeArrive scope.begins (acts_of pieces) → (device : Device)
       → AreOf (Run scope rows)
       (ArrivesAnywhere (Arrives (machine_of scope.begins device) (acts_of pieces)))
       (λ sums. sums device)
@@ -411,28 +391,6 @@ module _ (one : (scope : Scope) → OneActList scope) (joins : (scope : Scope) �
         });
       }
 
-  -- what a follower reports of the rows that it has accepted
-  pub reported : (follower : Follower) (events : List Event) (report : Report)
-      (cells : Device → Cell) (has : HasAccepted follower events)
-      → ((device : Device)
-      → IsCell (ArrivesAnywhere (Arrives (machine_of (scope_of follower).begins device)
-      (acts_of has.pieces))) (cells device))
-      → report ≡ report_of (scope_of follower) follower.rows has.pieces (account_by cells)
-      → IsReport (scope_of follower) events report
-  reported follower events report cells has are telling =
-      let scope = scope_of follower in
-      record {
-        reached = accepted-reached joins follower events has;
-        pieces = has.pieces;
-        act_list = has.act_list;
-        accounts = account_by cells;
-        of_runs = accounts-of-cells (Run scope events) cells (λ device.
-            cell-of-runs (Run scope events) _ _ (device-is scope (one scope) events has.pieces
-            has.act_list (joins scope) (some-ways follower events has) device) (cells device)
-            (are device));
-        telling = rw has.rows at telling;
-      }
-
 -- a follower has taken so many events, and met no offence
 pub record HasFed (old : Follower) (events : List Event) (count : ℕ) (new : Follower) : Type 0 where
   pub rows : new.rows ≡ old.rows + count
@@ -440,50 +398,3 @@ pub record HasFed (old : Follower) (events : List Event) (count : ℕ) (new : Fo
   pub scope : scope_of new ≡ scope_of old
   pub still : count ≡ 0 → new ≡ old
   pub stands : (earlier : List Event) → StandsFor old earlier → StandsFor new (earlier ++ events)
-
--- a row among the events
-module _ (old mid : Follower) (events : List Event) (i : ℕ)
-    (has : HasFed old (take i events) i mid) where
-  -- all events were taken
-  pub fed-all : length events ≤ i → i ≤ length events → HasFed old events (length events) mid
-  fed-all low high =
-      let all : i ≡ length events = omega arith in
-      rw (take_all (length events) events (omega arith)) at (rw all at has)
-
-  -- one event more was taken
-  pub fed-more : (new : Follower) (d : Event) → i < length events → new.rows ≡ mid.rows + 1
-      → new.offence ≡ None → scope_of new ≡ scope_of mid
-      → ((earlier : List Event) → StandsFor mid earlier
-      → StandsFor new (earlier ++ get_or events i d ∷ []))
-      → HasFed old (take (i + 1) events) (i + 1) new
-  fed-more new d within more going same stands = record {
-    rows = omega (arith, more, has.rows);
-    going = going;
-    scope = same ∙ has.scope;
-    still = λ none. absurd (omega (arith, none));
-    stands = λ earlier on. rw (take_more events i d within, ← append_assoc)
-        (stands (earlier ++ take i events) (has.stands earlier on));
-  }
-
-  -- it was refused
-  pub fed-refused : (earlier : List Event) (d : Event) (offence : Offence) → i < length events
-      → ((before : List Event) → StandsFor mid before
-      → IsOffence (scope_of mid) before (get_or events i d) offence)
-      → StandsFor old earlier → HasOffence (scope_of old) earlier events offence
-  fed-refused earlier d offence within refused on = record {
-    front = take i events;
-    row = get_or events i d;
-    rest = drop (i + 1) events;
-    parts = rw add-one (split_at events i d within);
-    is = rw has.scope at (refused (earlier ++ take i events) (has.stands earlier on));
-  }
-
-  -- and those before it were accepted
-  pub fed-accepted : (new : Follower) (earlier : List Event) → new.rows ≡ mid.rows
-      → ((before : List Event) → StandsFor mid before → HasAccepted new before)
-      → StandsFor old earlier → HasAccepted new (take new.rows (earlier ++ events))
-  fed-accepted new earlier same accepts on =
-      let rows : new.rows ≡ length earlier + i = same ∙ has.rows ∙ ap (λ n. n + i) on.rows in
-      subst (λ n. HasAccepted new (take n (earlier ++ events))) (sym rows)
-      (rw (take-append-add earlier events i)
-      (accepts (earlier ++ take i events) (has.stands earlier on)))

@@ -1,23 +1,11 @@
 -- Ways of each device, and of all.
-use Rattle.mdb_follow.proofs.Words
-use Words.{arith, refl, sym, ap, ◌∙◌, ◌≡◌, ◌↔◌, ◌<◌, cond, nat_eq, ℕ, Bool, true, false, List, []}
-use Words.{◌∷◌, length, nat_tests, Device, ArePieces, Piece, Whole, acts_of, events_of}
-use Words.{piece_events, IsHeard, Loss, LossFits, Beginning, Choice, Lost, EachArrives, machine_of}
-use Words.{AllSums, IsWay, States, AllFollow, Choices, choices_of, Scope}
+use Rattle.mdb_follow.proofs.Words.{arith, refl, sym, ap, ◌∙◌, ◌≡◌, ◌↔◌, ◌<◌, cond, nat_eq, ℕ, Bool, true, false, List, [], ◌∷◌, length, nat_tests, Device, ArePieces, Piece, Whole, acts_of, events_of, piece_events, IsHeard, Loss, LossFits, Beginning, Choice, Lost, EachArrives, machine_of, AllSums, IsWay, States, AllFollow, Choices, choices_of, Scope}
 use Rattle.std.proofs.Common.{length-append}
 use Rattle.mdb_bus.specs.Acts.{IsAck}
 use Rattle.mdb_bus.specs.Wish.{HearsAsWished}
 use Rattle.mdb_follow.specs.SameAcks.{HearSameAcks}
 use Rattle.mdb_follow.proofs.Choosing.{arrives, chosen, follows_as, merged, merged_agrees}
 use Rattle.mdb_follow.proofs.Machines.{is_machine_of}
-
--- one of two, by whether two numbers are the same
-pick_same : (n : ℕ) (same apart : Bool) → cond (nat_eq n n) same apart ≡ same
-pick_same n same apart = grind (arith, nat_tests)
-
-pick_other : (one other : ℕ) (same apart : Bool) → one < other
-    → cond (nat_eq one other) same apart ≡ apart
-pick_other one other same apart less = grind (arith, nat_tests)
 
 -- whether a choice leaves it that an act was heard
 is_heard : Choice → Bool
@@ -95,14 +83,12 @@ module _ (begins : Beginning) (loss : Loss) where
   agrees scope choice (Whole act events ∷ pieces) choices are same hears =
       let rows = length-append (events_of pieces) events in
       let some = ap length are.1.begins in
+      let told = same (length (events_of pieces)) in
       let here : choice (length (events_of pieces)) ≡ is_heard choices.choice =
-      same (length (events_of pieces)) (omega (arith, rows, some))
-      ∙ pick_same (length (events_of pieces)) (is_heard choices.choice) _ in (
+      grind (arith, nat_tests, rows, some) in (
         (λ ack. ((λ h. sym here ∙ (hears.0 ack).0 h), (λ h. (hears.0 ack).1 (here ∙ h)))),
         agrees scope choice pieces choices.before are.2
-            (λ before less. same before (omega (arith, less, rows))
-            ∙ pick_other before (length (events_of pieces)) (is_heard choices.choice) _ less)
-            hears.1,
+            (λ before less. let told = same before in grind (arith, nat_tests, rows)) hears.1,
       )
   agrees scope choice (tail ∷ pieces) choices are same hears =
       let rows = length-append (events_of pieces) (piece_events tail) in

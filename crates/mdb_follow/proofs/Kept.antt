@@ -1,12 +1,7 @@
 -- What is kept of silences goes on as the lists of asks do: of one device, and of each.
-use Rattle.mdb_follow.proofs.Words.{sym, inl, inr, ◌∙◌, ◌≡◌, ◌+◌, ◌≤◌, ℕ, List, arith, length, set}
-use Rattle.mdb_follow.proofs.Words.{get_or, if◌then◌else◌, false_from_ne_true, Device, same_device}
-use Rattle.mdb_follow.proofs.Words.{is_one, says, Silence, Silences, Nothing, device_place}
-use Rattle.mdb_follow.proofs.Words.{TimedAsk, no_counts, AreAtMost, silence_in, SilenceGoesOn}
+use Rattle.mdb_follow.proofs.Words.{sym, inl, inr, ◌∙◌, ◌≡◌, ◌+◌, ◌≤◌, ℕ, List, arith, length, set, get_or, if◌then◌else◌, false_from_ne_true, Device, same_device, is_one, says, Silence, Silences, Nothing, device_place, TimedAsk, no_counts, AreAtMost, silence_in, SilenceGoesOn, get_or-set_other, AllGoOn, OneGoesOn}
 use Rattle.std.proofs.lemmas.Grind.{get_or-set_at}
-use Rattle.std.proofs.lemmas.List.{get_or-set_other}
 use Rattle.mdb_follow.specs.declared.silence.AskCounts.{AskCounts}
-use Rattle.mdb_follow.specs.SilenceSteps.{AllGoOn, OneGoesOn}
 use Rattle.mdb_follow.proofs.ByDevice.{below, one_place, same_or_not}
 
 -- what stands for that of a device that a list lacks; silences lack none

@@ -1,9 +1,5 @@
 -- Runs where further devices are left out.
-use Rattle.mdb_follow.proofs.Words
-use Words.{refl, sym, ◌∙◌, ◌≡◌, Bool, true, false, List, Event, Device, has, Act, Beginning, Scope}
-use Words.{ArePieces, IsActList, Piece, acts_of, LeavesOutMore, acts_with, breaks_among, leave_out}
-use Words.{IsLeftOut, IsFollowed, Arrives, EachArrives, AreSumsWithout, StateOf, machine_of}
-use Words.{AllSums, IsReached, Run, Sums, no_sums, Machine}
+use Rattle.mdb_follow.proofs.Words.{refl, sym, ◌≡◌, Bool, true, false, List, Event, Device, has, Act, Beginning, Scope, ArePieces, IsActList, Piece, acts_of, LeavesOutMore, acts_with, breaks_among, leave_out, IsLeftOut, IsFollowed, Arrives, EachArrives, AreSumsWithout, StateOf, machine_of, AllSums, IsReached, Run, Sums, no_sums, Machine}
 use Rattle.mdb_follow.proofs.Joining.{split}
 use Rattle.mdb_follow.proofs.Machines.{is_machine_of}
 use Rattle.mdb_follow.proofs.OwnWays.{OwnActs, adds_nothing, first_of, some_way, ways_alike}
@@ -24,16 +20,18 @@ pub record WithoutLaws : Type 0 where
   pub left_out : (scope : Scope) (pieces : List Piece) (device : Device) → IsLeftOut scope device
       → acts_with device (acts_of (leave_out scope pieces)) ≡ breaks_among (acts_of pieces)
 
--- no device is both followed and left out
-pub not_both : (scope : Scope) (device : Device) → IsFollowed scope device → IsLeftOut scope device
-    → ⊥
-not_both scope device followed left_out =
-    let clash : false ≡ true = sym followed ∙ left_out in cc clash
+-- what becomes of the sums of a device without further devices, by whether it is left out
+abbrev Without : Bool → Sums → Sums → Type 0
+Without false sums other = other ≡ sums
+Without true sums other = other ≡ no_sums
 
--- what becomes of the sums of a device without further devices
-record Without (scope : Scope) (device : Device) (sums other : Sums) : Type 0 where
-  followed : IsFollowed scope device → other ≡ sums
-  left_out : IsLeftOut scope device → other ≡ no_sums
+all_without : (scope : Scope) (sums other : AllSums)
+    → ((device : Device) → Without (has scope.without device) (sums device) (other device))
+    → AreSumsWithout scope sums other
+all_without scope sums other each = record {
+  followed = λ device is. rw is at (each device);
+  left_out = λ device is. rw is at (each device);
+}
 
 module _ (laws : WithoutLaws) where
   module _ (begins : Beginning) (more : Scope) (pieces : List Piece) (device : Device) where
@@ -46,8 +44,7 @@ module _ (laws : WithoutLaws) where
     -- each way of a device gives one without further devices
     one_without : (state : StateOf device) (sums : Sums)
         → Arrives machine (acts_of pieces) state sums → (its : Bool)
-        → has more.without device ≡ its
-        → (way : SomeWay machine rest) × Without more device sums way.sums
+        → has more.without device ≡ its → (way : SomeWay machine rest) × Without its sums way.sums
     one_without state sums way false followed = (
       record {
         state = state;
@@ -55,23 +52,18 @@ module _ (laws : WithoutLaws) where
         way = ways_alike laws.own_acts device machine (is_machine_of begins device)
             (acts_of pieces) rest (sym (laws.followed more pieces device followed)) state sums way;
       },
-      record { followed = λ is. refl; left_out = λ is. absurd (not_both more device followed is) },
+      refl,
     )
     one_without state sums way true left_out =
         let first = first_of machine (acts_of pieces) state sums way in
         let over = some_way laws.own_acts device machine (is_machine_of begins device) rest
-        (acts_of pieces) (laws.left_out more pieces device left_out) first.0 first.1 in (
-          record { state = over.0; sums = no_sums; way = over.1 },
-          record {
-            followed = λ is. absurd (not_both more device is left_out);
-            left_out = λ is. refl;
-          },
-        )
+        (acts_of pieces) (laws.left_out more pieces device left_out) first.0 first.1 in
+        (record { state = over.0; sums = no_sums; way = over.1 }, refl)
 
     -- and where it has one, each without further devices comes from one
     one_with : (some : SomeWay machine (acts_of pieces)) (other : StateOf device) (its : Sums)
         → Arrives machine rest other its → (is : Bool) → has more.without device ≡ is
-        → (way : SomeWay machine (acts_of pieces)) × Without more device way.sums its
+        → (way : SomeWay machine (acts_of pieces)) × Without is way.sums its
     one_with some other its without false followed = (
       record {
         state = other;
@@ -79,15 +71,12 @@ module _ (laws : WithoutLaws) where
         way = ways_alike laws.own_acts device machine (is_machine_of begins device) rest
             (acts_of pieces) (laws.followed more pieces device followed) other its without;
       },
-      record { followed = λ is. refl; left_out = λ is. absurd (not_both more device followed is) },
+      refl,
     )
     one_with some other its without true left_out = (
       some,
-      record {
-        followed = λ is. absurd (not_both more device is left_out);
-        left_out = λ is. adds_nothing laws.own_acts device machine (is_machine_of begins device)
-            rest (acts_of pieces) (laws.left_out more pieces device left_out) other its without;
-      },
+      adds_nothing laws.own_acts device machine (is_machine_of begins device) rest
+          (acts_of pieces) (laws.left_out more pieces device left_out) other its without,
     )
 
   -- each run gives one without further devices
@@ -100,10 +89,7 @@ module _ (laws : WithoutLaws) where
       let all = λ (device : Device). one_without more.begins more run.pieces device
       (run.states device) (sums device) (ways device) (has more.without device) refl in (
         (λ device. (all device).0.sums),
-        record {
-          followed = λ device. (all device).1.followed;
-          left_out = λ device. (all device).1.left_out;
-        },
+        all_without more _ _ (λ device. (all device).1),
         run_of more (laws.joins more) rows (leave_out more run.pieces)
             (laws.stays less more rows run.pieces leaves run.act_list) (λ device. (all device).0),
       )
@@ -115,18 +101,14 @@ module _ (laws : WithoutLaws) where
   run_with less more rows other leaves reached run =
       let some = reached.1 in
       let is = laws.left less more rows some.pieces run.pieces leaves some.act_list run.act_list in
-      let rest = acts_of (leave_out more some.pieces) in
-      let without : EachArrives less.begins rest run.states other =
+      let without : EachArrives less.begins (acts_of (leave_out more some.pieces)) run.states other =
       rw leaves.begins (rw is at
       (split more.begins run.loss run.pieces run.states other run.way)) in
       let all = λ (device : Device). one_with less.begins more some.pieces device
       (some_of less rows reached.0 some device) (run.states device) (other device)
       (without device) (has more.without device) refl in (
         (λ device. (all device).0.sums),
-        record {
-          followed = λ device. (all device).1.followed;
-          left_out = λ device. (all device).1.left_out;
-        },
+        all_without more _ _ (λ device. (all device).1),
         run_of less (laws.joins less) rows some.pieces some.act_list (λ device. (all device).0),
       )
 

@@ -1,14 +1,7 @@
 -- What the steps from all entries lead to.
-use Rattle.mdb_follow.proofs.Words.{◌≡◌, ◌⊎◌, inl, inr, ℕ, ◌+◌, ◌<◌, ◌^◌, sym, ap, subst, List, []}
-use Rattle.mdb_follow.proofs.Words.{◌∷◌, ◌++◌, refl, length, get_or, take, Contains, All, ◌↔◌}
-use Rattle.mdb_follow.proofs.Words.{All-head, All-tail, Contains-append_left, Contains-get_or}
-use Rattle.mdb_follow.proofs.Words.{Contains-push, Contains-push_cases, take_more, Gains, IsSmall}
-use Rattle.mdb_follow.proofs.Words.{Cell, moved_cell, IsCell, IsCellWithin, IsTableWithin, Sums}
-use Rattle.mdb_follow.proofs.Words.{Bounds, AreApart, IsKeyed, with_cell, with_moves}
+use Rattle.mdb_follow.proofs.Words.{◌≡◌, ◌⊎◌, inl, inr, ℕ, ◌+◌, ◌<◌, ◌^◌, sym, ap, List, [], ◌∷◌, ◌++◌, refl, length, get_or, take, Contains, All, ◌↔◌, All-head, All-tail, Contains-append_left, Contains-get_or, Contains-push, Contains-push_cases, take_more, Gains, IsSmall, Cell, moved_cell, IsCell, IsCellWithin, IsTableWithin, Sums, AreApart, IsKeyed, with_cell, with_moves}
 use Rattle.mdb_follow.proofs.Ends.{Moved, cell-moved, cell-moved-within}
-use Rattle.mdb_follow.proofs.Listed.{bounds-same, bounds-with_cell, contains-cases, contains-here}
-use Rattle.mdb_follow.proofs.Listed.{contains-none, contains-there, keyed-with_cell}
-use Rattle.mdb_follow.proofs.Listed.{apart-with_cell, within-with_cell}
+use Rattle.mdb_follow.proofs.Listed.{AreFound, found-same, found-with_cell, contains-cases, contains-here, contains-none, contains-there, keyed-with_cell, apart-with_cell, within-with_cell}
 
 -- a step of a list leads to a code from sums of a kind
 abbrev LedBy : (Sums → Type 0) → List (ℕ × Gains) → ℕ → Sums → Type 0
@@ -52,52 +45,53 @@ within-with_moves limit entries cell (move ∷ moves) small is all =
     all)
 
 -- a table with moves of a cell has what comes with the table or by the moves
-bounds-with_moves : (Comes : ℕ → Sums → Type 0) (Kind : Sums → Type 0) (entries : List (ℕ × Cell))
-    (cell : Cell) (moves : List (ℕ × Gains)) → IsCell Kind cell → AreApart entries
-    → Bounds Comes entries
-    → Bounds (λ next sums. Comes next sums ⊎ LedBy Kind moves next sums)
+found-with_moves : (Comes : ℕ → Sums → Type 0) (Kind : Sums → Type 0) (entries : List (ℕ × Cell))
+    (cell : Cell) (moves : List (ℕ × Gains)) → IsCell Kind cell → AreFound Comes entries
+    → AreFound (λ next sums. Comes next sums ⊎ LedBy Kind moves next sums)
     (with_moves entries cell moves)
-bounds-with_moves Comes Kind entries cell [] is apart old =
-    bounds-same Comes _ entries (λ next sums. inl)
-    (λ next sums either. elim either [
-      | inl c ↦ c
-      | inr l ↦ absurd (contains-none (next, l.0) l.1)
-    ]) old
-bounds-with_moves Comes Kind entries cell (move ∷ moves) is apart old =
+found-with_moves Comes Kind entries cell [] is old =
+    found-same Comes _ entries (λ next sums. (
+      inl,
+      λ either. elim either [
+        | inl c ↦ c
+        | inr l ↦ absurd (contains-none (next, l.0) l.1)
+      ],
+    )) old
+found-with_moves Comes Kind entries cell (move ∷ moves) is old =
     let moved = moved_cell cell move.1 in
-    bounds-same _ _ _
-    (λ next sums either. elim either [
-      | inl (inl c) ↦ inl c
-      | inl (inr m) ↦ inr (
-        move.1,
-        contains-here move moves (next, move.1)
-            (ap (λ n. (n, move.1)) (sym m.0)),
-        m.1,
-      )
-      | inr l ↦ inr (l.0, contains-there move moves (next, l.0) l.1, l.2)
-    ])
-    (λ next sums either. elim either [
-      | inl c ↦ inl (inl c)
-      | inr l ↦ elim (contains-cases move moves (next, l.0) l.1) [
-        | inl same ↦ inl (inr (
-          sym (ap (λ m. m.0) same),
-          subst (λ gains. Moved Kind gains sums) (sym (ap (λ m. m.1) same)) l.2,
-        ))
-        | inr rest ↦ inr (l.0, rest, l.2)
-      ]
-    ])
-    (bounds-with_moves (λ next sums. Comes next sums ⊎ ((next ≡ move.0) × Moved Kind move.1 sums))
-    Kind (with_cell entries move.0 moved) cell moves is (apart-with_cell move.0 moved entries apart)
-    (bounds-with_cell move.0 moved Comes entries (Moved Kind move.1) apart old
+    found-same _ _ _ (λ next sums. (
+      λ either. elim either [
+        | inl (inl c) ↦ inl c
+        | inl (inr m) ↦
+            inr (move.1, contains-here move moves (next, move.1) (λ i. (sym m.0 i, move.1)), m.1)
+        | inr l ↦ inr (l.0, contains-there move moves (next, l.0) l.1, l.2)
+      ],
+      λ either. elim either [
+        | inl c ↦ inl (inl c)
+        | inr l ↦ elim (contains-cases move moves (next, l.0) l.1) [
+          | inl same ↦ inl (inr (λ i. (sym same i).0, rw (ap (λ m. m.1) same) l.2))
+          | inr rest ↦ inr (l.0, rest, l.2)
+        ]
+      ],
+    ))
+    (found-with_moves (λ next sums. Comes next sums ⊎ ((next ≡ move.0) × Moved Kind move.1 sums))
+    Kind (with_cell entries move.0 moved) cell moves is
+    (found-with_cell move.0 moved Comes (Moved Kind move.1) entries old
     (cell-moved Kind cell move.1 is)))
+
+pub apart-with_moves : (entries : List (ℕ × Cell)) (cell : Cell) (moves : List (ℕ × Gains))
+    → AreApart entries → AreApart (with_moves entries cell moves)
+apart-with_moves entries cell [] apart = apart
+apart-with_moves entries cell (move ∷ moves) apart =
+    apart-with_moves (with_cell entries move.0 (moved_cell cell move.1)) cell moves
+    (apart-with_cell move.0 (moved_cell cell move.1) entries apart)
 
 module _ (Comes : ℕ → Sums → Type 0) (Move : ℕ → ℕ → Gains → Type 0) where
   -- no entry leads nowhere
-  pub led-none : Bounds (Led Comes Move []) []
+  pub led-none : AreFound (Led Comes Move []) []
   led-none = record {
-    exact = λ code cell in'. absurd (contains-none (code, cell) in');
-    whole = λ code sums l. elim l [
-      | from_entry entry listed gains move moved ↦ absurd (contains-none entry listed)
+    each = λ code sums l. elim l [
+      | from_entry entry listed gains move moved ↦ contains-none entry listed
     ];
   }
 
@@ -105,36 +99,36 @@ module _ (Comes : ℕ → Sums → Type 0) (Move : ℕ → ℕ → Gains → Typ
   pub led-more : (from : List (ℕ × Cell)) (entry : ℕ × Cell) (moves : List (ℕ × Gains))
       (into : List (ℕ × Cell)) → IsCell (Comes entry.0) entry.1
       → ((next : ℕ) (gains : Gains) → Contains moves (next, gains) ↔ Move entry.0 next gains)
-      → AreApart into → Bounds (Led Comes Move from) into
-      → Bounds (Led Comes Move (from ++ entry ∷ [])) (with_moves into entry.1 moves)
-  led-more from entry moves into is steps apart old =
-      bounds-same _ _ _
-      (λ next sums either. elim either [
-        | inl (from_entry one listed gains move moved) ↦
-            from_entry one (Contains-append_left from _ one listed) gains move moved
-        | inr l ↦ from_entry entry (Contains-push from entry) l.0 ((steps next l.0).0 l.1) l.2
-      ])
-      (λ next sums l. elim l [
-        | from_entry one listed gains move moved ↦
-            elim (Contains-push_cases from entry one listed) [
-              | inl rest ↦ inl (from_entry one rest gains move moved)
-              | inr same ↦ inr (gains, (steps next gains).1 (rw same move), rw same moved)
-            ]
-      ])
-      (bounds-with_moves (Led Comes Move from) (Comes entry.0) into entry.1 moves is apart old)
+      → AreFound (Led Comes Move from) into
+      → AreFound (Led Comes Move (from ++ entry ∷ [])) (with_moves into entry.1 moves)
+  led-more from entry moves into is steps old =
+      found-same _ _ _ (λ next sums. (
+        λ either. elim either [
+          | inl (from_entry one listed gains move moved) ↦
+              from_entry one (Contains-append_left from _ one listed) gains move moved
+          | inr l ↦ from_entry entry (Contains-push from entry) l.0 ((steps next l.0).0 l.1) l.2
+        ],
+        λ l. elim l [
+          | from_entry one listed gains move moved ↦
+              elim (Contains-push_cases from entry one listed) [
+                | inl rest ↦ inl (from_entry one rest gains move moved)
+                | inr same ↦ inr (gains, (steps next gains).1 (rw same move), rw same moved)
+              ]
+        ],
+      ))
+      (found-with_moves (Led Comes Move from) (Comes entry.0) into entry.1 moves is old)
 
   -- one entry more was read, and its moves were added
   pub led-read : (from : List (ℕ × Cell)) (i : ℕ) (d : ℕ × Cell) (moves : List (ℕ × Gains))
       (into after : List (ℕ × Cell)) → i < length from
       → IsCell (Comes (get_or from i d).0) (get_or from i d).1
       → ((next : ℕ) (gains : Gains) → Contains moves (next, gains)
-      ↔ Move (get_or from i d).0 next gains)
-      → AreApart into → after ≡ with_moves into (get_or from i d).1 moves
-      → Bounds (Led Comes Move (take i from)) into
-      → Bounds (Led Comes Move (take (i + 1) from)) after
-  led-read from i d moves into after within is steps apart made old =
+      ↔ Move (get_or from i d).0 next gains) → after ≡ with_moves into (get_or from i d).1 moves
+      → AreFound (Led Comes Move (take i from)) into
+      → AreFound (Led Comes Move (take (i + 1) from)) after
+  led-read from i d moves into after within is steps made old =
       rw (take_more from i d within, made)
-      (led-more (take i from) (get_or from i d) moves into is steps apart old)
+      (led-more (take i from) (get_or from i d) moves into is steps old)
 
 -- what a pair's moves are known to be, of the slice that they are read from
 pub moves-kept : (number codes : ℕ) (moves slice : List (ℕ × Gains)) → number ≡ codes

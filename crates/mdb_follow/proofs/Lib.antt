@@ -24,10 +24,8 @@ pub mod Sales
 pub mod Sided
 pub mod SilencesWithout
 pub mod Silent
-pub mod Slices
 pub mod Starts
 pub mod Told
 pub mod TwoSteps
 pub mod Ways
-pub mod Within
 mod Words

@@ -1,12 +1,6 @@
 -- Lists, and the entries of a table as one: what a cell more makes of them.
-use Rattle.mdb_follow.proofs.Words
-use Words.{◌≡◌, ◌⊎◌, inl, inr, ℕ, zero, suc, ◌≤◌, ◌<◌, refl, sym, ◌∙◌, ap, subst, arith, Bool, true}
-use Words.{false, List, [], ◌∷◌, ◌++◌, length, get_or, take, eqb, map, length-map, Contains, All}
-use Words.{slice_set, ◌==◌, if◌then◌else◌, AllByRecursion, All-cons, All-head, All-tail, false≢true}
-use Words.{nat_tests, Cell, joined_cell, IsCell, IsCellWithin, IsTableWithin, Sums, Bounds}
-use Words.{AreApart, AreBelow, IsKeyed, Lacks, with_cell, cases_eq, false_from_ne_true}
-use Rattle.std.specs.List.{IsDistinct, list_any}
-use Rattle.std.proofs.lemmas.Bool.{eqb-true, eq-eqb}
+use Rattle.mdb_follow.proofs.Words.{rules, Option, Some, None, none-some, ◌↔◌, ◌≡◌, ◌⊎◌, inl, inr, ℕ, zero, suc, ◌≤◌, ◌<◌, refl, sym, ◌∙◌, ap, arith, Bool, true, false, List, [], ◌∷◌, ◌++◌, length, get_or, take, eqb, map, length-map, Contains, All, slice_set, ◌==◌, if◌then◌else◌, AllByRecursion, All-cons, All-head, All-tail, false≢true, nat_tests, Cell, joined_cell, IsCell, IsCellWithin, IsTableWithin, Sums, Bounds, AreApart, AreBelow, IsKeyed, Lacks, with_cell, cases_eq, list_any}
+use Rattle.std.specs.List.{IsDistinct}
 use Rattle.std.proofs.lemmas.Map.Steps.{length-le_from_distinct_below}
 use Rattle.mdb_follow.proofs.Ends.{cell-joined, cell-joined-within, cell-same}
 
@@ -34,135 +28,122 @@ lacks-none (entry ∷ entries) code cell lacks has =
       | inr rest ↦ lacks-none entries code cell lacks.1 rest
     ]
 
-pub bounds-same : (Comes Comes' : ℕ → Sums → Type 0) (entries : List (ℕ × Cell))
-    → ((code : ℕ) (sums : Sums) → Comes code sums → Comes' code sums)
-    → ((code : ℕ) (sums : Sums) → Comes' code sums → Comes code sums)
-    → Bounds Comes entries → Bounds Comes' entries
-bounds-same Comes Comes' entries there back old = record {
-  exact = λ code cell in'. cell-same (Comes code) (Comes' code) cell (there code) (back code)
-      (old.exact code cell in');
-  whole = λ code sums c. old.whole code sums (back code sums c);
+-- the cell of a code, if there is one
+abbrev pub find : List (ℕ × Cell) → ℕ → Option Cell
+find [] at = None
+find (entry ∷ entries) at = if entry.0 == at then Some entry.1 else find entries at
+
+find-some : (entries : List (ℕ × Cell)) (at : ℕ) (cell : Cell) → find entries at ≡ Some cell
+    → Contains entries (at, cell)
+find-some [] at cell is = absurd (none-some cell is)
+find-some (entry ∷ entries) at cell is =
+    let here : entry.0 ≡ at → entry.1 ≡ cell → Contains (entry ∷ entries) (at, cell) =
+    λ code its. contains-here entry entries (at, cell) (λ i. (code i, its i)) in
+    let there = contains-there entry entries (at, cell) in
+    let earlier = find-some entries at cell in
+    grind (arith, nat_tests)
+
+find-has : (entries : List (ℕ × Cell)) (at : ℕ) (cell : Cell) → AreApart entries
+    → Contains entries (at, cell) → find entries at ≡ Some cell
+find-has [] at cell apart has = absurd (contains-none (at, cell) has)
+find-has (entry ∷ entries) at cell apart has =
+    let earlier = find-has entries at cell apart.1 in
+    let lacks = lacks-none entries entry.0 cell apart.0 in
+    elim (contains-cases entry entries (at, cell) has) [
+      | inl is ↦ grind (arith, nat_tests)
+      | inr there ↦ grind (arith, nat_tests)
+    ]
+
+-- a cell has the exact ranges of a kind, and where there is no cell there is nothing of the kind
+abbrev pub IsFound : (Sums → Type 0) → Option Cell → Type 0
+IsFound Kind None = (sums : Sums) → Kind sums → ⊥
+IsFound Kind (Some cell) = IsCell Kind cell
+
+-- The cell of each code has the ranges of what comes with the code.
+pub record AreFound (Comes : ℕ → Sums → Type 0) (entries : List (ℕ × Cell)) : Type 0 where
+  pub each : (at : ℕ) → IsFound (Comes at) (find entries at)
+
+-- the same kind in other words
+found-alike : (K L : Sums → Type 0) (found : Option Cell) → ((sums : Sums) → K sums ↔ L sums)
+    → IsFound K found → IsFound L found
+found-alike K L None same none = λ sums l. none sums ((same sums).1 l)
+found-alike K L (Some cell) same is =
+    cell-same K L cell (λ sums. (same sums).0) (λ sums. (same sums).1) is
+
+pub found-same : (K L : ℕ → Sums → Type 0) (entries : List (ℕ × Cell))
+    → ((at : ℕ) (sums : Sums) → K at sums ↔ L at sums) → AreFound K entries → AreFound L entries
+found-same K L entries same old = record {
+  each = λ at. found-alike (K at) (L at) (find entries at) (same at) (old.each at);
 }
 
--- The first entry of a table apart from the others.
-module _ (Comes : ℕ → Sums → Type 0) (entry : ℕ × Cell) (entries : List (ℕ × Cell))
-    (lacks : Lacks entries entry.0) where
-  -- what comes with other codes
-  abbrev Beside : ℕ → Sums → Type 0
-  Beside at sums = Comes at sums × (at ≡ entry.0 → ⊥)
+-- so these are the bounds of a table
+found-where : (Kind : Sums → Type 0) (entries : List (ℕ × Cell)) (at : ℕ) (found : Option Cell)
+    → find entries at ≡ found → IsFound Kind found → (sums : Sums) → Kind sums
+    → (cell : Cell) × Contains entries (at, cell)
+found-where Kind entries at None is none sums kind = absurd (none sums kind)
+found-where Kind entries at (Some cell) is its sums kind = (cell, find-some entries at cell is)
 
-  -- no other entry has its code
-  apart : (at : ℕ) (has : Cell) → Contains entries (at, has) → at ≡ entry.0 → ⊥
-  apart at has in' same =
-      lacks-none entries entry.0 has lacks (subst (λ c. Contains entries (c, has)) same in')
-
-  bounds-rest : Bounds Comes (entry ∷ entries) → Bounds Beside entries
-  bounds-rest old = record {
-    exact = λ at has in'. cell-same (Comes at) (Beside at) has (λ sums c. (c, apart at has in'))
-        (λ sums c. c.0) (old.exact at has (contains-there entry entries (at, has) in'));
-    whole = λ at sums c. (let there = old.whole at sums c.0 in
-        elim (contains-cases entry entries (at, there.0) there.1) [
-          | inl same ↦ absurd (c.1 (sym (ap (λ e. e.0) same)))
-          | inr rest ↦ (there.0, rest)
-        ]);
-  }
-
-  bounds-cons : IsCell (Comes entry.0) entry.1 → Bounds Beside entries
-      → Bounds Comes (entry ∷ entries)
-  bounds-cons is rest = record {
-    exact = λ at has in'. elim (contains-cases entry entries (at, has) in') [
-      | inl same ↦ subst (λ (e : ℕ × Cell). IsCell (Comes e.0) e.1) same is
-      | inr there ↦ cell-same (Beside at) (Comes at) has (λ sums c. c.0)
-          (λ sums c. (c, apart at has there)) (rest.exact at has there)
-    ];
-    whole = λ at sums c. elim (cases_eq at entry.0) [
-      | inl same ↦ (
-        entry.1,
-        contains-here entry entries (at, entry.1)
-            (ap (λ (n : ℕ). (n, entry.1)) (sym same)),
-      )
-      | inr other ↦ (let there = rest.whole at sums (c, other) in
-          (there.0, contains-there entry entries (at, there.0) there.1))
-    ];
-  }
-
--- a test of numbers that differ
-not_same : (a b : ℕ) → (a ≡ b → ⊥) → eqb a b ≡ false
-not_same a b other = false_from_ne_true (eqb a b) (λ same. other (eqb-true a b same))
+pub bounds-found : (Comes : ℕ → Sums → Type 0) (entries : List (ℕ × Cell)) → AreApart entries
+    → AreFound Comes entries → Bounds Comes entries
+bounds-found Comes entries apart found = record {
+  exact = λ at cell has. rw (find-has entries at cell apart has) at (found.each at);
+  whole = λ at. found-where (Comes at) entries at (find entries at) refl (found.each at);
+}
 
 -- A table with a cell more.
 module _ (code : ℕ) (cell : Cell) where
-  -- its first entry has the code of the cell, or not
-  by_code : (P : List (ℕ × Cell) → Type 0) (entry : ℕ × Cell) (entries : List (ℕ × Cell))
-      → (entry.0 ≡ code → P ((entry.0, joined_cell entry.1 cell) ∷ entries))
-      → ((entry.0 ≡ code → ⊥) → P (entry ∷ with_cell entries code cell))
-      → P (with_cell (entry ∷ entries) code cell)
-  by_code P entry entries met passed = elim (cases_eq entry.0 code) [
-    | inl is ↦ rw (eq-eqb entry.0 code is) (met is)
-    | inr not ↦ rw (not_same entry.0 code not) (passed not)
-  ]
+  -- the cell of its code is joined to it, and each other one stays
+  abbrev joined : Option Cell → Cell
+  joined None = cell
+  joined (Some had) = joined_cell had cell
 
+  find-its : (entries : List (ℕ × Cell))
+      → find (with_cell entries code cell) code ≡ Some (joined (find entries code))
+  find-its [] = grind (arith, nat_tests)
+  find-its (entry ∷ entries) = let earlier = find-its entries in grind (arith, nat_tests)
+
+  find-other : (at : ℕ) → (code ≡ at → ⊥) → (entries : List (ℕ × Cell))
+      → find (with_cell entries code cell) at ≡ find entries at
+  find-other at other [] = grind (arith, nat_tests)
+  find-other at other (entry ∷ entries) =
+      let earlier = find-other at other entries in grind (arith, nat_tests)
+
+  -- it has what comes with the one or the other
+  joined-found : (K L : Sums → Type 0) (found : Option Cell) → IsFound K found → IsCell L cell
+      → IsCell (λ sums. K sums ⊎ L sums) (joined found)
+  joined-found K L None none is = cell-same L _ cell (λ sums. inr)
+      (λ sums either. elim either [ inl k ↦ absurd (none sums k) | inr l ↦ l ]) is
+  joined-found K L (Some had) old is = cell-joined K L had cell old is
+
+  pub found-with_cell : (Comes : ℕ → Sums → Type 0) (Kind : Sums → Type 0)
+      (entries : List (ℕ × Cell)) → AreFound Comes entries → IsCell Kind cell
+      → AreFound (λ at sums. Comes at sums ⊎ ((at ≡ code) × Kind sums))
+      (with_cell entries code cell)
+  found-with_cell Comes Kind entries old is = record {
+    each = λ at. elim (cases_eq code at) [
+      | inl same ↦ rw (← same, find-its entries)
+          (joined-found (Comes code) _ (find entries code) (old.each code)
+          (cell-same Kind _ cell (λ sums k. (refl, k)) (λ sums k. k.1) is))
+      | inr other ↦ rw (find-other at other entries)
+          (found-alike (Comes at) _ (find entries at) (λ sums. (inl, search (rules, other)))
+          (old.each at))
+    ];
+  }
+
+  -- room
   lacks-with_cell : (entries : List (ℕ × Cell)) (at : ℕ) → (code ≡ at → ⊥) → Lacks entries at
       → Lacks (with_cell entries code cell) at
   lacks-with_cell [] at not lacks = (not, tt)
-  lacks-with_cell (entry ∷ entries) at not lacks = by_code (λ es. Lacks es at) entry entries
-      (λ is. (lacks.0, lacks.1)) (λ other. (lacks.0, lacks-with_cell entries at not lacks.1))
+  lacks-with_cell (entry ∷ entries) at not lacks =
+      let later = lacks-with_cell entries at not lacks.1 in grind (arith, nat_tests)
 
-  -- it has what comes with the one or the other
-  pub bounds-with_cell : (Comes : ℕ → Sums → Type 0) (entries : List (ℕ × Cell))
-      (Kind : Sums → Type 0) → AreApart entries → Bounds Comes entries → IsCell Kind cell
-      → Bounds (λ at sums. Comes at sums ⊎ ((at ≡ code) × Kind sums)) (with_cell entries code cell)
-  bounds-with_cell Comes [] Kind apart old is =
-      bounds-cons _ (code, cell) [] tt
-      (cell-same Kind _ cell (λ sums k. inr (refl, k)) (λ sums either. elim either [
-        | inl c ↦ absurd (contains-none _ (old.whole code sums c).1)
-        | inr k ↦ k.1
-      ]) is)
-      (record {
-        exact = λ at has in'. absurd (contains-none (at, has) in');
-        whole = λ at sums c. elim c.0 [
-          | inl comes ↦ old.whole at sums comes
-          | inr k ↦ absurd (c.1 k.0)
-        ];
-      })
-  bounds-with_cell Comes (entry ∷ entries) Kind apart old is =
-      let first = old.exact entry.0 entry.1 (contains-here entry entries entry refl) in
-      let rest = bounds-rest Comes entry entries apart.0 old in
-      let With : (ℕ → Sums → Type 0) → ℕ → Sums → Type 0 =
-      λ Comes at sums. Comes at sums ⊎ ((at ≡ code) × Kind sums) in
-      by_code (Bounds (With Comes)) entry entries
-      (λ same. bounds-cons (With Comes) (entry.0, joined_cell entry.1 cell) entries apart.0
-      (cell-same (λ sums. Comes entry.0 sums ⊎ Kind sums) _ _
-      (λ sums either. elim either [ inl c ↦ inl c | inr k ↦ inr (same, k) ])
-      (λ sums either. elim either [ inl c ↦ inl c | inr k ↦ inr k.1 ])
-      (cell-joined (Comes entry.0) Kind entry.1 cell first is))
-      (bounds-same _ _ entries (λ at sums c. (inl c.0, c.1))
-      (λ at sums c. elim c.0 [
-        | inl comes ↦ (comes, c.1)
-        | inr k ↦ absurd (c.1 (k.0 ∙ sym same))
-      ]) rest))
-      (λ not. bounds-cons (With Comes) entry (with_cell entries code cell)
-      (lacks-with_cell entries entry.0 (λ same. not (sym same)) apart.0)
-      (cell-same (Comes entry.0) _ entry.1 (λ sums. inl)
-      (λ sums either. elim either [ inl c ↦ c | inr k ↦ absurd (not k.0) ]) first)
-      (bounds-same _ _ _
-      (λ at sums either. elim either [
-        | inl c ↦ (inl c.0, c.1)
-        | inr k ↦ (inr k, λ same. not (sym same ∙ k.0))
-      ])
-      (λ at sums c. elim c.0 [ inl comes ↦ inl (comes, c.1) | inr k ↦ inr k ])
-      (bounds-with_cell (Beside Comes entry entries apart.0) entries Kind apart.1 rest is)))
-
-  -- room
   pub apart-with_cell : (entries : List (ℕ × Cell)) → AreApart entries
       → AreApart (with_cell entries code cell)
   apart-with_cell [] apart = (tt, tt)
-  apart-with_cell (entry ∷ entries) apart = by_code AreApart entry entries
-      (λ is. (apart.0, apart.1))
-      (λ not. (
-        lacks-with_cell entries entry.0 (λ is. not (sym is)) apart.0,
-        apart-with_cell entries apart.1,
-      ))
+  apart-with_cell (entry ∷ entries) apart =
+      let first = lacks-with_cell entries entry.0 in
+      let later = apart-with_cell entries apart.1 in
+      grind (arith, nat_tests)
 
   -- what holds of all entries, and of a cell joined to that of each and of the cell alone, holds
   -- with the cell
@@ -173,8 +154,12 @@ module _ (code : ℕ) (cell : Cell) where
   all-with_cell P (entry ∷ entries) one join all =
       let first = All-head P entry entries all in
       let rest = All-tail P entry entries all in
-      by_code (All P) entry entries (λ is. All-cons P _ entries (join entry.0 entry.1 first) rest)
-      (λ not. All-cons P entry _ first (all-with_cell P entries one join rest))
+      grind (
+        arith,
+        nat_tests,
+        All-cons P _ entries (join entry.0 entry.1 first) rest,
+        All-cons P entry _ first (all-with_cell P entries one join rest),
+      )
 
   pub keyed-with_cell : (number : ℕ) (entries : List (ℕ × Cell)) → code < number
       → IsKeyed number entries → IsKeyed number (with_cell entries code cell)
@@ -193,53 +178,42 @@ module _ (code : ℕ) (cell : Cell) where
       → with_cell entries code cell ≡ entries ++ (code, cell) ∷ []
   with_cell-push [] lacks = refl
   with_cell-push (entry ∷ entries) lacks =
-      by_code (λ es. es ≡ entry ∷ (entries ++ (code, cell) ∷ [])) entry entries
-      (λ is. absurd (lacks.0 is))
-      (λ not. ap (λ rest. entry ∷ rest) (with_cell-push entries lacks.1))
+      let later = with_cell-push entries lacks.1 in grind (arith, nat_tests)
 
   pub with_cell-set : (entries : List (ℕ × Cell)) (i : ℕ) (d : ℕ × Cell) → i < length entries
       → Lacks (take i entries) code → (get_or entries i d).0 ≡ code
       → slice_set entries i (code, joined_cell (get_or entries i d).1 cell)
       ≡ with_cell entries code cell
   with_cell-set [] i d within lacks at_code = absurd (omega arith)
-  with_cell-set (first ∷ entries) zero d within lacks at_code =
-      by_code (λ es. (code, joined_cell first.1 cell) ∷ entries ≡ es) first entries
-      (λ is. ap (λ c. (c, joined_cell first.1 cell) ∷ entries) (sym is))
-      (λ not. absurd (not at_code))
+  with_cell-set (first ∷ entries) zero d within lacks at_code = grind (arith, nat_tests)
   with_cell-set (first ∷ entries) (suc i) d within lacks at_code =
-      by_code
-      (λ es. first ∷ slice_set entries i (code, joined_cell (get_or entries i d).1 cell) ≡ es)
-      first entries (λ is. absurd (lacks.0 is))
-      (λ not. ap (λ rest. first ∷ rest)
-      (with_cell-set entries i d (omega arith) lacks.1 at_code))
+      let later = with_cell-set entries i d (omega arith) lacks.1 at_code in
+      grind (arith, nat_tests)
 
 -- the codes, and how many there are
 codes_of : List (ℕ × Cell) → List ℕ
 codes_of = map (λ entry. entry.0)
-
-apart-one : (code : ℕ) (entries : List (ℕ × Cell)) → Lacks entries code
-    → AllByRecursion (λ at. eqb code at ≡ false) (codes_of entries)
-unfolding codes_of
-apart-one code [] lacks = tt
-apart-one code (entry ∷ entries) lacks =
-    (grind (arith, nat_tests), apart-one code entries lacks.1)
 
 distinct-codes : (entries : List (ℕ × Cell)) → AreApart entries
     → IsDistinct eqb (codes_of entries)
 unfolding codes_of IsDistinct
 distinct-codes [] apart = tt
 distinct-codes (entry ∷ entries) apart =
-    (apart-one entry.0 entries apart.0, distinct-codes entries apart.1)
+    (apart-one entries apart.0, distinct-codes entries apart.1)
+  where
+    apart-one : (entries : List (ℕ × Cell)) → Lacks entries entry.0
+        → AllByRecursion (λ at. eqb entry.0 at ≡ false) (codes_of entries)
+    apart-one [] lacks = tt
+    apart-one (other ∷ entries) lacks = (grind (arith, nat_tests), apart-one entries lacks.1)
 
 codes-below : (number : ℕ) (entries : List (ℕ × Cell)) → AreBelow number entries
     → (code : ℕ) → list_any (eqb code) (codes_of entries) ≡ true → code < number
 unfolding codes_of
 codes-below number [] below code is = absurd (false≢true is)
-codes-below number (entry ∷ entries) below code is = elim (cases_eq code entry.0) [
-  | inl same ↦ rw same (All-head (λ e. e.0 < number) entry entries below)
-  | inr not ↦ codes-below number entries (All-tail (λ e. e.0 < number) entry entries below) code
-      (rw (not_same code entry.0 not) at is)
-]
+codes-below number (entry ∷ entries) below code is =
+    let first = All-head (λ (e : ℕ × Cell). e.0 < number) entry entries below in
+    let rest = codes-below number entries (All-tail (λ e. e.0 < number) entry entries below) code in
+    grind (arith, nat_tests)
 
 keyed-length : (number : ℕ) (entries : List (ℕ × Cell)) → IsKeyed number entries
     → length entries ≤ number
@@ -257,15 +231,6 @@ keyed-room number entries code keyed below lacks cell =
       below = All-cons (λ entry. entry.0 < number) (code, cell) entries below keyed.below;
     }) in
     omega arith
-
--- which of two lists is seen
-module _ {X : Type 0} (turned : Bool) (one other seen : List X)
-    (is : (if turned then other else one) ≡ seen) where
-  pub seen-other : turned ≡ true → other ≡ seen
-  seen-other so = rw so at is
-
-  pub seen-one : turned ≡ false → one ≡ seen
-  seen-one so = rw so at is
 
 -- a list that is told to be empty
 pub nil-told : {X : Type 0} (xs : List X) (told : Bool) → told ≡ (length xs == 0) → told ≡ true

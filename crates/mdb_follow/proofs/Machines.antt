@@ -1,8 +1,5 @@
 -- The machines that are followed: what joining needs of each.
-use Rattle.mdb_follow.proofs.Words
-use Words.{refl, sym, ap, ◌∙◌, ◌≡◌, ◌⊎◌, inl, inr, ℕ, List, Option, Some, None, unwrap_or}
-use Words.{same_Some, Device, First, Second, Act, Beginning, device_in, Choice, Plain, Again, Gains}
-use Words.{CanStand, no_gains, Machine, IsActOf, IsMachineOf, Arrives, machine_of, HasNoStep, Sums}
+use Rattle.mdb_follow.proofs.Words.{arith, refl, sym, ap, ◌∙◌, ◌≡◌, ◌⊎◌, inl, inr, ℕ, List, Option, Some, None, unwrap_or, Device, First, Second, Act, Beginning, device_in, Choice, Plain, Again, Gains, CanStand, no_gains, Machine, IsActOf, IsMachineOf, Arrives, machine_of, HasNoStep, Sums}
 use Rattle.mdb_msgs.specs.declared.command.Device.TheVariants as devices
 use Rattle.mdb_bus.specs.declared.act.Act.TheVariants as kinds
 use Rattle.mdb_cash.specs.shared.BillWays as bill_ways
@@ -36,10 +33,7 @@ with_one-same P device one others = refl
 named_or_not : (device : Device) (named : Option Device)
     → (named ≡ Some device) ⊎ (named ≡ Some device → ⊥)
 named_or_not device None = inr (λ same. absurd cc)
-named_or_not device (Some one) = elim (same_or_not one device) [
-  | inl same ↦ inl (ap (λ (d : Device). Some d) same)
-  | inr apart ↦ inr (λ same. apart (same_Some one device same))
-]
+named_or_not device (Some one) = let either = same_or_not one device in grind arith
 
 -- an act is a device's, or it isn't
 pub of_or_not : (device : Device) (act : Act) → IsActOf device act ⊎ (IsActOf device act → ⊥)

@@ -1,13 +1,5 @@
 -- Rows have one report, and a row has one offence.
-use Rattle.mdb_follow.proofs.Words
-use Words.{ap, arith, sym, subst, ◌∙◌, ◌≡◌, ◌⊎◌, inl, inr, ℕ, ℤ, ◌≤ℤ◌, List, [], ◌∷◌, ◌++◌}
-use Words.{append_assoc, append-nil, length, map, Option, Some, None, ints, Event, Act, Blame, Rule}
-use Words.{ArePieces, Piece, Whole, acts_of, HasActList, with_act, events_of, IsLinkFault}
-use Words.{RowBreaks, situation_of, Beginning, AccountName, ALL, Account, Offence, Range, Report}
-use Words.{IsRange, IsAccount, AccountSums, IsOffence, LinkFault, AreAccounts, IsReport, report_of}
-use Words.{AllSums, IsReached, Run, machine_of, NoStep, rule_of, Scope}
-use Rattle.mdb_follow.specs.AccountNames.{account_of, sums_of}
-use Rattle.mdb_follow.specs.Offences.{BreaksLink, BreaksMachine, act_fault}
+use Rattle.mdb_follow.proofs.Words.{ap, arith, sym, subst, ◌∙◌, ◌≡◌, ◌⊎◌, inl, inr, ℕ, ℤ, ◌≤ℤ◌, List, [], ◌∷◌, ◌++◌, append_assoc, append-nil, length, map, Option, Some, None, ints, Event, Act, Blame, Rule, ArePieces, Piece, Whole, acts_of, HasActList, with_act, events_of, IsLinkFault, RowBreaks, situation_of, Beginning, AccountName, ALL, Account, Offence, Range, Report, IsRange, IsAccount, AccountSums, IsOffence, LinkFault, AreAccounts, IsReport, report_of, AllSums, IsReached, Run, machine_of, NoStep, rule_of, Scope, account_of, sums_of, BreaksLink, BreaksMachine, act_fault}
 use Rattle.mdb_follow.proofs.Accounts.{listed}
 use Rattle.mdb_follow.proofs.Following.{OneActList}
 use Rattle.mdb_follow.proofs.Machines.{is_machine_of, whose, whose_none}

@@ -1,8 +1,5 @@
 -- A way of a device through acts is one through its own acts among them, and the other way round.
-use Rattle.mdb_follow.proofs.Words.{ap, refl, sym, ◌∙◌, ◌≡◌, inl, inr, List, [], ◌∷◌}
-use Rattle.mdb_follow.proofs.Words.{AllByRecursion, Device, Act, breaks_among, Plain, no_gains}
-use Rattle.mdb_follow.proofs.Words.{Machine, IsActOf, IsBreak, IsMachineOf, own_acts, Arrives, Sums}
-use Rattle.mdb_follow.proofs.Words.{added, no_sums}
+use Rattle.mdb_follow.proofs.Words.{ap, refl, sym, ◌∙◌, ◌≡◌, inl, inr, List, [], ◌∷◌, AllByRecursion, Device, Act, breaks_among, Plain, no_gains, Machine, IsActOf, IsBreak, IsMachineOf, own_acts, Arrives, Sums, added, no_sums}
 use Rattle.mdb_bus.specs.declared.act.Act.TheVariants as acts
 use Rattle.mdb_follow.proofs.Machines.{of_or_not}
 use Rattle.mdb_follow.proofs.Ways.{no-gains}

@@ -1,10 +1,6 @@
 -- The places of entries, noted under their codes.
-use Rattle.mdb_follow.proofs.Words.{◌≡◌, inl, inr, ℕ, zero, suc, ◌<◌, subst, arith, List, [], ◌∷◌}
-use Rattle.mdb_follow.proofs.Words.{◌++◌, length, get_or, take, slice_set, cases_eq, cases_lt}
-use Rattle.mdb_follow.proofs.Words.{take_all, Contains-get_or, Cell, HasAt, IsPlaced, Lacks}
-use Rattle.std.proofs.lemmas.List.{get_or_append_left, get_or-set_other, get_or-set_same}
-use Rattle.std.proofs.lemmas.List.{length-append, length-set}
-use Rattle.std.proofs.Math.Seq.{get_or-append_seam}
+use Rattle.mdb_follow.proofs.Words.{◌≡◌, ℕ, zero, suc, ◌<◌, subst, arith, List, [], ◌∷◌, ◌++◌, length, get_or, take, slice_set, take_all, Contains-get_or, Cell, HasAt, IsPlaced, Lacks, get_or_append_left, get_or-set_other, get_or-set_same, length-set, get_or-append_seam}
+use Rattle.std.proofs.lemmas.List.{length-append}
 use Rattle.mdb_follow.proofs.Listed.{lacks-none}
 
 -- an entry that no place has
@@ -46,13 +42,12 @@ pub placed-written : (entries : List (ℕ × Cell)) (places : List ℕ) (i code 
     → IsPlaced (slice_set entries i (code, cell)) places
 placed-written entries places i code cell has placed = record {
   at = λ k d within.
-      let e = length-set entries i (code, cell) in
-      elim (cases_eq k i) [
-        | inl same ↦ rw (same, get_or-set_same entries i (code, cell) d has.0)
-            (placed-at entries places i code d placed has)
-        | inr other ↦ rw (get_or-set_other entries i k (code, cell) d other)
-            (placed.at k d (omega arith))
-      ];
+      let long = length-set entries i (code, cell) in
+      let its = has.1 d in
+      let at = placed.at k d in
+      let same = get_or-set_same entries i (code, cell) d has.0 in
+      let other = get_or-set_other entries i k (code, cell) d in
+      grind arith;
 }
 
 -- an entry is added, and its place is noted
@@ -60,19 +55,15 @@ pub placed-push : (entries after : List (ℕ × Cell)) (places : List ℕ) (code
     (cell : Cell) → IsPlaced entries places → Lacks entries code → code < length places
     → place ≡ length entries → after ≡ entries ++ (code, cell) ∷ []
     → IsPlaced after (slice_set places code place)
-placed-push entries after places code place cell placed lacks within at made =
-    rw made (record {
-      at = λ k d lt. elim (cases_lt k (length entries)) [
-        | inl before ↦
-            rw (get_or_append_left entries ((code, cell) ∷ []) d k before)
-            (rw (get_or-set_other places code (get_or entries k d).0 place 0
-            (λ is. lacks-none entries code (get_or entries k d).1 lacks
-            (rw (← is) (Contains-get_or entries k d before))))
-            (placed.at k d before))
-        | inr later ↦
-            (let more = length-append entries ((code, cell) ∷ []) in
-            let is : k ≡ length entries = omega arith in
-            rw (is, get_or-append_seam entries (code, cell) [] d)
-            (rw (get_or-set_same places code place 0 within) at))
-      ];
-    })
+placed-push entries after places code place cell placed lacks within at made = rw made (record {
+  at = λ k d lt.
+      let long = length-append entries ((code, cell) ∷ []) in
+      let left = get_or_append_left entries ((code, cell) ∷ []) d k in
+      let last = get_or-append_seam entries (code, cell) [] d in
+      let was = placed.at k d in
+      let same = get_or-set_same places code place 0 within in
+      let other = get_or-set_other places code (get_or entries k d).0 place 0 in
+      let has = Contains-get_or entries k d in
+      let none = lacks-none entries code (get_or entries k d).1 lacks in
+      grind arith;
+})

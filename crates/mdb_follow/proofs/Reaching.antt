@@ -1,8 +1,5 @@
 -- Reached rows.
-use Rattle.mdb_follow.proofs.Words.{List, [], ◌∷◌, ◌++◌, Option, Some, None, Event, Device, Act}
-use Rattle.mdb_follow.proofs.Words.{ArePieces, IsActList, Piece, acts_of, GoesOnFrom, with_act}
-use Rattle.mdb_follow.proofs.Words.{Loss, LossFits, Beginning, Machine, Arrives, EachArrives}
-use Rattle.mdb_follow.proofs.Words.{machine_of, AllSums, IsReached, IsWay, Run, States, Sums, Scope}
+use Rattle.mdb_follow.proofs.Words.{List, [], ◌∷◌, ◌++◌, Option, Some, None, Event, Device, Act, ArePieces, IsActList, Piece, acts_of, GoesOnFrom, with_act, Loss, LossFits, Beginning, Machine, Arrives, EachArrives, machine_of, AllSums, IsReached, IsWay, Run, States, Sums, Scope}
 use Rattle.mdb_follow.proofs.Joining.{split}
 
 -- ways of each device are together a way of all

@@ -1,22 +1,10 @@
 -- Reports, reached rows and offences where further devices are left out.
-use Rattle.mdb_follow.proofs.Words
-use Words.{ap, refl, sym, ◌∙◌, ◌≡◌, inl, inr, Bool, true, false, ◌&&◌, if◌then◌else◌, length, List}
-use Words.{[], ◌∷◌, ◌++◌, Option, Some, None, All, Event, device_of, has, Device, First, Second}
-use Words.{Act, Blame, LinkFault, Rule, Beginning, Scope, ArePieces, IsActList, Piece, Whole}
-use Words.{acts_of, LeavesOutMore, acts_with, breaks_among, device_in, leave_out, IsLinkFault}
-use Words.{blame_on, IsFollowed, IsLeftOut, IsBreak, own_acts, Account, AccountName, Offence}
-use Words.{Report, reported_of, AreSumsWithout, IsNotKnown, IsOffence, no_account, IsAccount}
-use Words.{IsReport, decimals_of, device_report_of, report_of, device_facts_of, unvalued_of}
-use Words.{AllSums, IsReached, Run, no_sums, device_facts_of}
-use Rattle.std.proofs.lemmas.List.Elements.{All-from_recursion}
+use Rattle.mdb_follow.proofs.Words.{ap, refl, sym, ◌∙◌, ◌≡◌, inl, inr, Bool, true, false, ◌&&◌, if◌then◌else◌, length, List, [], ◌∷◌, ◌++◌, Option, Some, None, All, Event, device_of, has, Device, First, Second, Act, Blame, LinkFault, Rule, Beginning, Scope, ArePieces, IsActList, Piece, Whole, acts_of, LeavesOutMore, acts_with, breaks_among, device_in, leave_out, IsLinkFault, blame_on, IsFollowed, IsLeftOut, IsBreak, own_acts, Account, AccountName, Offence, Report, reported_of, AreSumsWithout, IsNotKnown, IsOffence, no_account, IsAccount, IsReport, decimals_of, device_report_of, report_of, device_facts_of, unvalued_of, AllSums, IsReached, Run, no_sums, All-from_recursion, account_device, account_of, account_slot, sums_of, HasNothingLeftOut, HaveSameFollowed, sender_of}
 use Rattle.mdb_msgs.specs.declared.command.Device.TheVariants as devices
 use Rattle.mdb_bus.specs.declared.act.Act.TheVariants as acts
 use Rattle.mdb_bus.specs.declared.fault.Blame.TheVariants as blame
 use Rattle.mdb_bus.specs.declared.fault.Rule.TheVariants as rules
 use Rattle.mdb_bus.specs.ExtendedHaste.{haste_of, is_excused}
-use Rattle.mdb_follow.specs.AccountNames.{account_device, account_of, account_slot, sums_of}
-use Rattle.mdb_follow.specs.LeavingOut.{HasNothingLeftOut, HaveSameFollowed}
-use Rattle.mdb_follow.specs.Senders.{sender_of}
 use Rattle.mdb_follow.proofs.Following.{OneActList}
 use Rattle.mdb_follow.proofs.OneAnswer.{named-account, one-account}
 use Rattle.mdb_follow.proofs.OwnWays.{are_breaks}

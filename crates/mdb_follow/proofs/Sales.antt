@@ -1,27 +1,19 @@
 -- That each sale in a run follows its approval.
-use Rattle.mdb_follow.proofs.Words.{ap, ◌≡◌, ◌⊎◌, inl, inr, ℕ, List, [], ◌∷◌, ◌++◌, All-cons}
-use Rattle.mdb_follow.proofs.Words.{All-nil, Event, ReaderUnit, Act, ArePieces, Piece, Position}
-use Rattle.mdb_follow.proofs.Words.{Whole, acts_of, Gains, Choice, StateByProfile, Arrives, Sums}
-use Rattle.mdb_follow.proofs.Words.{Beginning, PowerOn, Joined, Profile, Scope, profile_of}
+use Rattle.mdb_follow.proofs.Words.{ap, ◌≡◌, ◌⊎◌, inl, inr, ℕ, List, [], ◌∷◌, ◌++◌, All-cons, All-nil, Event, ReaderUnit, Act, ArePieces, Piece, Position, Whole, acts_of, Gains, Choice, StateByProfile, Arrives, Sums, Beginning, PowerOn, Joined, Profile, Scope, profile_of, Replied, Returned, first_position, position_of, base_state, by_profile, extended_state, machine_in, EndsInReply, IsApproved, MayBeRequestedBefore, SalesAreApproved, SalesFollowApprovals}
 use Rattle.mdb_msgs.specs.declared.command.Command.{Command}
 use Rattle.mdb_msgs.specs.declared.command.Command.TheVariants as commands
 use Rattle.mdb_msgs.specs.declared.command.Device.TheVariants as devices
 use Rattle.mdb_msgs.specs.declared.command.ReaderCommand.TheVariants as readers
 use Rattle.mdb_msgs.specs.declared.reply.Reply.{Reply}
 use Rattle.mdb_bus.specs.declared.act.Act.TheVariants as acts
-use Rattle.mdb_bus.specs.ActLists.{Replied, Returned, first_position, position_of}
 use Rattle.mdb_cashless.specs.declared.reader.state.ReaderState.{ReaderState}
 use Rattle.mdb_cashless.specs.declared.approvals.state.ApprovalState.{ApprovalState}
 use Rattle.mdb_cashless.specs.declared.by_profile.state.StateByProfile.TheVariants.{Base, Extended}
-use Rattle.mdb_cashless.specs.ByProfile.{base_state, by_profile, extended_state, machine_in}
 use Rattle.mdb_cashless.specs.ExtendedReader as extended
 use Rattle.mdb_cashless.specs.ExtendedSales as extended_sales
 use Rattle.mdb_cashless.specs.ExtendedSales.{AcksAreOfReplies}
 use Rattle.mdb_cashless.specs.Reader as reader
 use Rattle.mdb_cashless.specs.shared.SaleViews.{AcksLastReply, MayTellOfSale}
-use Rattle.mdb_cashless.specs.Sales.{EndsInReply, IsApproved, MayBeRequestedBefore}
-use Rattle.mdb_cashless.specs.Sales.{SalesAreApproved}
-use Rattle.mdb_follow.specs.Sales.{SalesFollowApprovals}
 use Rattle.mdb_follow.proofs.ByProfile.{own_way}
 use Rattle.mdb_follow.proofs.Choosing.{arrives, chosen}
 use Rattle.mdb_follow.proofs.Joining.{split}

@@ -1,10 +1,5 @@
 -- Sides go on by an act: the side of one device, those of all, and those that have no part in it.
-use Rattle.mdb_follow.proofs.Words
-use Words.{◌≡◌, inl, inr, ◌+◌, ◌^◌, ◌<◌, ◌∙◌, ℕ, List, Option, ap, arith, get_or, refl, sym, Ok}
-use Words.{Err, Result, ◌∷◌, ∥∥₁_elim, IfErr, IfOk, OnErr, Device, First, Second, Act, Rule}
-use Words.{Beginning, Plain, IsActOf, IsBreak, DEVICES, Sides, reported_of, machine_of, HasNoStep}
-use Words.{rule_of, decimals_of, unvalued_of, SideOf, side_in, stands_for, AreStanding, AreWithin}
-use Words.{FollowsOf, IsWithin, OneFollows, SidesFollow, SidesStay, SidesStop, Stops}
+use Rattle.mdb_follow.proofs.Words.{◌≡◌, inl, inr, ◌+◌, ◌^◌, ◌<◌, ◌∙◌, ℕ, List, Option, ap, arith, get_or, refl, sym, Ok, Err, Result, ◌∷◌, ∥∥₁_elim, IfErr, IfOk, OnErr, Device, First, Second, Act, Rule, Beginning, Plain, IsActOf, IsBreak, DEVICES, Sides, reported_of, machine_of, HasNoStep, rule_of, decimals_of, unvalued_of, SideOf, side_in, stands_for, AreStanding, AreWithin, FollowsOf, IsWithin, OneFollows, SidesFollow, SidesStay, SidesStop, Stops, FactsOf, IsSideOf, code_of, side_spec_of}
 use Rattle.mdb_msgs.specs.declared.command.Device.TheVariants as devices
 use Rattle.mdb_bus.specs.declared.act.Act.TheVariants as told
 use Rattle.mdb_cash.specs.BillValues as bill_values
@@ -13,11 +8,10 @@ use Rattle.mdb_cash.specs.shared.BillWays as bill_ways
 use Rattle.mdb_cash.specs.shared.ChangerWays as changer_ways
 use Rattle.mdb_cashless.specs.ByProfileValues as reader_values
 use Rattle.mdb_cashless.specs.shared.ByProfileWays as reader_ways
-use Rattle.mdb_follow.specs.Sides.{FactsOf, IsSideOf, code_of, side_spec_of}
 use Rattle.mdb_follow.proofs.ByDevice.{Front, front-next, same_or_not}
 use Rattle.mdb_follow.proofs.Machines.{is_machine_of}
 use Rattle.mdb_follow.proofs.Ways.{table-same}
-use Rattle.mdb_follow.proofs.Within.{side-within-weaker}
+use Rattle.mdb_follow.proofs.Limits.{side-within-weaker}
 
 -- an act in which a device has no part leaves its facts
 pub unmoved : (begins : Beginning) (device : Device) (facts : FactsOf device) (acts : List Act)

@@ -1,10 +1,5 @@
 -- The lists of asks to a device, and its silences, where further devices are left out.
-use Rattle.mdb_follow.proofs.Words
-use Words.{ap, cond, refl, sym, ◌∙◌, ◌≡◌, Bool, true, false, not, List, [], ◌∷◌, Some, sum_by-cons}
-use Words.{AllByRecursion, count_by, Event, device_of, has, same_device, Device, is_one, Act}
-use Words.{Beginning, Scope, ArePieces, Piece, Whole, acts_of, piece_events, device_in, is_left_out}
-use Words.{leave_out, with_foreign, IsLeftOut, IsFollowed, TimedAsk, asks_of, counts_of, is_silence}
-use Words.{limit_of, no_counts, false≢true, false_from_ne_true}
+use Rattle.mdb_follow.proofs.Words.{rules, ap, cond, refl, sym, ◌∙◌, ◌≡◌, Bool, true, false, not, List, [], ◌∷◌, Some, sum_by-cons, AllByRecursion, count_by, Event, has, same_device, Device, is_one, Act, Beginning, Scope, ArePieces, Piece, Whole, acts_of, piece_events, device_in, is_left_out, leave_out, with_foreign, IsLeftOut, IsFollowed, TimedAsk, asks_of, counts_of, is_silence, limit_of, no_counts, false≢true, false_from_ne_true}
 use Rattle.mdb_bus.specs.declared.act.Act.TheVariants as acts
 
 differs : (b : Bool) → b ≡ not b → ⊥
@@ -52,15 +47,9 @@ module _ (begins : Beginning) (scope : Scope) where
       -- and so does a piece of a device that is left out
       of_other : (piece : Piece) (pieces : List Piece) → is_left_out scope piece ≡ true
           → asks_of begins device (piece ∷ pieces) ≡ asks_of begins device pieces
-      of_other (Whole (acts.Ask command) events) pieces left =
-          rw (two_devices false followed (device_of command) left)
-      of_other (Whole (acts.Ack command) events) pieces left =
-          rw (two_devices false followed (device_of command) left)
-      of_other (Whole (acts.Nak command) events) pieces left =
-          rw (two_devices false followed (device_of command) left)
-      of_other (Whole (acts.Reply command reply) events) pieces left =
-          rw (two_devices false followed (device_of command) left)
       of_other (Whole (acts.Break length) events) pieces left = absurd (false≢true left)
+      of_other (Whole act events) pieces left =
+          let apart = two_devices false followed in search rules
       of_other piece pieces left = refl
 
       module _ (stay : LimitsStay begins scope device) where
@@ -92,19 +81,13 @@ module _ (begins : Beginning) (scope : Scope) where
     never_asked : (pieces : List Piece) → ArePieces scope pieces
         → AreEmpty (asks_of begins device pieces)
     never_asked [] are = (refl, tt)
-    never_asked (Whole (acts.Ask command) events ∷ pieces) are =
-        rw (two_devices device true left _ (names _ events pieces _ are refl))
-        (never_asked pieces are.2)
-    never_asked (Whole (acts.Ack command) events ∷ pieces) are =
-        rw (two_devices device true left _ (names _ events pieces _ are refl))
-        (never_asked pieces are.2)
-    never_asked (Whole (acts.Nak command) events ∷ pieces) are =
-        rw (two_devices device true left _ (names _ events pieces _ are refl))
-        (never_asked pieces are.2)
-    never_asked (Whole (acts.Reply command reply) events ∷ pieces) are =
-        rw (two_devices device true left _ (names _ events pieces _ are refl))
-        (never_asked pieces are.2)
     never_asked (Whole (acts.Break length) events ∷ pieces) are = (refl, never_asked pieces are.2)
+    never_asked (Whole act events ∷ pieces) are =
+        let earlier = never_asked pieces are.2 in
+        let apart : (other : Device) → device_in act ≡ Some other
+        → same_device device other ≡ false = λ other its.
+        two_devices device true left other (names act events pieces other are its) in
+        search rules
     never_asked (piece ∷ pieces) are = never_asked pieces are.2
 
     -- so nothing is counted of it

@@ -1,10 +1,5 @@
 -- What is kept of silences goes on with an ask that finds one unanswered.
-use Rattle.mdb_follow.proofs.Words.{refl, ap, sym, ◌∙◌, ◌≡◌, ◌≢◌, ◌<◌, ◌≤◌, ◌+◌, ℕ, Bool, true}
-use Rattle.mdb_follow.proofs.Words.{false, nat_lt, ◌||◌, cond, List, [], ◌∷◌, Some, arith}
-use Rattle.mdb_follow.proofs.Words.{sum_by-cons, count_by, Silence, Until, Counted, TimedAsk}
-use Rattle.mdb_follow.proofs.Words.{counts_of, first_ask, is_silence, with_ask}
-use Rattle.std.proofs.lemmas.Bool.{lt-ltb, le-ltb}
-use Rattle.mdb_follow.specs.SilencesKept.{StandsForAsks, deadline_of}
+use Rattle.mdb_follow.proofs.Words.{counts_of, cond, nat_tests, refl, sym, ◌∙◌, ◌≡◌, ◌≢◌, ◌<◌, ◌≤◌, ◌+◌, ℕ, true, false, nat_lt, ◌||◌, List, [], ◌∷◌, Some, arith, sum_by-cons, count_by, Silence, Until, Counted, TimedAsk, first_ask, is_silence, with_ask, StandsForAsks, deadline_of}
 
 -- a list with an ask has a first one
 first-of : (ask : TimedAsk) (list : List TimedAsk)
@@ -24,20 +19,13 @@ same-deadline : (ask : TimedAsk) (list : List TimedAsk) → list ≢ []
 same-deadline ask [] some = absurd (some refl)
 same-deadline ask (earlier ∷ list) some = refl
 
--- how many silences lists with a first list have
-count-list : (list : List TimedAsk) (lists : List (List TimedAsk))
-    → count_by is_silence (list ∷ lists)
-    ≡ cond (is_silence list) 1 0 + count_by is_silence lists
-count-list list lists = sum_by-cons (λ list. cond (is_silence list) 1 0) list lists
-
+-- how many silences there are, where one more ask makes none
 count-same : (ask : TimedAsk) (list : List TimedAsk) (lists : List (List TimedAsk))
     → is_silence (ask ∷ list) ≡ is_silence list
     → counts_of ((ask ∷ list) ∷ lists) ≡ counts_of (list ∷ lists)
 count-same ask list lists same =
-    rw (count-list (ask ∷ list) lists, count-list list lists, same)
-
-some-ask : (ask : TimedAsk) (list : List TimedAsk) → (ask ∷ list) ≢ []
-some-ask ask list same = cc
+    let count = sum_by-cons (λ list. cond (is_silence list) 1 0) in
+    rw (count (ask ∷ list) lists, count list lists, same)
 
 -- a list that has counted stays one that counts
 pub counted-more : (silence : Silence) (lists : List (List TimedAsk)) (ask : TimedAsk)
@@ -46,16 +34,12 @@ pub counted-more : (silence : Silence) (lists : List (List TimedAsk)) (ask : Tim
 counted-more silence [] ask is on = absurd ((rw is at on.unanswered).0 refl)
 counted-more silence (list ∷ lists) ask is on =
     let was = rw is at on.unanswered in
-    let yes : is_silence (ask ∷ list) ≡ true = more ask list was.0
-    ∙ ap (λ b. nat_lt (deadline_of list) ask.at || b) was.1 ∙ or-true _ in
+    let longer = more ask list was.0 in
+    let counts : is_silence (ask ∷ list) ≡ true = grind (arith, nat_tests, was.1) in
     record {
-      unanswered = rw is (some-ask ask list, yes);
-      counts = on.counts ∙ sym (count-same ask list lists (yes ∙ sym was.1));
+      unanswered = rw is ((λ same. cc same), counts);
+      counts = on.counts ∙ sym (count-same ask list lists (counts ∙ sym was.1));
     }
-  where
-    or-true : (b : Bool) → (b || true) ≡ true
-    or-true true = refl
-    or-true false = refl
 
 -- an ask that comes in time changes nothing
 pub in-time : (silence : Silence) (lists : List (List TimedAsk)) (ask : TimedAsk) (time : ℕ)
@@ -64,12 +48,11 @@ pub in-time : (silence : Silence) (lists : List (List TimedAsk)) (ask : TimedAsk
 in-time silence [] ask time is early on = absurd ((rw is at on.unanswered).0 refl)
 in-time silence (list ∷ lists) ask time is early on =
     let was = rw is at on.unanswered in
-    let no : is_silence (ask ∷ list) ≡ false =
-    rw (more ask list was.0, ← was.1, le-ltb time ask.at early) was.2 in
+    let longer = more ask list was.0 in
+    let none : is_silence (ask ∷ list) ≡ false = grind (arith, nat_tests, was.1, was.2) in
     record {
-      unanswered = rw is
-          (some-ask ask list, was.1 ∙ sym (same-deadline ask list was.0), no);
-      counts = on.counts ∙ sym (count-same ask list lists (no ∙ sym was.2));
+      unanswered = rw is ((λ same. cc same), was.1 ∙ sym (same-deadline ask list was.0), none);
+      counts = on.counts ∙ sym (count-same ask list lists (none ∙ sym was.2));
     }
 
 -- one that comes after the deadline makes a silence
@@ -81,11 +64,12 @@ too-late silence new [] ask time is late counts one on =
     absurd ((rw is at on.unanswered).0 refl)
 too-late silence new (list ∷ lists) ask time is late counts one on =
     let was = rw is at on.unanswered in
-    let yes : is_silence (ask ∷ list) ≡ true =
-    rw (more ask list was.0, ← was.1, lt-ltb time ask.at late) refl in
+    let longer = more ask list was.0 in
+    let silent : is_silence (ask ∷ list) ≡ true = grind (arith, nat_tests, was.1, was.2) in
+    let count = sum_by-cons (λ list. cond (is_silence list) 1 0) in
     let more : count_by is_silence (list ∷ lists) + 1 ≡ count_by is_silence ((ask ∷ list) ∷ lists) =
-    rw (count-list (ask ∷ list) lists, count-list list lists, was.2, yes) (omega arith) in
+    grind (arith, nat_tests, was.2, count list lists, count (ask ∷ list) lists) in
     record {
-      unanswered = rw counts (some-ask ask list, yes);
+      unanswered = rw counts ((λ same. cc same), silent);
       counts = rw (one, on.counts, more);
     }

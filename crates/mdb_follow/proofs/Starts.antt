@@ -1,10 +1,5 @@
 -- The entries after no act: one for each state in which a machine may start.
-use Rattle.mdb_follow.proofs.Words
-use Words.{◌≡◌, inl, inr, ℕ, ◌+◌, ◌<◌, ◌≤◌, ◌++◌, ◌∙◌, ap, arith, length, get_or, refl, sym, subst}
-use Words.{List, [], ◌∷◌, Contains, ints, All-push, Contains-append_left, Contains-push}
-use Words.{Contains-push_cases, SLOTS, by_slot, Machine, at_slot, Cell, Arrives, no_account, IsCell}
-use Words.{slot_account, Sums, no_sums, ArrivesAt, IsTable, AreBelow, IsCellWithin, IsRangeWithin}
-use Words.{IsTableWithin, cases_lt, no_range}
+use Rattle.mdb_follow.proofs.Words.{◌≡◌, inl, inr, ℕ, ◌+◌, ◌<◌, ◌≤◌, ◌++◌, ◌∙◌, ap, arith, length, get_or, refl, subst, List, [], ◌∷◌, Contains, ints, All-push, Contains-append_left, Contains-push, Contains-push_cases, SLOTS, by_slot, Machine, at_slot, Cell, Arrives, no_account, IsCell, slot_account, Sums, no_sums, ArrivesAt, IsTable, AreBelow, IsCellWithin, IsRangeWithin, IsTableWithin, cases_lt, no_range}
 use Rattle.std.proofs.Common.{length-append}
 use Rattle.mdb_follow.proofs.Ends.{account-none}
 
@@ -69,12 +64,8 @@ module _ {State : Type 0} (number : ℕ) (code_of : State → ℕ) (machine : Ma
             (nothing-within cell nothing);
         sound = λ at found has. elim (Contains-push_cases before entry (at, found) has) [
           | inl earlier ↦ old.sound at found earlier
-          | inr same ↦ record {
-            state = state;
-            is = is ∙ ap (λ (e : ℕ × Cell). e.0) same;
-            starts = starts;
-            same = sym (ap (λ (e : ℕ × Cell). e.1) same);
-          }
+          | inr same ↦ subst (λ (e : ℕ × Cell). IsStart e.0 e.1) same
+              (record { state = state; is = is; starts = starts; same = refl })
         ];
         whole = λ other other_starts less. elim (cases_lt (code_of other) code) [
           | inl earlier ↦ Contains-append_left before (entry ∷ []) (code_of other, cell)

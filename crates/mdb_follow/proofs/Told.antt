@@ -1,8 +1,5 @@
 -- What a report tells of a device is what the act list of its rows has of it.
-use Rattle.mdb_follow.proofs.Words
-use Words.{ap, refl, ◌∙◌, ◌≡◌, List, get_or, map, Event, Device, First, IsActList, Piece, acts_of}
-use Words.{Beginning, Scope, Report, DEVICES, Silences, device_place, IsReport, device_report}
-use Words.{device_report_of, device_facts_in, device_facts_of, asks_of, AllStandForAsks, silence_in}
+use Rattle.mdb_follow.proofs.Words.{ap, refl, ◌∙◌, ◌≡◌, List, get_or, map, Event, Device, First, IsActList, Piece, acts_of, Beginning, Scope, Report, DEVICES, Silences, device_place, IsReport, device_report, device_report_of, device_facts_in, device_facts_of, asks_of, AllStandForAsks, silence_in}
 use Rattle.mdb_msgs.specs.declared.command.Device.TheVariants.{Reader}
 use Rattle.mdb_follow.specs.declared.report.DeviceFacts.{DeviceFacts}
 use Rattle.mdb_follow.proofs.Following.{OneActList}

@@ -1,41 +1,22 @@
 -- The moves that two steps are.
-use Rattle.mdb_follow.proofs.Words
-use Words.{◌≡◌, ◌≢◌, ◌⊎◌, inl, inr, ℕ, ◌∙◌, sym, ap, subst, List, [], ◌∷◌, ◌++◌, Option, Some, None}
-use Words.{Contains, ◌↔◌, Contains-append_cases, Contains-append_left, Contains-append_right}
-use Words.{none-some, same_Some, Device, Act, Choice, Plain, Gains, CanStand, IsChosenStep, IsMove}
-use Words.{IsOtherMove, IsStep, plain_or_not, step_as, Cell, AreMoves, LeadTo, moves_of, with_moves}
+use Rattle.mdb_follow.proofs.Words.{arith, ◌≡◌, ◌≢◌, ◌⊎◌, inl, inr, ℕ, ◌∙◌, sym, subst, List, [], ◌∷◌, ◌++◌, Option, Some, None, Contains, ◌↔◌, Contains-append_cases, Contains-append_left, Contains-append_right, none-some, same_Some, Device, Act, Choice, Plain, Gains, CanStand, IsChosenStep, IsMove, IsOtherMove, IsStep, plain_or_not, step_as, Cell, AreMoves, LeadTo, moves_of, with_moves}
 use Rattle.mdb_follow.proofs.Listed.{contains-cases, contains-here, contains-none}
 
 move-is : (step : Option (ℕ × Gains)) (move : ℕ × Gains)
     → Contains (moves_of step) move ↔ (step ≡ Some move)
-move-is None move = (λ has. absurd (contains-none move has), λ is. absurd (none-some move is))
-move-is (Some one) move = (
-  λ has. elim (contains-cases one [] move has) [
-    | inl same ↦ ap Some same
-    | inr rest ↦ absurd (contains-none move rest)
-  ],
-  λ is. contains-here one [] move (same_Some one move is),
-)
+move-is None move = search (arith, contains-none, none-some)
+move-is (Some one) move = search (arith, contains-cases, contains-here, contains-none, same_Some)
 
 pub two-moves : (one other : Option (ℕ × Gains))
     → AreMoves (moves_of one ++ moves_of other) one other
-two-moves one other move = (
-  λ has. elim (Contains-append_cases (moves_of one) (moves_of other) move has) [
-    | inl first ↦ inl ((move-is one move).0 first)
-    | inr second ↦ inr ((move-is other move).0 second)
-  ],
-  λ either. elim either [
-    | inl is ↦ Contains-append_left (moves_of one) _ move ((move-is one move).1 is)
-    | inr is ↦ Contains-append_right _ (moves_of other) move ((move-is other move).1 is)
-  ],
-)
+two-moves one other move =
+    let one_is = move-is one move in
+    let other_is = move-is other move in
+    search (arith, Contains-append_cases, Contains-append_left, Contains-append_right)
 
 -- where both are one, it is
-pub same-moves : (step : Option (ℕ × Gains)) → AreMoves (moves_of step) step step
-same-moves step move = (
-  λ has. inl ((move-is step move).0 has),
-  λ either. (move-is step move).1 (elim either [ inl is ↦ is | inr is ↦ is ]),
-)
+same-moves : (step : Option (ℕ × Gains)) → AreMoves (moves_of step) step step
+same-moves step move = let is = move-is step move in search arith
 
 -- what a cell is led to by one step, where the other is none or the same
 pub lead-one : (cell : Cell) (one other : Option (ℕ × Gains)) (move : ℕ × Gains)

@@ -1,16 +1,9 @@
 -- Ways through one act more.
-use Rattle.mdb_follow.proofs.Words
-use Words.{arith, ◌<◌, ◌+◌, ◌^◌, length, take, ◌≡◌, ◌⊎◌, inl, inr, ℕ, refl, sym, ◌∙◌, ap, subst}
-use Words.{add-zero, List, [], ◌∷◌, Contains, slice_index_or, ◌↔◌, Act, Choice, Plain, Gains}
-use Words.{no_gains, IsMove, Machine, none_at, Cell, Arrives, joined_cell, IsCell, AccountSums}
-use Words.{Sums, added, ArrivesAnywhere, ArrivesAt, Bounds, IsTable, take_more, All-contains}
-use Words.{AllRest, IsKeyed, IsPlaced, RestsAt, joined_cells, IsTableWithin, Beginning, All-push}
+use Rattle.mdb_follow.proofs.Words.{AreApart, arith, ◌<◌, ◌+◌, ◌^◌, length, take, ◌≡◌, ◌⊎◌, inl, inr, ℕ, refl, sym, ◌∙◌, ap, subst, add-zero, List, [], ◌∷◌, Contains, slice_index_or, ◌↔◌, Act, Choice, Plain, Gains, no_gains, IsMove, Machine, none_at, Cell, Arrives, joined_cell, IsCell, AccountSums, Sums, added, ArrivesAnywhere, ArrivesAt, Bounds, IsTable, take_more, All-contains, AllRest, IsKeyed, IsPlaced, RestsAt, joined_cells, IsTableWithin, Beginning, All-push}
 use Rattle.std.proofs.Math.Path.{fun_ext}
 use Rattle.mdb_follow.proofs.Ends.{cell-joined, cell-same}
-use Rattle.mdb_follow.proofs.Led.{Led}
-use Rattle.mdb_follow.proofs.Listed.{bounds-same, contains-cases, contains-here, contains-none}
-use Rattle.mdb_follow.proofs.Listed.{contains-there}
-use Rattle.mdb_follow.proofs.Led.{from_entry}
+use Rattle.mdb_follow.proofs.Led.{Led, from_entry}
+use Rattle.mdb_follow.proofs.Listed.{AreFound, bounds-found, found-same, contains-cases, contains-here, contains-none, contains-there}
 
 -- no gains add nothing
 pub no-gains : (sums : Sums) → sums ≡ added sums no_gains
@@ -31,56 +24,59 @@ pub record LedSoFar {State : Type 0} (number : ℕ) (code_of : State → ℕ)
   pub placed : IsPlaced into places
   pub led : (begins : Beginning) (acts : List Act) → Known begins acts
       → IsTable code_of (machine begins) acts from
-      → Bounds (Led (ArrivesAt code_of (Arrives (machine begins) acts))
+      → AreFound (Led (ArrivesAt code_of (Arrives (machine begins) acts))
       (IsMove act code_of ((machine begins).Step acts act)) (take count from)) into
   pub within : (limit : ℕ) → IsTableWithin limit from → IsTableWithin (limit + 2 ^ 32) into
 
 module _ {State : Type 0} (code_of : State → ℕ) (machine : Machine State) where
+  arrives-at : (acts : List Act) (state : State) (sums : Sums) → Arrives machine acts state sums
+      → ArrivesAt code_of (Arrives machine acts) (code_of state) sums
+  arrives-at acts state sums way = record { state = state; is = refl; way = way }
+
   -- The steps from the entries of a table lead to what arrives after one act more.
   pub table-led : (act : Act) (acts : List Act) (from into : List (ℕ × Cell))
       → ((one other : State) → code_of one ≡ code_of other → one ≡ other)
-      → IsTable code_of machine acts from
-      → Bounds (Led (ArrivesAt code_of (Arrives machine acts))
+      → IsTable code_of machine acts from → AreApart into
+      → AreFound (Led (ArrivesAt code_of (Arrives machine acts))
       (IsMove act code_of (machine.Step acts act)) from) into
       → Bounds (ArrivesAt code_of (Arrives machine (act ∷ acts))) into
-  table-led act acts from into apart table led =
-      bounds-same _ _ into
-      (λ code sums l. elim l [
-        | from_entry entry listed gains move moved ↦
-            let step = move.2 in
-            record {
-              state = step.after;
-              is = step.ends;
-              way = record {
-                choice = move.0;
-                stands = move.1;
-                before = step.before;
-                sums_before = moved.before;
-                gains = gains;
-                way = rw (apart step.before moved.kind.state (step.starts ∙ sym moved.kind.is))
-                    moved.kind.way;
-                step = step.step;
-                adds = moved.adds;
-              };
-            }
-      ])
-      (λ code sums a.
-      let way = a.way in
-      let at : ArrivesAt code_of (Arrives machine acts) (code_of way.before) way.sums_before =
-      record { state = way.before; is = refl; way = way.way } in
-      let there = table.bounds.whole (code_of way.before) way.sums_before at in
-      from_entry (code_of way.before, there.0) there.1 way.gains (
-        way.choice,
-        way.stands,
-        record {
-          before = way.before;
-          after = a.state;
-          starts = refl;
-          ends = a.is;
-          step = way.step;
-        },
-      ) (record { before = way.sums_before; kind = at; adds = way.adds }))
-      led
+  table-led act acts from into apart table keyed led =
+      bounds-found _ into keyed (found-same _ _ into (λ code sums. (
+        λ l. elim l [
+          | from_entry entry listed gains move moved ↦
+              let step = move.2 in
+              record {
+                state = step.after;
+                is = step.ends;
+                way = record {
+                  choice = move.0;
+                  stands = move.1;
+                  before = step.before;
+                  sums_before = moved.before;
+                  gains = gains;
+                  way = rw (apart step.before moved.kind.state (step.starts ∙ sym moved.kind.is))
+                      moved.kind.way;
+                  step = step.step;
+                  adds = moved.adds;
+                };
+              }
+        ],
+        λ a.
+            let way = a.way in
+            let at = arrives-at acts way.before way.sums_before way.way in
+            let there = table.bounds.whole (code_of way.before) way.sums_before at in
+            from_entry (code_of way.before, there.0) there.1 way.gains (
+              way.choice,
+              way.stands,
+              record {
+                before = way.before;
+                after = a.state;
+                starts = refl;
+                ends = a.is;
+                step = way.step;
+              },
+            ) (record { before = way.sums_before; kind = at; adds = way.adds }),
+      )) led)
 
   -- An act that changes nothing wherever a way leads leaves what arrives.
   table-still : (act : Act) (acts : List Act) (entries : List (ℕ × Cell))
@@ -100,22 +96,26 @@ module _ {State : Type 0} (code_of : State → ℕ) (machine : Machine State) wh
         step = (steps state sums way Plain state no_gains).1 (refl, refl);
         adds = no-gains sums;
       } in
+      let back : (code : ℕ) (sums : Sums)
+      → ArrivesAt code_of (Arrives machine (act ∷ acts)) code sums
+      → ArrivesAt code_of (Arrives machine acts) code sums = λ code sums a.
+      let way = a.way in
+      let s = (steps way.before way.sums_before way.way way.choice a.state way.gains).0 way.step in
+      let same : sums ≡ way.sums_before = way.adds ∙ ap (added way.sums_before) s.1
+      ∙ sym (no-gains way.sums_before) in
+      record {
+        state = a.state;
+        is = a.is;
+        way = subst (λ sums. Arrives machine acts a.state sums) (sym same) (rw s.0 way.way);
+      } in
       record {
         some = (table.some.0, table.some.1, on table.some.0 table.some.1 table.some.2);
-        bounds = bounds-same _ _ entries
-            (λ code sums a. record { state = a.state; is = a.is; way = on a.state sums a.way })
-            (λ code sums a.
-            let way = a.way in
-            let s = (steps way.before way.sums_before way.way way.choice a.state way.gains).0
-            way.step in
-            record {
-              state = a.state;
-              is = a.is;
-              way = subst (λ sums. Arrives machine acts a.state sums)
-                  (sym (way.adds ∙ ap (added way.sums_before) s.1
-                  ∙ sym (no-gains way.sums_before))) (rw s.0 way.way);
-            })
-            table.bounds;
+        bounds = record {
+          exact = λ code cell has. cell-same _ _ cell
+              (λ sums a. record { state = a.state; is = a.is; way = on a.state sums a.way })
+              (back code) (table.bounds.exact code cell has);
+          whole = λ code sums a. table.bounds.whole code sums (back code sums a);
+        };
       }
 
   -- An act that is no matter of the pair is one.
@@ -132,8 +132,7 @@ module _ {State : Type 0} (code_of : State → ℕ) (machine : Machine State) wh
       → IsTable code_of machine acts entries → IsTable code_of machine (act ∷ acts) entries
   table-rests act acts entries rests table =
       table-still act acts entries (λ before sums way choice after gains.
-      let there = table.bounds.whole (code_of before) sums
-      (record { state = before; is = refl; way = way }) in
+      let there = table.bounds.whole (code_of before) sums (arrives-at acts before sums way) in
       All-contains (λ (entry : ℕ × Cell). RestsAt code_of machine act entry.0) entries
       (code_of before, there.0) rests there.1 acts choice before after gains refl)
       table
@@ -158,8 +157,7 @@ module _ {State : Type 0} (code_of : State → ℕ) (machine : Machine State) wh
       → (state : State) (sums : Sums) → Arrives machine acts state sums → ⊥
   nothing-arrives acts entries bounds none state sums way =
       let empty = rw none at bounds in
-      contains-none _ (empty.whole (code_of state) sums
-      (record { state = state; is = refl; way = way })).1
+      contains-none _ (empty.whole (code_of state) sums (arrives-at acts state sums way)).1
 
   -- Where there is an entry, something arrives.
   pub table-some : (acts : List Act) (entries : List (ℕ × Cell))
@@ -225,7 +223,7 @@ table-joined code_of machine acts (entry ∷ rest) result joins table =
       | inr s ↦ (let a = s.2 in record { state = a.state; way = a.way })
     ])
     (λ sums a.
-    let at : At (code_of a.state) sums = record { state = a.state; is = refl; way = a.way } in
+    let at = arrives-at code_of machine acts a.state sums a.way in
     let there = table.bounds.whole (code_of a.state) sums at in
     elim (contains-cases entry rest (code_of a.state, there.0) there.1) [
       | inl same ↦ inl (subst (λ (one : ℕ × Cell). At one.0 sums) (sym same) at)

@@ -65,6 +65,7 @@ pub fn the_base_profile_stands_alone()
 }
 
 /// A way of all devices is a way of each device.
+#[tactic(auto, using(crate::proofs::Joining::split))]
 pub fn ways_split()
     ensures { (begins : Beginning) (loss : Loss) (pieces : List Piece) (states : States)
         (sums : AllSums) → IsWay begins loss pieces states sums
@@ -82,6 +83,7 @@ pub fn ways_join()
 }
 
 /// A way of all devices is a way of each device, with the same choice for each act.
+#[tactic(auto, using(crate::proofs::Joining::split_with_choices))]
 pub fn ways_split_with_choices()
     ensures { (begins : Beginning) (loss : Loss) (pieces : List Piece) (states : States)
         (sums : AllSums) (way : IsWay begins loss pieces states sums)
@@ -104,6 +106,7 @@ pub fn ways_with_choices_join()
 
 /// Only the loss of an ACK, a device's or the controller's, can change a state or a sum. If the
 /// same ACKs were heard, the same ways lead through the pieces, no matter what else was lost.
+#[tactic(auto, using(crate::proofs::Joining::ways_alike))]
 pub fn only_the_loss_of_an_ack_matters()
     ensures { (begins : Beginning) (one other : Loss) (pieces : List Piece)
         → HearSameAcks one other pieces → (states : States) (sums : AllSums)

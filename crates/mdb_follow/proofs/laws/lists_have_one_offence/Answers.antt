@@ -1,4 +1,4 @@
-use Rattle.mdb_follow.proofs.Slices.{one-of-rows}
+use Rattle.mdb_follow.proofs.Cuts.{one-of-rows}
 use Rattle.mdb_follow.proofs.laws.lists_have_one_offence.Goals as goal
 
 pub returns : goal.returns

@@ -1,4 +1,4 @@
-use Rattle.std.proofs.Common.{ap}
+use Rattle.mdb_follow.proofs.Words.{ap}
 use Rattle.mdb_follow.proofs.Told.{device-told}
 use Rattle.mdb_follow.proofs.laws.reports_name_the_decimals_and_silences_of_devices.Goals as goal
 

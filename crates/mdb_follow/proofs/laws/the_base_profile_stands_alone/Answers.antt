@@ -1,4 +1,4 @@
-use Rattle.mdb_follow.specs.Senders.{sender_of}
+use Rattle.mdb_follow.proofs.Words.{sender_of}
 use Rattle.mdb_follow.proofs.laws.the_base_profile_stands_alone.Goals as goal
 
 pub returns-clause-acts : goal.returns-clause-acts

@@ -1,5 +1,5 @@
 -- Whether all entries rest: those that the loop has come past.
-use Rattle.std.proofs.lemmas.List.{take_all}
+use Rattle.mdb_follow.proofs.Words.{take_all}
 use Rattle.mdb_follow.proofs.Ways.{rests-more}
 use Rattle.mdb_follow.proofs.table.all_rest.Goals as goal
 

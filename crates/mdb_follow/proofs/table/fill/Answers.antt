@@ -1,6 +1,5 @@
 -- The entries after an act that the facts settle: the loop reads those before it one by one.
-use Rattle.mdb_follow.proofs.Words.{rules, ◌<◌, refl, take_all, Contains-get_or, IsSmall}
-use Rattle.mdb_follow.proofs.Words.{small_moves}
+use Rattle.mdb_follow.proofs.Words.{rules, ◌<◌, refl, take_all, Contains-get_or, IsSmall, small_moves}
 use Rattle.mdb_follow.proofs.Led.{led-read, moves-kept, within-with_moves}
 use Rattle.mdb_follow.proofs.TwoSteps.{either-moves}
 use Rattle.mdb_follow.proofs.Ways.{table-led}
@@ -35,8 +34,7 @@ loop-code-preserved g c =
           p.device c.step-plain.result c.second_step-second.result moves.0
           (c.step-plain.ensures.steps begins acts stands)
           (c.second_step-second.ensures.sound begins acts stands)
-          (c.second_step-second.ensures.whole begins acts stands) moves.1)
-          c.loop-code.invariant.keyed.apart moves.2
+          (c.second_step-second.ensures.whole begins acts stands) moves.1) moves.2
           (c.loop-code.invariant.led begins acts stands table);
       within = λ limit all. rw moves.2 (within-with_moves limit c.loop-code.into _ moves.0 kept.1
           (all c.loop-code.code-index _ c.loop-code-test.true)
@@ -47,6 +45,6 @@ pub returns-clause-table : goal.returns-clause-table
 returns-clause-table g c begins acts stands table =
     let p = g.P.Pair in
     table-led p.code_of (p.machine begins) c.args.act.now acts c.args.from.now c.loop-code.into
-    g.met.P.Pair.apart table
+    g.met.P.Pair.apart table c.loop-code.invariant.keyed.apart
     (rw (take_all c.loop-code.code-index c.args.from.now c.loop-code-test.false) at
     (c.loop-code.invariant.led begins acts stands table))

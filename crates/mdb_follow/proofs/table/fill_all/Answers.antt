@@ -15,7 +15,7 @@ loop-code-preserved g c =
           c.loop-code.into c.add_all_steps.new.into c.loop-code-test.true
           (table.bounds.exact _ _ (Contains-get_or c.args.from.now c.loop-code.code-index _
           c.loop-code-test.true))
-          (all.are begins acts stands) c.loop-code.invariant.keyed.apart all.led
+          (all.are begins acts stands) all.led
           (c.loop-code.invariant.led begins acts stands table);
       within = λ limit each. rw all.led (within-with_moves limit c.loop-code.into _ all.moves
           all.small (each c.loop-code.code-index _ c.loop-code-test.true)
@@ -26,6 +26,6 @@ pub returns-clause-table : goal.returns-clause-table
 returns-clause-table g c begins acts stands table =
     let p = g.P.Pair in
     table-led p.code_of (p.machine begins) c.args.act.now acts c.args.from.now c.loop-code.into
-    g.met.P.Pair.apart table
+    g.met.P.Pair.apart table c.loop-code.invariant.keyed.apart
     (rw (take_all c.loop-code.code-index c.args.from.now c.loop-code-test.false) at
     (c.loop-code.invariant.led begins acts stands table))

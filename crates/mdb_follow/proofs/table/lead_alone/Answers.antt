@@ -1,11 +1,6 @@
 -- A table of one entry after an act: what the two steps from it lead to.
-use Rattle.mdb_follow.proofs.Words.{true, false, ◌≡◌, ◌+◌, ◌∷◌, ◌^◌, ◌∙◌, [], ap, arith, get_or, ℕ}
-use Rattle.mdb_follow.proofs.Words.{List, refl, All-head, Sums, Act, Beginning, Cell, Arrives}
-use Rattle.mdb_follow.proofs.Words.{AreBelow, LeadTo, IsCellWithin, IsTableWithin, ArrivesAt}
-use Rattle.mdb_follow.proofs.Words.{Bounds, IsTable}
-use Rattle.std.proofs.lemmas.Bool.{OnFalse_at, OnFalse_from, OnTrue_at, OnTrue_from}
-use Rattle.mdb_follow.proofs.Alone.{alone-below, alone-either, alone-led, alone-within, lead-none}
-use Rattle.mdb_follow.proofs.Alone.{only-is, some-entry}
+use Rattle.mdb_follow.proofs.Words.{true, false, Sums, ◌≡◌, ◌+◌, ◌∷◌, ◌^◌, ◌∙◌, [], ap, arith, get_or, ℕ, List, refl, All-head, Act, Beginning, Cell, Arrives, AreBelow, LeadTo, IsCellWithin, IsTableWithin, ArrivesAt, Bounds, IsTable, OnFalse_at, OnFalse_from, OnTrue_at, OnTrue_from}
+use Rattle.mdb_follow.proofs.Alone.{alone-below, alone-either, alone-led, alone-within, lead-none, only-is, some-entry}
 use Rattle.mdb_follow.proofs.Limits.{table-within-weaker}
 use Rattle.mdb_follow.proofs.Ways.{nothing-arrives, table-some}
 use Rattle.mdb_follow.proofs.table.lead_alone.Given as given

@@ -1,5 +1,5 @@
 -- The step by the other choice of an act, where it heeds what is chosen.
-use Rattle.std.proofs.Common.{inr}
+use Rattle.mdb_follow.proofs.Words.{inr}
 use Rattle.mdb_follow.proofs.TwoSteps.{other-or-plain, unheeded}
 use Rattle.mdb_follow.proofs.table.second_step.Goals as goal
 

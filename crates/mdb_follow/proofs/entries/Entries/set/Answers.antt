@@ -1,6 +1,4 @@
-use Rattle.mdb_follow.proofs.Words.{◌≡◌, ◌<◌, ◌≤◌, ◌∙◌, ℕ, List, ap, arith, length, take, slice_set}
-use Rattle.std.proofs.lemmas.List.{length-take-le}
-use Rattle.std.proofs.Math.Seq.{take-set-lt}
+use Rattle.mdb_follow.proofs.Words.{◌≡◌, ◌<◌, ◌≤◌, ◌∙◌, ℕ, List, ap, arith, length, take, slice_set, length-take-le, take-set-lt}
 use Rattle.mdb_follow.proofs.entries.Entries.set.Goals as goal
 
 -- an element of a list's front is written

@@ -1,9 +1,8 @@
 -- The entries that two steps from the only one lead to.
-use Rattle.std.proofs.Common.{rules, inl, inr, Some, None, [], ◌∷◌}
+use Rattle.mdb_follow.proofs.Words.{rules, inl, inr, Some, None, [], ◌∷◌}
 use Rattle.mdb_follow.proofs.TwoSteps.{lead-one, two-moves}
 use Rattle.mdb_follow.proofs.entries.steps.lead_only.Goals as goal
-use Rattle.mdb_follow.proofs.entries.steps.lead_only.Goals.{in_default-via-in-Some-other-2+else-ne}
-use Rattle.mdb_follow.proofs.entries.steps.lead_only.Goals.{in_default-via-in_default}
+use Rattle.mdb_follow.proofs.entries.steps.lead_only.Goals.{in_default-via-in-Some-other-2+else-ne, in_default-via-in_default}
 
 pub returns-in-Some-other-clause-led : goal.returns-in-Some-other-clause-led
 returns-in-Some-other-clause-led g c entry is =

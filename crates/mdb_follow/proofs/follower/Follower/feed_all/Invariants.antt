@@ -1,4 +1,4 @@
-use Rattle.std.proofs.Common.{take}
+use Rattle.mdb_follow.proofs.Words.{take}
 use Rattle.mdb_follow.proofs.Following.{HasFed}
 use Rattle.mdb_follow.proofs.follower.Follower.feed_all.Given as goal
 

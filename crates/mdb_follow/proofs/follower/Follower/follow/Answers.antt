@@ -1,7 +1,7 @@
 -- Sides that follow an act stay within the limit of the rows, and stand for acts.
 use Rattle.mdb_follow.proofs.Words.{arith, ◌*◌, ◌^◌, AreStanding, AreWithin}
 use Rattle.mdb_follow.proofs.Sided.{by-stay}
-use Rattle.mdb_follow.proofs.Within.{sides-within-next, sides-within-weaker, standing-next}
+use Rattle.mdb_follow.proofs.Limits.{sides-within-next, sides-within-weaker, standing-next}
 use Rattle.mdb_follow.proofs.follower.Follower.follow.Goals as goal
 
 pub lead-requires : goal.lead-requires

@@ -1,22 +1,32 @@
 -- The report on the rows that were accepted is exact, and within their limit.
-use Rattle.mdb_follow.proofs.Words.{ap, arith, ◌∙◌, ◌≡◌, ◌*◌, ◌^◌, ℕ, Device, acts_of, cell_in}
-use Rattle.mdb_follow.proofs.Words.{device_report, device_facts_in, silence_in}
+use Rattle.mdb_follow.proofs.Words.{account_by, Run, ap, arith, ◌∙◌, ◌≡◌, ◌*◌, ◌^◌, ℕ, Device, acts_of, cell_in, device_report, device_facts_in, silence_in}
 use Rattle.mdb_follow.specs.declared.report.DeviceReport.{DeviceReport}
 use Rattle.mdb_follow.specs.Follower.{scope_of}
-use Rattle.mdb_follow.proofs.Following.{accepted, accounts-within, few-times, reported}
+use Rattle.mdb_follow.proofs.Following.{accepted, accepted-reached, accounts-of-cells, accounts-within, cell-of-runs, device-is, few-times, some-ways}
 use Rattle.mdb_follow.proofs.Kept.{at-most-weaker}
 use Rattle.mdb_follow.proofs.Told.{listed}
 use Rattle.mdb_follow.proofs.follower.Follower.report_before.Goals as goal
 
 pub returns-clause-before : goal.returns-clause-before
 returns-clause-before c events has =
-    let scope = scope_of c.args.self.now in
-    reported c.transcripts_have_one_act_list.ensures c.ways_join.ensures c.args.self.now events
-    c.of.result (cell_in c.cells-cells.result) has
-    (c.cells-cells.ensures.exact scope.begins (acts_of has.pieces) has.sides)
-    (c.of.ensures.telling scope has.pieces
-    (c.facts-facts.ensures.facts scope.begins (acts_of has.pieces) has.sides)
-    has.silences has.untimely)
+    let follower = c.args.self.now in
+    let scope = scope_of follower in
+    let acts = acts_of has.pieces in
+    let joins = c.ways_join.ensures in
+    let cells = cell_in c.cells-cells.result in
+    record {
+      reached = accepted-reached joins follower events has;
+      pieces = has.pieces;
+      act_list = has.act_list;
+      accounts = account_by cells;
+      of_runs = accounts-of-cells (Run scope events) cells (λ device.
+          cell-of-runs (Run scope events) _ _ (device-is scope
+          (c.transcripts_have_one_act_list.ensures scope) events has.pieces has.act_list
+          (joins scope) (some-ways follower events has) device) (cells device)
+          (c.cells-cells.ensures.exact scope.begins acts has.sides device));
+      telling = rw has.rows at (c.of.ensures.telling scope has.pieces
+          (c.facts-facts.ensures.facts scope.begins acts has.sides) has.silences has.untimely);
+    }
 
 pub returns-clause-going : goal.returns-clause-going
 returns-clause-going c events on =

@@ -1,4 +1,4 @@
-use Rattle.std.proofs.Common.{[]}
+use Rattle.mdb_follow.proofs.Words.{[]}
 use Rattle.mdb_follow.proofs.follower.Follower.scoped.Goals as goal
 
 pub invariant_of-result-clause-standing : goal.invariant_of-result-clause-standing

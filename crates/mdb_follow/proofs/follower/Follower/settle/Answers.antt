@@ -1,10 +1,8 @@
 -- What a row of the bus makes of a follower: it is counted, and the act that it ends followed.
-use Rattle.mdb_follow.proofs.Words.{List, ◌∷◌, [], ◌+◌, ◌*◌, ◌^◌, None, Some, ap, arith, refl, ◌∙◌}
-use Rattle.mdb_follow.proofs.Words.{counted_with, HasRefused, Event}
+use Rattle.mdb_follow.proofs.Words.{List, ◌∷◌, [], ◌+◌, ◌*◌, ◌^◌, None, Some, ap, arith, refl, ◌∙◌, counted_with, HasRefused, Event}
 use Rattle.mdb_follow.specs.Follower.{StandsFor, scope_of}
-use Rattle.mdb_follow.proofs.Within.{sides-within-weaker}
-use Rattle.mdb_follow.proofs.Following.{accepted-still, ended-by, is-some-weaker, machine-offence}
-use Rattle.mdb_follow.proofs.Following.{none-beyond, none-late, stands-on, stands-still, taken-by, times-on}
+use Rattle.mdb_follow.proofs.Limits.{sides-within-weaker}
+use Rattle.mdb_follow.proofs.Following.{accepted-still, ended-by, is-some-weaker, machine-offence, none-beyond, none-late, stands-on, stands-still, taken-by, times-on}
 use Rattle.mdb_follow.proofs.follower.Follower.settle.Goals as goal
 
 pub invariant_of-self-clause-within : goal.invariant_of-self-clause-within
@@ -42,26 +40,15 @@ returns-then-follow-clause-settled c before fed =
       taken = taken-by c.ways_join.ensures c.sales_follow_their_approvals.ensures before _
           (row ∷ []) (c.follow.ensures.scope ∙ fed.scope)
           (omega (arith, followed.rows, fed.like.3)) (λ events on.
-          let stands = stands-on before self c.follow.new.self events row self.act on
-          (goes events on) fed.scope fed.like followed
-          c.note_untimely-then-follow.new.counts c.self-then-follow-1.given.1.1.1.1.0
+          stands-on before self c.follow.new.self events row self.act on
+          (goes events on) fed.scope fed.like followed _ (refl, refl, refl, refl, refl)
           (times-on (scope_of before) (scope_of c.follow.new.self) on.pieces row self.bus
           (Some self.act) (goes events on) self.untimely
           c.note_untimely-then-follow.new.counts c.args.sender fed.scope
           (c.follow.ensures.scope ∙ fed.scope) (fed.like.2 ∙ on.untimely)
           (fed.sender on.pieces on.on_bus)
           (c.note_untimely-then-follow.ensures
-          ∙ ap (counted_with c.args.sender) followed.untimely)) in
-          record {
-            pieces = stands.pieces;
-            on_bus = stands.on_bus;
-            whole = stands.whole;
-            rows = stands.rows;
-            going = stands.going;
-            sides = stands.sides;
-            silences = stands.silences;
-            untimely = stands.untimely;
-          });
+          ∙ ap (counted_with c.args.sender) followed.untimely)));
       act = λ events on. rw c.follow.ensures.act (ended-by self.bus (scope_of before) events row
           on.pieces (Some self.act) on.on_bus.in_order on.whole (goes events on) fed.scope);
       refused = tt;

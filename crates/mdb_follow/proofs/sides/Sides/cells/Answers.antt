@@ -1,6 +1,6 @@
 -- The cell of each device has the ranges of its side.
+use Rattle.mdb_follow.proofs.Words.{First, Second}
 use Rattle.mdb_msgs.specs.declared.command.Device.TheVariants as devices
-use Rattle.mdb_msgs.specs.declared.command.ReaderUnit.TheVariants.{First, Second}
 use Rattle.mdb_follow.proofs.ByDevice.{each}
 use Rattle.mdb_follow.proofs.sides.Sides.cells.Goals as goal
 

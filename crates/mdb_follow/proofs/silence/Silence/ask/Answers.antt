@@ -1,4 +1,4 @@
-use Rattle.std.proofs.Common.{refl}
+use Rattle.mdb_follow.proofs.Words.{refl}
 use Rattle.mdb_follow.proofs.Silent.{counted-more, in-time, too-late}
 use Rattle.mdb_follow.proofs.silence.Silence.ask.Goals as goal
 

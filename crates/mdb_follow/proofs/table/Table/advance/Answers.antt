@@ -1,4 +1,4 @@
-use Rattle.std.proofs.Common.{◌+◌, ◌^◌, arith}
+use Rattle.mdb_follow.proofs.Words.{◌+◌, ◌^◌, arith}
 use Rattle.mdb_follow.proofs.Limits.{table-within-weaker}
 use Rattle.mdb_follow.proofs.Ways.{table-rests, table-same}
 use Rattle.mdb_follow.proofs.table.Table.advance.Goals as goal

@@ -1,5 +1,5 @@
 -- What the sums may be: the join of the entries of the list that is seen.
-use Rattle.std.proofs.Common.{◌∙◌}
+use Rattle.mdb_follow.proofs.Words.{◌∙◌}
 use Rattle.mdb_follow.proofs.Ways.{table-joined}
 use Rattle.mdb_follow.proofs.table.Table.ranges.Goals as goal
 

@@ -1,5 +1,5 @@
 -- The table after an act: one list is read and the other is written.
-use Rattle.std.proofs.Common.{◌+◌, ◌^◌, ◌∷◌, ◌∙◌, arith}
+use Rattle.mdb_follow.proofs.Words.{◌+◌, ◌^◌, ◌∷◌, ◌∙◌, arith}
 use Rattle.mdb_follow.proofs.Limits.{table-within-weaker}
 use Rattle.mdb_follow.proofs.Listed.{nil-told, some-told}
 use Rattle.mdb_follow.proofs.Ways.{nothing-arrives, table-some}
