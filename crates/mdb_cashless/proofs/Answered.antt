@@ -1,12 +1,7 @@
 -- What a reply of a reader tells, for the function that reads it.
-use Rattle.mdb_cashless.proofs.Words.{◌≡◌, ◌∙◌, ℕ, Bool, List, Option, Some, refl, sym}
-use Rattle.mdb_cashless.proofs.Words.{ReaderCommand, Reply, Choice, Gains, Part, device_gains}
-use Rattle.mdb_cashless.proofs.Words.{in_slots, held, IsSummary, IsOnlyStep, or_else, DeviceState}
-use Rattle.mdb_cashless.proofs.Words.{ReaderActivity, ReaderState, Ended, Transaction, all_told}
-use Rattle.mdb_cashless.proofs.Words.{config_in, last_said, messages_of, parts_of, amounts}
-use Rattle.mdb_machine.specs.Kept.{HasNews, holds_after}
+use Rattle.mdb_cashless.proofs.Words.{◌≡◌, ◌∙◌, ℕ, Bool, List, Option, Some, refl, sym, ReaderCommand, Reply, Choice, Gains, Part, device_gains, in_slots, held, IsSummary, IsOnlyStep, or_else, DeviceState, ReaderActivity, ReaderState, Ended, Transaction, all_told, config_in, last_said, messages_of, parts_of, amounts, HasNews, holds_after, all_approved, is_poll, last_transaction, owes_reset, sold_any, take_any}
 use Rattle.mdb_msgs.specs.declared.setups.ReaderConfig.{ReaderConfig}
-use Rattle.mdb_cashless.specs.Reader.{ReplyStep, all_approved, before_messages, is_poll, last_transaction, owes_reset, read, sold_any, take_any, taken}
+use Rattle.mdb_cashless.specs.Reader.{ReplyStep, before_messages, read, taken}
 use Rattle.mdb_cashless.specs.ReaderFacts.{Facts}
 use Rattle.mdb_cashless.proofs.Steps.{same_state}
 

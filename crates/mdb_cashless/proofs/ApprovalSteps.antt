@@ -1,21 +1,14 @@
 -- Which acts and choices change nothing, of a reader that follows approvals.
-use Rattle.mdb_cashless.proofs.Words
-use Words.{arith, ◌≡◌, ◌↔◌, ◌∙◌, ◌&&◌, ◌∷◌, ℕ, Bool, true, false, List, [], if◌then◌else◌, refl, ap}
-use Words.{sym, ReaderCommand, Reply, and_parts, Command, Choice, Plain, Lost, Restart, Again}
-use Words.{Gains, CanStand, Stays, controller_gains, in_slots, MayBeRead, tells_out_of_sequence}
-use Words.{ApprovalState, approvals_in, messages_of, parts_of, either_parts, told_again}
-use Rattle.mdb_msgs.specs.declared.command.ReaderCommand.TheVariants as reader
-use Rattle.mdb_bus.specs.declared.act.Act.TheVariants as acts
+use Rattle.mdb_cashless.proofs.Words.{arith, ◌≡◌, ◌↔◌, ◌∙◌, ◌&&◌, ◌∷◌, ℕ, Bool, true, false, List, [], if◌then◌else◌, refl, ap, sym, ReaderCommand, Reply, and_parts, Command, Choice, Plain, Lost, Restart, Again, Gains, CanStand, Stays, controller_gains, in_slots, MayBeRead, tells_out_of_sequence, ApprovalState, approvals_in, messages_of, parts_of, either_parts, told_again, effect, changes, takes, Act}
 use Rattle.std.specs.Cmp.Derive.{both_true}
 use Rattle.mdb_cashless.specs.ExtendedFacts.{Facts}
-use Rattle.mdb_cashless.specs.ExtendedReader.{AckStep, AskStep, ReplyStep, VmcAckStep, before_messages, effect, heard}
-use Rattle.mdb_cashless.specs.inner.Approvals.{changes, takes}
+use Rattle.mdb_cashless.specs.ExtendedReader.{AckStep, AskStep, ReplyStep, VmcAckStep, before_messages, heard}
 
 -- commands that change nothing once they are asked, or acknowledged
 pub ask_stays : (facts : Facts) (its : ReaderCommand) (before after : ApprovalState) (gains : Gains)
     → changes its ≡ false → AskStep facts its before after gains ↔ Stays before after gains
-ask_stays facts (reader.VendRequest price item) before after gains never = absurd cc
-ask_stays facts (reader.VendSuccess item) before after gains never = absurd cc
+ask_stays facts (ReaderCommand.VendRequest price item) before after gains never = absurd cc
+ask_stays facts (ReaderCommand.VendSuccess item) before after gains never = absurd cc
 ask_stays facts its before after gains never = (
   λ step. (step.2, step.3 ∙ ap (λ n. controller_gains (in_slots (0 ∷ n ∷ []))) step.1),
   λ stays. (0, refl, stays.0, stays.1),
@@ -23,9 +16,9 @@ ask_stays facts its before after gains never = (
 
 pub ack_stays : (facts : Facts) (its : ReaderCommand) (before after : ApprovalState) (gains : Gains)
     → takes its ≡ false → AckStep facts its before after gains ↔ Stays before after gains
-ack_stays facts reader.Poll before after gains never = absurd cc
-ack_stays facts reader.Reset before after gains never = absurd cc
-ack_stays facts (reader.VendSuccess item) before after gains never = absurd cc
+ack_stays facts ReaderCommand.Poll before after gains never = absurd cc
+ack_stays facts ReaderCommand.Reset before after gains never = absurd cc
+ack_stays facts (ReaderCommand.VendSuccess item) before after gains never = absurd cc
 ack_stays facts its before after gains never = (λ step. step, λ stays. stays)
 
 -- where nothing may be told again, ACK to POLL changes nothing, and it is irrelevant whether the
@@ -35,7 +28,7 @@ free before is = ap (λ b. record before { again = b }) (sym is)
 
 pub poll_stays : (facts : Facts) (before after : ApprovalState) (gains : Gains)
     → before.again ≡ false
-    → AckStep facts reader.Poll before after gains ↔ Stays before after gains
+    → AckStep facts ReaderCommand.Poll before after gains ↔ Stays before after gains
 poll_stays facts before after gains is = (
   λ step. (step.0 ∙ free before is, step.1),
   λ stays. (stays.0 ∙ sym (free before is), stays.1),
@@ -59,13 +52,13 @@ kept : (out : Bool) (its : ReaderCommand) (before : ApprovalState)
     → let middle = (if out then before else effect its before) in
     (middle.asked && middle.again) ≡ true → (before.asked && before.again) ≡ true
 kept true its before is = is
-kept false reader.Reset before is = absurd cc
+kept false ReaderCommand.Reset before is = absurd cc
 kept false its before is = is
 
 pub reply_unheeded : (facts : Facts) (its : ReaderCommand) (command : Command) (reply : Reply)
     (choice : Choice) (before after : ApprovalState) (gains : Gains)
     → (MayBeRead Restart (parts_of reply) → ⊥) → (before.asked && before.again) ≡ false
-    → CanStand (acts.Reply command reply) choice
+    → CanStand (Act.Reply command reply) choice
     → ReplyStep facts its reply choice before after gains
     → ReplyStep facts its reply Plain before after gains
 reply_unheeded facts its command reply Plain before after gains never one stands step = step

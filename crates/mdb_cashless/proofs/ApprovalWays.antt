@@ -1,22 +1,13 @@
 -- The steps of a reader that follows approvals where an act isn't settled: they are those of three
 -- guesses at what isn't known.
-use Rattle.mdb_cashless.proofs.Words
-use Words.{common_steps, ◌≡◌, ◌≢◌, ◌↔◌, ◌⊎◌, ◌∙◌, ◌∷◌, ◌++◌, ◌||◌, ◌&&◌, ◌-◌, not, ℕ, Bool, true}
-use Words.{false, List, [], Option, Some, None, refl, ap, sym, inl, inr, length, drop, arith}
-use Words.{if◌then◌else◌, is_none, or-true, take-append_seam, and_parts, eqb-true, Decides-eqb}
-use Words.{ReaderCommand, ReaderUnit, Reply, Act, Choice, Again, Gains, Is, Known, Allows, if_known}
-use Words.{ForOwn, Sale, Unawaited, Awaited, ApprovalState, approvals_in, IsEarlier, MaySell}
-use Words.{messages_of, own, either_parts, told_again}
+use Rattle.mdb_cashless.proofs.Words.{common_steps, ◌≡◌, ◌≢◌, ◌↔◌, ◌⊎◌, ◌∙◌, ◌∷◌, ◌++◌, ◌||◌, ◌&&◌, ◌-◌, not, ℕ, Bool, true, false, List, [], Option, Some, None, refl, ap, sym, inl, inr, length, drop, arith, if◌then◌else◌, is_none, or-true, take-append_seam, and_parts, eqb-true, Decides-eqb, ReaderCommand, ReaderUnit, Reply, Act, Choice, Again, Gains, Is, Known, Allows, if_known, ForOwn, Sale, Unawaited, Awaited, ApprovalState, approvals_in, IsEarlier, MaySell, messages_of, own, either_parts, told_again, append-nil, Nothing, Sold, IsSale, approve, may_be_again, may_be_either, news, assuming, front_of, guess, is_awaiting_known, is_sale_known, is_success, sold_again, told_by}
 use Rattle.std.proofs.Common.{length-append}
-use Rattle.std.proofs.lemmas.List.{append-nil}
 use Rattle.std.proofs.lemmas.Slice.Eq.{starts_is}
-use Rattle.mdb_msgs.specs.declared.command.ReaderCommand.TheVariants as reader
-use Rattle.mdb_bus.specs.declared.act.Act.TheVariants as acts
 use Rattle.mdb_cashless.specs.declared.approvals.facts.ApprovalFacts.{ApprovalFacts}
-use Rattle.mdb_cashless.specs.declared.approvals.sale.Sale.TheVariants.{Unknown, Nothing, Sold}
+use Rattle.mdb_cashless.specs.declared.approvals.sale.Sale.TheVariants.{Unknown}
 use Rattle.mdb_cashless.specs.ExtendedFacts.{Facts}
-use Rattle.mdb_cashless.specs.ExtendedReader.{AskStep, IsSale, ReaderStep, ReplyStep, VmcAckStep, approve, before_messages, may_be_again, may_be_either, news, read}
-use Rattle.mdb_cashless.specs.inner.Approvals.{assuming, facts_in, front_of, guess, is_awaiting_known, is_sale_known, is_success, settled, sold_again, told_by}
+use Rattle.mdb_cashless.specs.ExtendedReader.{AskStep, ReaderStep, ReplyStep, VmcAckStep, before_messages, read}
+use Rattle.mdb_cashless.specs.inner.Approvals.{facts_in, settled}
 
 -- what may be told again: nothing, all of a reply's messages 05, or all but the last
 all_new : (choice : Choice) (before : ApprovalState) (told : List ℕ) → choice ≢ Again
@@ -99,7 +90,7 @@ module _ (unit : ReaderUnit) (facts : ApprovalFacts) (choice : Choice)
       → ForOwn found (AskStep known) before after gains
       ↔ Three (λ sale last. ForOwn found (AskStep (assuming sale last known)) before after gains)
       (sold_again found) []
-  asks (Some (reader.VendSuccess item)) unsettled = (
+  asks (Some (ReaderCommand.VendSuccess item)) unsettled = (
     λ step. elim ((vague item step.0 facts.sale unsettled).0 step.1) [
       | inl none ↦ inr (step.0, inl (refl, none), step.2, step.3)
       | inr is ↦ inl (inl (step.0, is, step.2, step.3))
@@ -109,8 +100,9 @@ module _ (unit : ReaderUnit) (facts : ApprovalFacts) (choice : Choice)
         sold sold,
   )
     where
-      sold : AskStep (assuming (Sold item) [] known) (reader.VendSuccess item) before after gains
-          → AskStep known (reader.VendSuccess item) before after gains
+      sold : AskStep (assuming (Sold item) [] known) (ReaderCommand.VendSuccess item) before after
+          gains
+          → AskStep known (ReaderCommand.VendSuccess item) before after gains
       sold step = (
         step.0,
         (vague item step.0 facts.sale unsettled).1 (elim step.1 [
@@ -204,9 +196,9 @@ module _ (unit : ReaderUnit) (facts : ApprovalFacts) (choice : Choice)
       ↔ Three (λ sale last. ReaderStep unit (assuming sale last known) act choice before after
       gains)
       (guess unit act) (told_by act)
-  ways (acts.Ask command) unsettled = asks (own unit command) unsettled
-  ways (acts.Reply command reply) unsettled = replies reply (own unit command) unsettled
-  ways (acts.VmcAck command reply) unsettled = acks reply (own unit command) unsettled
+  ways (Act.Ask command) unsettled = asks (own unit command) unsettled
+  ways (Act.Reply command reply) unsettled = replies reply (own unit command) unsettled
+  ways (Act.VmcAck command reply) unsettled = acks reply (own unit command) unsettled
   ways act unsettled = absurd cc
 
   pub ways_of : (act : Act) (none front whole : Facts) → none ≡ assuming Nothing [] known

@@ -1,27 +1,12 @@
 -- By the extended profile a sale may be told exactly where it is approved: what an act makes of the
 -- sale under way, and so what the acts make of it.
-use Rattle.mdb_cashless.proofs.Words
-use Words.{arith, zero, suc, ◌≡◌, ◌≢◌, ◌⊎◌, ◌∙◌, ◌∷◌, ◌++◌, ◌||◌, ◌&&◌, ◌==◌, not, ℕ, Bool, true}
-use Words.{false, List, [], Some, None, Option, All, refl, ap, sym, subst, inl, inr, list_any}
-use Words.{option_map_or, and_parts, eq-eqb, eqb-true, or_cases, common_steps, eqb_tells, All-head}
-use Words.{All-tail, Command, ReaderCommand, ReaderUnit, Reply, ReaderMsg, Act, Beginning, PowerOn}
-use Words.{Joined, is_approval, Sale, Unawaited, Awaited, Transaction, Cancel, Success, facts_after}
-use Words.{sale_all_heard, IsEarlier, MaySell, messages_of, is_same, own, known_or_earlier}
+use Rattle.mdb_cashless.proofs.Words.{arith, zero, suc, ◌≡◌, ◌≢◌, ◌⊎◌, ◌∙◌, ◌∷◌, ◌++◌, ◌||◌, ◌&&◌, ◌==◌, not, ℕ, Bool, true, false, List, [], Some, None, Option, All, refl, ap, sym, subst, inl, inr, list_any, option_map_or, and_parts, eq-eqb, eqb-true, or_cases, common_steps, eqb_tells, All-head, All-tail, Command, ReaderCommand, ReaderUnit, Reply, ReaderMsg, Act, Beginning, PowerOn, Joined, is_approval, Sale, Unawaited, Awaited, Transaction, Cancel, Success, facts_after, sale_all_heard, IsEarlier, MaySell, messages_of, is_same, own, known_or_earlier, Any-from_list_any, Sold, sale_asked, sale_heard, own_messages, own_transaction, LeavesSale, MayBeRequestedBefore, is_request, is_sale_known}
 use Rattle.std.proofs.Common.{Contains}
-use Rattle.std.proofs.lemmas.List.Folds.{Any-from_list_any}
-use Rattle.mdb_msgs.specs.declared.command.Command.TheVariants as commands
-use Rattle.mdb_msgs.specs.declared.command.ReaderCommand.TheVariants as reader
-use Rattle.mdb_msgs.specs.declared.reply.reader.ReaderMsg.TheVariants as messages
-use Rattle.mdb_bus.specs.declared.act.Act.TheVariants as acts
-use Rattle.mdb_cashless.specs.declared.approvals.sale.Sale.TheVariants.{Unknown, Asked, Approved, Sold}
-use Rattle.mdb_cashless.specs.ExtendedFacts.{Facts, facts_of, sale_asked, sale_heard}
+use Rattle.mdb_cashless.specs.declared.approvals.sale.Sale.TheVariants.{Unknown, Asked, Approved}
+use Rattle.mdb_cashless.specs.ExtendedFacts.{Facts, facts_of}
 use Rattle.mdb_cashless.specs.ExtendedSales.{AcksAreOfReplies, IsApproved, SalesAreApproved, asks_request, hears_approval, is_open, leaves_asked, leaves_sale}
-use Rattle.mdb_cashless.specs.ReaderFacts.{own_messages, own_transaction}
 use Rattle.mdb_cashless.specs.Sales as base
-use Rattle.mdb_cashless.specs.Sales.{LeavesSale, MayBeRequestedBefore}
-use Rattle.mdb_cashless.specs.Transactions.{is_request}
-use Rattle.mdb_cashless.specs.inner.Approvals.{is_sale_known}
-use Rattle.mdb_cashless.proofs.Sales.{approved_by, own_is, own_of_unit, requests, still_approved, still_requested}
+use Rattle.mdb_cashless.proofs.Sales.{approved_by, own_is, own_of_unit, requests, same_is, still_approved, still_requested}
 
 -- whether an approval makes a sale approved, and whether VEND SUCCESS of an item may be told of it
 abbrev awaits : Sale → Bool
@@ -39,7 +24,7 @@ abbrev sells_by : ℕ → Option ReaderCommand → Bool
 sells_by item command = option_map_or (is_same (Success item)) (own_transaction command) false
 
 abbrev sells : ReaderUnit → ℕ → Act → Bool
-sells unit item (acts.Ask command) = sells_by item (own unit command)
+sells unit item (Act.Ask command) = sells_by item (own unit command)
 sells unit item act = false
 
 -- what messages make of a sale that the controller acknowledges, with a 05 among them or without
@@ -48,9 +33,9 @@ HeardAs approval before after = (awaits after ≡ (not approval && awaits before
     × ((item : ℕ) → is_for item after ≡ ((approval && awaits before) || is_for item before))
 
 heard_one : (m : ReaderMsg) (sale : Sale) → HeardAs (is_approval m) sale (sale_heard m sale)
-heard_one messages.JustReset Awaited = (refl, λ item. refl)
-heard_one messages.VendDenied Awaited = (refl, λ item. refl)
-heard_one (messages.VendApproved amount) Awaited = (refl, λ item. refl)
+heard_one ReaderMsg.JustReset Awaited = (refl, λ item. refl)
+heard_one ReaderMsg.VendDenied Awaited = (refl, λ item. refl)
+heard_one (ReaderMsg.VendApproved amount) Awaited = (refl, λ item. refl)
 heard_one m sale = (refl, λ item. refl)
 
 heard_all : (told : List ReaderMsg) (sale : Sale)
@@ -69,10 +54,9 @@ asked : (command : Option ReaderCommand) (sale : Sale)
     ≡ (is_request (own_transaction command) || (leaves_asked Cancel command && awaits sale)))
     × ((item : ℕ) → is_for item (sale_asked command sale)
     ≡ (leaves_asked (Success item) command && (sells_by item command || is_for item sale)))
-asked (Some reader.VendCancel) Awaited = (refl, λ item. refl)
-asked (Some (reader.VendSuccess last)) sale = (refl, λ item. grind (arith, common_steps))
-asked (Some command) sale = (refl, λ item. refl)
-asked None sale = (refl, λ item. refl)
+asked (Some ReaderCommand.VendCancel) Awaited = (refl, λ item. refl)
+asked (Some (ReaderCommand.VendSuccess last)) sale = (refl, λ item. grind (arith, common_steps))
+asked command sale = (refl, λ item. refl)
 
 module _ (unit : ReaderUnit) where
   -- what an act makes of the sale under way
@@ -85,49 +69,48 @@ module _ (unit : ReaderUnit) where
       × ((item : ℕ) → is_for item after.sale ≡ ((hears_approval unit act && awaits facts.sale)
       || (leaves_sale unit (Success item) act && (sells unit item act || is_for item facts.sale))))
       × (after.earlier ≡ (not (asks_request unit act) && facts.earlier))
-  after_act (acts.Ask command) facts =
+  after_act (Act.Ask command) facts =
       let is = asked (own unit command) facts.sale in (is.0, is.1, refl)
-  after_act (acts.VmcAck command reply) facts =
+  after_act (Act.VmcAck command reply) facts =
       let is = heard_all (own_messages unit command (messages_of reply)) facts.sale in
       (is.0, is.1, refl)
-  after_act (acts.Break length) facts = (refl, λ item. refl, refl)
+  after_act (Act.Break length) facts = (refl, λ item. refl, refl)
   after_act act facts = (refl, λ item. refl, refl)
 
   -- the acts that are VEND SUCCESS of an item, and VEND REQUEST
   sells_is : (item : ℕ) (act : Act) → sells unit item act ≡ true
-      → act ≡ acts.Ask (commands.Reader unit (reader.VendSuccess item))
-  sells_is item (acts.Ask command) is =
-      ap acts.Ask (own_is unit command (reader.VendSuccess item) (by (own unit command) is))
+      → act ≡ Act.Ask (Command.Reader unit (ReaderCommand.VendSuccess item))
+  sells_is item (Act.Ask command) is =
+      ap Act.Ask (own_is unit command (ReaderCommand.VendSuccess item) (by (own unit command) is))
     where
       by : (found : Option ReaderCommand) → sells_by item found ≡ true
-          → found ≡ Some (reader.VendSuccess item)
-      by (Some (reader.VendSuccess last)) is =
-          ap (λ i. Some (reader.VendSuccess i)) (sym (eqb-true item last is))
+          → found ≡ Some (ReaderCommand.VendSuccess item)
+      by (Some (ReaderCommand.VendSuccess last)) is =
+          ap (λ i. Some (ReaderCommand.VendSuccess i)) (sym (eqb-true item last is))
       by found is = absurd cc
   sells_is item act is = absurd cc
 
   requests_is : (act : Act) → asks_request unit act ≡ true → (price : ℕ) × (item : ℕ)
-      × (act ≡ acts.Ask (commands.Reader unit (reader.VendRequest price item)))
-  requests_is (acts.Ask command) is = by (own unit command) refl is
+      × (act ≡ Act.Ask (Command.Reader unit (ReaderCommand.VendRequest price item)))
+  requests_is (Act.Ask command) is = by (own unit command) refl is
     where
       by : (found : Option ReaderCommand) → own unit command ≡ found
           → is_request (own_transaction found) ≡ true → (price : ℕ) × (item : ℕ)
-          × (acts.Ask command ≡ acts.Ask (commands.Reader unit (reader.VendRequest price item)))
-      by (Some (reader.VendRequest price item)) found is =
-          (price, item, ap acts.Ask (own_is unit command (reader.VendRequest price item) found))
+          × (Act.Ask command ≡ Act.Ask (Command.Reader unit (ReaderCommand.VendRequest price item)))
+      by (Some (ReaderCommand.VendRequest price item)) found is =
+          (price, item, ap Act.Ask (own_is unit command _ found))
       by found same is = absurd cc
   requests_is act is = absurd cc
 
   -- an act that leaves a sale that is approved asks no VEND REQUEST
   no_request : (item : ℕ) (act : Act) → leaves_sale unit (Success item) act ≡ true
       → asks_request unit act ≡ false
-  no_request item (acts.Ask command) leaves = by (own unit command) leaves
+  no_request item (Act.Ask command) leaves = by (own unit command) leaves
     where
       by : (found : Option ReaderCommand) → leaves_asked (Success item) found ≡ true
           → is_request (own_transaction found) ≡ false
-      by (Some (reader.VendRequest price number)) leaves = absurd cc
-      by (Some command) leaves = refl
-      by None leaves = refl
+      by (Some (ReaderCommand.VendRequest price number)) leaves = absurd cc
+      by found leaves = refl
   no_request item act leaves = refl
 
   -- whether a sale may have been requested before the recording
@@ -164,7 +147,7 @@ module _ (unit : ReaderUnit) where
           → MayBeRequestedBefore (Joined setups profile) unit (act ∷ so_far)
       by none before price item (zero, few, same) =
           let asks : asks_request unit act ≡ true =
-          rw same (rw (own_of_unit unit (reader.VendRequest price item)) refl) in
+          rw same (rw (own_of_unit unit (ReaderCommand.VendRequest price item)) refl) in
           absurd cc
       by none before price item (suc n, few, same) =
           before price item (n, omega (arith, few), same)
@@ -273,27 +256,19 @@ module _ (unit : ReaderUnit) where
   leaves : (may : Transaction) (May : Transaction → Type 0) (act : Act)
       → leaves_sale unit may act ≡ true
       → ((t : Transaction) → is_same may t ≡ true → May t) → LeavesSale unit May act
-  leaves may May (acts.Ask command) is all = by (own unit command) is
+  leaves may May (Act.Ask command) is all = by (own unit command) is
     where
       by : (found : Option ReaderCommand) → leaves_asked may found ≡ true
-          → (found ≢ Some reader.Reset) × ((t : Transaction) → own_transaction found ≡ Some t
+          → (found ≢ Some ReaderCommand.Reset) × ((t : Transaction) → own_transaction found ≡ Some t
           → May t)
-      by (Some reader.Reset) is = absurd cc
+      by (Some ReaderCommand.Reset) is = absurd cc
       by (Some command) is = (
         λ same. absurd cc,
         λ t sent. all t (subst (λ o. option_map_or (is_same may) o true ≡ true) sent is),
       )
       by None is = (λ same. absurd cc, λ t sent. absurd cc)
-  leaves may May (acts.Break length) is all = absurd cc
+  leaves may May (Act.Break length) is all = absurd cc
   leaves may May act is all = tt
-
-  is_cancel : (t : Transaction) → is_same Cancel t ≡ true → t ≡ Cancel
-  is_cancel Cancel is = refl
-  is_cancel t is = absurd cc
-
-  is_success : (item : ℕ) (t : Transaction) → is_same (Success item) t ≡ true → t ≡ Success item
-  is_success item (Success last) is = ap Success (sym (eqb-true item last is))
-  is_success item t is = absurd cc
 
   requested : (so_far : List Act) → is_open unit so_far ≡ true → base.IsRequested unit so_far
   requested [] is = absurd cc
@@ -304,53 +279,53 @@ module _ (unit : ReaderUnit) where
     | inr stays ↦
         let parts = and_parts _ _ stays in
         still_requested unit act so_far (requested so_far (and_parts _ _ parts.1).1)
-        (leaves Cancel _ act parts.0 (λ t same. inr (is_cancel t same)))
+        (leaves Cancel _ act parts.0 (λ t same. inr (sym (same_is Cancel t same))))
   ]
 
   abbrev Repeats : Command → Reply → Act → Type 0
-  Repeats command reply act = (act ≡ acts.VmcRet command reply) ⊎ (act ≡ acts.Repeat command reply)
+  Repeats command reply act = (act ≡ Act.VmcRet command reply) ⊎ (act ≡ Act.Repeat command reply)
 
   replied : (command : Command) (reply : Reply) (again before : List Act)
       → All (Repeats command reply) again
-      → is_open unit (again ++ (acts.Reply command reply ∷ before)) ≡ is_open unit before
+      → is_open unit (again ++ (Act.Reply command reply ∷ before)) ≡ is_open unit before
   replied command reply [] before all = refl
   replied command reply (act ∷ again) before all =
+      let rest = replied command reply again before
+      (All-tail (Repeats command reply) act again all) in
       elim (All-head (Repeats command reply) act again all) [
-        | inl is ↦ rw is
-            (replied command reply again before (All-tail (Repeats command reply) act again all))
-        | inr is ↦ rw is
-            (replied command reply again before (All-tail (Repeats command reply) act again all))
+        | inl is ↦ rw is rest
+        | inr is ↦ rw is rest
       ]
 
   approval_in : (told : List ReaderMsg) → list_any is_approval told ≡ true
-      → (amount : ℕ) × Contains told (messages.VendApproved amount)
+      → (amount : ℕ) × Contains told (ReaderMsg.VendApproved amount)
   approval_in told some =
       let one = Any-from_list_any is_approval told some in
       let is = by one.1 one.4 in
       (is.0, subst (Contains told) is.1 (one.0, one.2, one.3))
     where
       by : (m : ReaderMsg) → is_approval m ≡ true → (amount : ℕ) × (m
-          ≡ messages.VendApproved amount)
-      by (messages.VendApproved amount) is = (amount, refl)
+          ≡ ReaderMsg.VendApproved amount)
+      by (ReaderMsg.VendApproved amount) is = (amount, refl)
       by m is = absurd cc
 
   pub approved : (item : ℕ) (so_far : List Act) → IsApproved unit item so_far
       → base.IsApproved unit item so_far
   approved item [] is = absurd is
-  approved item (acts.VmcAck command reply ∷ so_far) (inl is) = by (own unit command) refl is.0
+  approved item (Act.VmcAck command reply ∷ so_far) (inl is) = by (own unit command) refl is.0
     where
       by : (found : Option ReaderCommand) → own unit command ≡ found
           → list_any is_approval (elim found [ Some c ↦ messages_of reply | None ↦ [] ]) ≡ true
-          → base.IsApproved unit item (acts.VmcAck command reply ∷ so_far)
+          → base.IsApproved unit item (Act.VmcAck command reply ∷ so_far)
       by None found hears = absurd cc
       by (Some its) found hears =
           let same = own_is unit command its found in
           let ends = rw same at is.1 in
           let approval = approval_in (messages_of reply) hears in
           rw same (approved_by unit its reply so_far ends approval.0 approval.1
-          (requested ends.before (sym (replied (commands.Reader unit its) reply ends.again
+          (requested ends.before (sym (replied (Command.Reader unit its) reply ends.again
           ends.before ends.repeats) ∙ rw ends.order at is.2)) item)
   approved item (act ∷ so_far) (inl is) = absurd cc
   approved item (act ∷ so_far) (inr is) =
       still_approved unit item act so_far (approved item so_far is.1)
-      (leaves (Success item) _ act is.0 (is_success item))
+      (leaves (Success item) _ act is.0 (λ t same. sym (same_is (Success item) t same)))

@@ -1,19 +1,9 @@
 -- Steps of a reader by either profile, from the steps by its own.
 use Rattle.std.specs.Prelude.{IfSome, IsSomeAnd}
-use Rattle.std.specs.List.{Contains}
-use Rattle.std.specs.Option.{option_map}
-use Rattle.mdb_cashless.proofs.Words
-use Words.{◌≡◌, ◌↔◌, ℕ, List, [], ◌∷◌, Option, Some, None, refl, ap, subst, sym, ◌∙◌, arith, inl}
-use Words.{inr, Contains-push_cases, ReaderUnit, Act, Beginning, Profile, profile_of, Choice, Plain}
-use Words.{Gains, Stays, no_gains, Machine, IsOnlyStep, IsStep, AreCoded, ApprovalState}
-use Words.{StateByProfile, Base, Extended, ReaderState, base_state, by_profile, extended_state}
-use Words.{machine_in, by_base, by_extended, base_part, extended_part, of_each}
-use Rattle.std.proofs.lemmas.List.Elements.{Contains-push}
+use Rattle.mdb_cashless.proofs.Words.{Contains, option_map, ◌≡◌, ◌↔◌, ℕ, List, [], ◌∷◌, Option, Some, None, refl, ap, subst, sym, ◌∙◌, arith, inl, inr, Contains-push_cases, ReaderUnit, Act, Beginning, Profile, profile_of, Choice, Plain, Gains, Stays, no_gains, Machine, IsOnlyStep, IsStep, AreCoded, ApprovalState, StateByProfile, Base, Extended, ReaderState, base_state, by_profile, extended_state, machine_in, by_base, by_extended, base_part, extended_part, of_each, Contains-push, StepOf, strayed, IsPart, goes, power_on_in, still}
 use Rattle.mdb_bus.specs.declared.act.Act.TheVariants.{Break}
-use Rattle.mdb_bus.specs.declared.scope.Profile.TheVariants as profiles
 use Rattle.mdb_cashless.specs.declared.by_profile.facts.KnownByProfile.{KnownByProfile}
-use Rattle.mdb_cashless.specs.declared.by_profile.facts.KnownByProfile.TheVariants as values
-use Rattle.mdb_cashless.specs.ByProfile.{StepOf, machine, strayed}
+use Rattle.mdb_cashless.specs.ByProfile.{machine}
 use Rattle.mdb_cashless.specs.ByProfileFacts.{facts_of}
 use Rattle.mdb_cashless.specs.ByProfileValues.{known_in}
 use Rattle.mdb_cashless.specs.ExtendedFacts as extended_facts
@@ -21,27 +11,26 @@ use Rattle.mdb_cashless.specs.ExtendedReader as extended
 use Rattle.mdb_cashless.specs.Reader as base
 use Rattle.mdb_cashless.specs.ReaderFacts as base_facts
 use Rattle.mdb_cashless.specs.shared.ByProfileCodes.{apart, code_of}
-use Rattle.mdb_cashless.specs.shared.ByProfileWays.{IsPart, goes, power_on_in, still}
 
 -- what is known is of the profile
 pub is_base : (profile : Profile) {known its : base_facts.KnownFacts}
     (facts : extended_facts.Facts)
     → by_base known ≡ by_profile profile (by_base its) (by_extended facts)
-    → (profile ≡ profiles.Base) × (known ≡ its)
-is_base profiles.Base facts same = (refl, cc)
-is_base profiles.Extended facts same = absurd cc
+    → (profile ≡ Profile.Base) × (known ≡ its)
+is_base Profile.Base facts same = (refl, cc)
+is_base Profile.Extended facts same = absurd cc
 
 pub is_extended : (profile : Profile) {facts its : extended_facts.Facts}
     (known : base_facts.KnownFacts)
     → by_extended facts ≡ by_profile profile (by_base known) (by_extended its)
-    → (profile ≡ profiles.Extended) × (facts ≡ its)
-is_extended profiles.Base known same = absurd cc
-is_extended profiles.Extended known same = (refl, cc)
+    → (profile ≡ Profile.Extended) × (facts ≡ its)
+is_extended Profile.Base known same = absurd cc
+is_extended Profile.Extended known same = (refl, cc)
 
 -- a state that is none of the machine that is known of
 abbrev pub IsStray : KnownByProfile → StateByProfile → Type 0
-IsStray (values.Base known) before = base_state before ≡ None
-IsStray (values.Extended facts) before = extended_state before ≡ None
+IsStray (KnownByProfile.Base known) before = base_state before ≡ None
+IsStray (KnownByProfile.Extended facts) before = extended_state before ≡ None
 
 module _ {State : Type 0} (its_state : StateByProfile → Option State) (part : IsPart its_state)
     (power_on : StateByProfile) (machine : Machine State) (so_far : List Act) (act : Act)
@@ -193,9 +182,9 @@ module _ (unit : ReaderUnit) (begins : Beginning) (so_far : List Act) (act : Act
       → (after : StateByProfile) (gains : Gains)
       → (machine unit begins).Step so_far act choice before after gains
       ↔ Stays (strayed (power_on_in known) act before) after gains
-  stray_step choice (values.Base known) before stray stands after gains =
+  stray_step choice (KnownByProfile.Base known) before stray stands after gains =
       rw ((is_base (profile_of begins) _ stands).0, stray) (λ step. step, λ step. step)
-  stray_step choice (values.Extended facts) before stray stands after gains =
+  stray_step choice (KnownByProfile.Extended facts) before stray stands after gains =
       rw ((is_extended (profile_of begins) _ stands).0, stray) (λ step. step, λ step. step)
 
 -- the one step from a state, by codes
@@ -224,16 +213,15 @@ one_step From before to code starts each next gains =
     )
 
 -- the one state in which each starts at power-on
-pub alone_base : {Starts : ReaderState → Type 0} (one : ReaderState)
-    → ((state : ReaderState) → Starts state ↔ (state ≡ one)) → (state : StateByProfile)
-    → IsSomeAnd (base_state state) Starts ↔ (state ≡ Base one)
-alone_base one is (Base state) =
-    (λ starts. ap Base ((is state).0 starts), λ same. (is state).1 (cc same))
-alone_base one is (Extended state) = (λ none. absurd none, λ same. absurd (cc same))
-
-pub alone_extended : {Starts : ApprovalState → Type 0} (one : ApprovalState)
-    → ((state : ApprovalState) → Starts state ↔ (state ≡ one)) → (state : StateByProfile)
-    → IsSomeAnd (extended_state state) Starts ↔ (state ≡ Extended one)
-alone_extended one is (Base state) = (λ none. absurd none, λ same. absurd (cc same))
-alone_extended one is (Extended state) =
-    (λ starts. ap Extended ((is state).0 starts), λ same. (is state).1 (cc same))
+pub alone : {State : Type 0} (its_state : StateByProfile → Option State) (part : IsPart its_state)
+    {Starts : State → Type 0} (one : State) → ((state : State) → Starts state ↔ (state ≡ one))
+    → (state : StateByProfile) → IsSomeAnd (its_state state) Starts ↔ (state ≡ part.into one)
+alone {State = State} its_state part {Starts = Starts} one is state = (
+  by (its_state state) refl,
+  λ same. rw (same, part.again one) ((is one).1 refl),
+)
+  where
+    by : (own : Option State) → its_state state ≡ own → IsSomeAnd own Starts
+        → state ≡ part.into one
+    by (Some its) found starts = part.only state its found ∙ ap part.into ((is its).0 starts)
+    by None found none = absurd none

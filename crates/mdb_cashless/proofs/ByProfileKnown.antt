@@ -1,13 +1,9 @@
 -- What is known of a reader by either profile, and its amounts without a value, are of its own
 -- acts.
-use Rattle.mdb_cashless.proofs.Words.{ap, refl, sym, ◌∙◌, ◌≡◌, ◌+◌, ℕ, List, [], ◌∷◌, All, zero-add}
-use Rattle.mdb_cashless.proofs.Words.{ReaderUnit, Act, Beginning, Profile, profile_of, IsBreak}
-use Rattle.mdb_cashless.proofs.Words.{own_acts, by_profile, by_base, by_extended, facts_after}
-use Rattle.mdb_cashless.proofs.Words.{of_each, none_unvalued}
+use Rattle.mdb_cashless.proofs.Words.{ap, refl, sym, ◌∙◌, ◌≡◌, ◌+◌, ℕ, List, [], ◌∷◌, All, zero-add, ReaderUnit, Act, Beginning, Profile, profile_of, IsBreak, own_acts, by_profile, by_base, by_extended, facts_after, of_each, none_unvalued, config_of, unvalued}
 use Rattle.mdb_msgs.specs.declared.command.Device.TheVariants as devices
-use Rattle.mdb_bus.specs.declared.scope.Profile.TheVariants as profiles
 use Rattle.mdb_machine.specs.shared.OwnWays.{IsOfOwn, part_of_none, same_known}
-use Rattle.mdb_cashless.specs.ByProfileFacts.{config_of, facts_of, unvalued}
+use Rattle.mdb_cashless.specs.ByProfileFacts.{facts_of}
 use Rattle.mdb_cashless.specs.ExtendedFacts as extended_facts
 use Rattle.mdb_cashless.specs.ExtendedAmounts as extended
 use Rattle.mdb_cashless.specs.ReaderFacts as base_facts
@@ -60,8 +56,8 @@ module _ (begins : Beginning) (unit : ReaderUnit) where
       → facts.config ≡ start.config
       → config_of (by_profile profile (by_base known) (by_extended facts))
       ≡ config_of (by_profile profile (by_base before) (by_extended start))
-  one_config profiles.Base known before facts start one other = one
-  one_config profiles.Extended known before facts start one other = other
+  one_config Profile.Base known before facts start one other = one
+  one_config Profile.Extended known before facts start one other = other
 
   pub no_config : (so_far : List Act) → All IsBreak (own_acts (devices.Reader unit) so_far)
       → config_of (facts_of begins unit so_far) ≡ config_of (facts_of begins unit [])

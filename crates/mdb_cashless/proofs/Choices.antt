@@ -1,17 +1,12 @@
 -- Where it is of no matter what is chosen of an act of a reader.
-use Rattle.mdb_cashless.proofs.Words.{◌≡◌, false, Some, Command, ReaderCommand, ReaderUnit, First}
-use Rattle.mdb_cashless.proofs.Words.{Second, Reply, Act, Choice, Plain, Lost, Restart, Again}
-use Rattle.mdb_cashless.proofs.Words.{Gains, CanStand, MayBeRead, kept_of, free_acked, ReaderState}
-use Rattle.mdb_cashless.proofs.Words.{parts_of, own}
-use Rattle.mdb_msgs.specs.declared.command.Command.TheVariants as commands
-use Rattle.mdb_bus.specs.declared.act.Act.TheVariants as acts
-use Rattle.mdb_cashless.specs.Reader.{AckStep, ReaderStep, ReplyStep, VmcAckStep, view_taken}
+use Rattle.mdb_cashless.proofs.Words.{◌≡◌, false, Some, Command, ReaderCommand, ReaderUnit, First, Second, Reply, Act, Choice, Plain, Lost, Restart, Again, Gains, CanStand, MayBeRead, kept_of, free_acked, ReaderState, parts_of, own, view_taken}
+use Rattle.mdb_cashless.specs.Reader.{AckStep, ReaderStep, ReplyStep, VmcAckStep}
 use Rattle.mdb_cashless.specs.ReaderFacts.{Facts}
 use Rattle.mdb_cashless.specs.inner.PlainReader.{own_as}
 
 -- the command that is meant, where it is to this reader
 the_own : (unit of : ReaderUnit) (command other : ReaderCommand)
-    → own unit (commands.Reader of command) ≡ Some other → command ≡ other
+    → own unit (Command.Reader of command) ≡ Some other → command ≡ other
 the_own First First command other found = cc
 the_own Second Second command other found = cc
 the_own unit of command other found = cc
@@ -34,27 +29,24 @@ module _ (unit : ReaderUnit) (facts : Facts) (before after : ReaderState) (gains
 
   pub untaken : (of : ReaderUnit) (command : ReaderCommand) (choice : Choice)
       → view_taken command before.view ≡ before.view
-      → Unheeded (acts.Ack (commands.Reader of command)) choice
-  untaken of command choice still = own_as (own unit (commands.Reader of command))
+      → Unheeded (Act.Ack (Command.Reader of command)) choice
+  untaken of command choice still = own_as (own unit (Command.Reader of command))
       (λ its. AckStep facts its choice) (λ its. AckStep facts its Plain) before after gains
       (λ its found. ack_still its choice (rw (the_own unit of command its found) at still))
 
   -- a reply that tells of no restart
   pub unread : (command : Command) (reply : Reply) (choice : Choice)
-      → (MayBeRead Restart (parts_of reply) → ⊥) → CanStand (acts.Reply command reply) choice
-      → Unheeded (acts.Reply command reply) choice
+      → (MayBeRead Restart (parts_of reply) → ⊥) → CanStand (Act.Reply command reply) choice
+      → Unheeded (Act.Reply command reply) choice
   unread command reply Plain never stands = λ step. step
   unread command reply Lost never stands = absurd stands
-  unread command reply Restart never stands = own_as (own unit command)
-      (λ its. ReplyStep facts its reply Restart) (λ its. ReplyStep facts its reply Plain) before
-      after gains (λ its found step. absurd (never step.has_news.read))
-  unread command reply Again never stands = own_as (own unit command)
-      (λ its. ReplyStep facts its reply Again) (λ its. ReplyStep facts its reply Plain) before
-      after gains (λ its found step. absurd step.has_news.read)
+  unread command reply choice never stands = own_as (own unit command)
+      (λ its. ReplyStep facts its reply choice) (λ its. ReplyStep facts its reply Plain) before
+      after gains (λ its found step. absurd (search (never, step.has_news.read)))
 
   -- the controller's ACK while nothing is held
   pub unheard : (command : Command) (reply : Reply) (choice : Choice) → before.holds ≡ false
-      → Unheeded (acts.VmcAck command reply) choice
+      → Unheeded (Act.VmcAck command reply) choice
   unheard command reply choice free = own_as (own unit command)
       (λ its. VmcAckStep facts its reply choice) (λ its. VmcAckStep facts its reply Plain) before
       after gains (λ its found step. record {

@@ -1,19 +1,6 @@
 -- What acts tell of the facts of a reader, for the function that keeps them.
-use Rattle.mdb_cashless.proofs.Words.{◌≡◌, ◌∙◌, ◌||◌, Bool, true, false, List, Option, Some, None}
-use Rattle.mdb_cashless.proofs.Words.{refl, sym, map, if◌then◌else◌, Command, ReaderCommand}
-use Rattle.mdb_cashless.proofs.Words.{ReaderUnit, Reply, ReaderMsg, effect_taken, or_else, resets}
-use Rattle.mdb_cashless.proofs.Words.{tells_out_of_sequence, past_after, Transaction, amount_in}
-use Rattle.mdb_cashless.proofs.Words.{begin_session, config_in, last_said, messages_of, part_of}
-use Rattle.mdb_cashless.proofs.Words.{ToldFacts, told_with, transaction_of, own}
-use Rattle.mdb_msgs.specs.declared.command.ReaderCommand.TheVariants as reader
-use Rattle.mdb_bus.specs.declared.act.Act.TheVariants as acts
-use Rattle.mdb_cashless.specs.ReaderFacts.{effect_of, effect_of_own, own_messages, own_of, own_transaction}
-use Rattle.mdb_cashless.specs.ReaderValues.{last_after, taken, told}
-
--- facts are the same where their fields are
-same_fields : {one other : ToldFacts} → one.config ≡ other.config → one.asked ≡ other.asked
-    → one.taken ≡ other.taken → one.amount ≡ other.amount → one.past ≡ other.past → one ≡ other
-same_fields config asked taken amount past = rw (config, asked, taken, amount, past) refl
+use Rattle.mdb_cashless.proofs.Words.{◌≡◌, ◌∙◌, ◌||◌, Bool, true, false, List, Option, Some, None, refl, sym, map, if◌then◌else◌, Command, ReaderCommand, ReaderUnit, Reply, ReaderMsg, effect_taken, or_else, resets, tells_out_of_sequence, past_after, Transaction, amount_in, begin_session, config_in, last_said, messages_of, part_of, ToldFacts, told_with, transaction_of, own, effect_of, effect_of_own, own_messages, own_of, own_transaction, last_after, Act, ap}
+use Rattle.mdb_cashless.specs.ReaderValues.{taken, told}
 
 -- the facts after a reply, where it is known whether it refuses its command
 abbrev answered : ReaderUnit → Command → Bool → List ReaderMsg → ToldFacts → ToldFacts
@@ -39,8 +26,8 @@ last_is : (command : ReaderCommand) (begins : Bool) (last : Option Transaction)
     → (if resets (effect_of_own (Some command)) || begins then None
     else or_else (transaction_of command) last)
     ≡ (if begins then None else last_after command last)
-last_is reader.Reset true last = refl
-last_is reader.Reset false last = refl
+last_is ReaderCommand.Reset true last = refl
+last_is ReaderCommand.Reset false last = refl
 last_is command begins last = refl
 
 own_answer : (unit : ReaderUnit) (command : Command) (its : ReaderCommand) (refused : Bool)
@@ -49,13 +36,14 @@ own_answer : (unit : ReaderUnit) (command : Command) (its : ReaderCommand) (refu
     ≡ answered unit command refused messages old
 own_answer unit command its true messages old found = rw (found, own_messages) refl
 own_answer unit command its false messages old found =
-    rw (found, own_messages) (same_fields refl refl
-    (sym (last_is its (begin_session messages) old.taken)) refl refl)
+    rw (found, own_messages) (ap (λ last. record (told messages (taken (Some its) old)) {
+      taken = last;
+    }) (sym (last_is its (begin_session messages) old.taken)))
 
 -- the facts after a reply of this reader: it has taken its command or not, and has told messages
 pub replied : (unit : ReaderUnit) (command : Command) (its : ReaderCommand) (reply : Reply)
     (old mid new : ToldFacts) → own unit command ≡ Some its
     → mid ≡ taken (if tells_out_of_sequence reply then None else Some its) old
-    → new ≡ told (messages_of reply) mid → new ≡ told_with unit (acts.Reply command reply) old
+    → new ≡ told (messages_of reply) mid → new ≡ told_with unit (Act.Reply command reply) old
 replied unit command its reply old mid new found mid_is new_is = new_is ∙ rw mid_is
     (own_answer unit command its (tells_out_of_sequence reply) (messages_of reply) old found)

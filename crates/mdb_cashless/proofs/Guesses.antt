@@ -1,27 +1,16 @@
 -- That a step of a reader depends on what may not be known as far as it can be guessed: few guesses
 -- of it are enough.
-use Rattle.mdb_cashless.proofs.Words
-use Words.{common_steps, ◌≡◌, ◌≢◌, ◌⊎◌, ◌<◌, ◌==◌, ◌&&◌, ℕ, suc, Bool, true, false, List, [], ◌∷◌}
-use Words.{length, Option, Some, None, refl, if◌then◌else◌, arith, ap, sym, ◌∙◌, inl, inr}
-use Words.{take-append_seam, eq-eqb, ReaderCommand, Reply, Choice, Restart, Gains, IsNew, held}
-use Words.{kept_of, or_else, DeviceState, ReaderActivity, ReaderState, Transaction, Request}
-use Words.{Success, View, all_told, parts_of, sent, is_again, is_same, transaction_of, again}
+use Rattle.mdb_cashless.proofs.Words.{common_steps, ◌≡◌, ◌≢◌, ◌⊎◌, ◌<◌, ◌==◌, ◌&&◌, ℕ, suc, Bool, true, false, List, [], ◌∷◌, length, Option, Some, None, refl, if◌then◌else◌, arith, ap, sym, ◌∙◌, inl, inr, take-append_seam, eq-eqb, ReaderCommand, Reply, Choice, Restart, Gains, IsNew, held, kept_of, or_else, DeviceState, ReaderActivity, ReaderState, Transaction, Request, Success, View, all_told, parts_of, sent, is_again, is_same, transaction_of, again, asked, is_poll, sold_any, take_any, then_by, AllowsFacts, KnownFacts, own_transaction, length-append, nat_tests, Cancel}
 use Rattle.std.proofs.Common.{take}
-use Rattle.std.proofs.lemmas.List.{length-append}
-use Rattle.mdb_msgs.specs.declared.command.ReaderCommand.TheVariants as reader
-use Rattle.mdb_cashless.specs.declared.reader.device.DeviceState.TheVariants as device
 use Rattle.mdb_cashless.specs.declared.reader.messages.ReaderActivity.TheVariants.{VendApproved}
-use Rattle.mdb_cashless.specs.declared.reader.view.View.TheVariants as view
-use Rattle.mdb_cashless.specs.Reader.{AckStep, AskStep, ReplyStep, asked, before_messages, is_poll, read, sold_any, take_any, taken}
-use Rattle.mdb_cashless.specs.ReaderDevice.{then_by, told}
-use Rattle.mdb_cashless.specs.ReaderFacts.{AllowsFacts, Facts, KnownFacts, own_transaction}
+use Rattle.mdb_cashless.specs.Reader.{AckStep, AskStep, ReplyStep, before_messages, read, taken}
+use Rattle.mdb_cashless.specs.ReaderDevice.{told}
+use Rattle.mdb_cashless.specs.ReaderFacts.{Facts}
 
 -- a transaction command is itself
-is_itself : (t : Transaction) → is_same t t ≡ true
-is_itself (Request price item) =
-    ap (λ b. b && (item == item)) (eq-eqb price price refl) ∙ eq-eqb item item refl
-is_itself (Success item) = eq-eqb item item refl
-is_itself t = refl
+pub is_itself : (t : Transaction) → is_same t t ≡ true
+is_itself Cancel = refl
+is_itself t = grind (arith, nat_tests)
 
 -- what is sent after some last transaction command is sent after itself
 where_sent : (is : Bool) (to : View) {after : View}
@@ -30,9 +19,9 @@ where_sent is to e = grind arith
 
 sent_again : (last : Option Transaction) (t : Transaction) (before : View) {after : View}
     → sent last t before ≡ Some after → sent (Some t) t before ≡ Some after
-sent_again last (Request price item) view.Asked e =
+sent_again last (Request price item) View.Asked e =
     rw (is_itself (Request price item)) (where_sent (is_again last (Request price item)) _ e)
-sent_again last (Success item) view.SuccessOwed e =
+sent_again last (Success item) View.SuccessOwed e =
     rw (is_itself (Success item)) (where_sent (is_again last (Success item)) _ e)
 sent_again last t before e = e
 
@@ -50,7 +39,7 @@ asked_as : (one other : Facts) (command : ReaderCommand) (before : View) {after 
     → ((other.asked ≡ one.asked) ⊎ (transaction_of command ≡ None))
     ⊎ (other.asked ≡ transaction_of command)
     → asked one command before ≡ Some after → asked other command before ≡ Some after
-asked_as one other reader.Reset before how e = e
+asked_as one other ReaderCommand.Reset before how e = e
 asked_as one other command before how e =
     sent_as one.asked other.asked (transaction_of command) before how e
 
@@ -79,7 +68,7 @@ module _ (last : Option Transaction) (price item : ℕ) where
   told_request : (message : ReaderActivity) (before after : DeviceState)
       → told last message before ≡ Some after
       → told (Some (Request price item)) message before ≡ Some after
-  told_request (VendApproved amount) (device.Vend back) after e = grind (arith, common_steps)
+  told_request (VendApproved amount) (DeviceState.Vend back) after e = grind (arith, common_steps)
   told_request message before after e = e
 
   all_told_request : (news : List ReaderActivity) (before after : DeviceState)

@@ -1,7 +1,5 @@
 -- What is held after an ACK, by whether a message of the reply is kept.
-use Rattle.mdb_cashless.proofs.Words.{common_steps, arith, ◌≡◌, ◌⊎◌, ◌&&◌, not, Bool, true, false}
-use Rattle.mdb_cashless.proofs.Words.{List, [], ◌∷◌, refl, map, ReaderMsg, Choice, Plain, Lost}
-use Rattle.mdb_cashless.proofs.Words.{Restart, Again, holds_acked, kept_of, part_of, keeps_some}
+use Rattle.mdb_cashless.proofs.Words.{common_steps, arith, ◌≡◌, ◌⊎◌, ◌&&◌, not, Bool, true, false, List, [], ◌∷◌, refl, map, ReaderMsg, Choice, Plain, Lost, Restart, Again, holds_acked, kept_of, part_of, keeps_some}
 use Rattle.mdb_msgs.specs.declared.reply.reader.ReaderMsg.TheVariants.{BeginSession, BeginSessionLong, VendApproved, VendDenied, EndSession}
 
 -- what the reader holds, by that
@@ -22,13 +20,8 @@ pub acked_is : (messages : List ReaderMsg) (choice : Choice) (holds : Bool)
     → held_on choice (keeps_some messages) holds
     ≡ holds_acked choice (kept_of (map part_of messages)) holds
 acked_is [] choice holds = none choice holds
-acked_is (BeginSession funds ∷ messages) choice holds = some choice _ _ holds
-acked_is (BeginSessionLong funds media kind details ∷ messages) choice holds =
-    some choice _ _ holds
-acked_is (VendApproved amount ∷ messages) choice holds = some choice _ _ holds
 acked_is (VendDenied ∷ messages) choice holds = some choice _ _ holds
-acked_is (EndSession ∷ messages) choice holds = some choice _ _ holds
-acked_is (_ ∷ messages) choice holds = acked_is messages choice holds
+acked_is (message ∷ messages) choice holds = search (some, acked_is messages choice holds)
 
 pub heard_is : (choice : Choice) → (choice ≡ Plain) ⊎ (choice ≡ Restart) ⊎ (choice ≡ Again)
     → (messages : List ReaderMsg) (holds : Bool) → (holds && not (keeps_some messages))

@@ -1,16 +1,10 @@
 -- The facts that may be are those that are kept, with guesses of what isn't known.
-use Rattle.mdb_cashless.proofs.Words
-use Words.{common_steps, ◌≡◌, ◌≢◌, ◌⊎◌, ◌↔◌, ◌<◌, ◌+◌, ◌&&◌, ◌||◌, ℕ, Bool, true, false, List, []}
-use Words.{◌∷◌, length, Option, Some, None, refl, if◌then◌else◌, arith, sym, inl, inr, is_none}
-use Words.{ReaderCommand, ReaderUnit, Reply, Act, Choice, Gains, IsNew, held, kept_of, Allows}
-use Words.{AllowsKept, IsOnlyStep, if_known, ReaderKnown, ReaderActivity, ReaderState, Transaction}
-use Words.{parts_of, transaction_of, own, IsReplyKeeping, OfSome, again, keeping}
-use Rattle.std.proofs.Common.{add-one, take}
-use Rattle.mdb_bus.specs.declared.act.Act.TheVariants as acts
+use Rattle.mdb_cashless.proofs.Words.{common_steps, ◌≡◌, ◌≢◌, ◌⊎◌, ◌↔◌, ◌<◌, ◌+◌, ◌&&◌, ◌||◌, ℕ, Bool, true, false, List, [], ◌∷◌, length, Option, Some, None, refl, if◌then◌else◌, arith, sym, inl, inr, is_none, ReaderCommand, ReaderUnit, Reply, Act, Choice, Gains, IsNew, held, kept_of, Allows, AllowsKept, IsOnlyStep, if_known, ReaderKnown, ReaderActivity, ReaderState, Transaction, parts_of, transaction_of, own, IsReplyKeeping, OfSome, again, keeping, add-one, StepKnowing, is_poll, AllowsFacts, KnownFacts, own_transaction}
+use Rattle.std.proofs.Common.{take}
 use Rattle.mdb_machine.specs.Known.{Unknown}
 use Rattle.mdb_cashless.specs.declared.reader.messages.ReaderActivity.TheVariants.{VendDenied}
-use Rattle.mdb_cashless.specs.Reader.{AckStep, AskStep, ReaderStep, ReplyStep, StepKnowing, VmcAckStep, before_messages, is_poll, taken}
-use Rattle.mdb_cashless.specs.ReaderFacts.{AllowsFacts, Facts, KnownFacts, own_transaction}
+use Rattle.mdb_cashless.specs.Reader.{AckStep, AskStep, ReaderStep, ReplyStep, VmcAckStep, before_messages, taken}
+use Rattle.mdb_cashless.specs.ReaderFacts.{Facts}
 use Rattle.mdb_cashless.specs.ReaderValues.{facts_in, known_in, settled}
 use Rattle.mdb_cashless.specs.inner.PlainReader.{own_as}
 use Rattle.mdb_cashless.proofs.Guesses.{Alike, Meets, ack_with, alike, ask_with, either_meets, fronts, held_before, meets_itself, reply_with, same_repeats}
@@ -18,23 +12,20 @@ use Rattle.mdb_cashless.proofs.Guesses.{Alike, Meets, ack_with, alike, ask_with,
 -- What a step by an act that is settled depends on is known: so a step with one guess is one with
 -- another that may be.
 abbrev pub Same : ReaderUnit → Facts → Facts → Act → Type 0
-Same unit one other (acts.Ask command) = (its : ReaderCommand) → own unit command ≡ Some its
+Same unit one other (Act.Ask command) = (its : ReaderCommand) → own unit command ≡ Some its
     → (other.asked ≡ one.asked) ⊎ (transaction_of its ≡ None)
-Same unit one other (acts.Ack command) = (its : ReaderCommand) → own unit command ≡ Some its
+Same unit one other (Act.Ack command) = (its : ReaderCommand) → own unit command ≡ Some its
     → (other.taken ≡ one.taken) ⊎ (transaction_of its ≡ None)
-Same unit one other (acts.Reply command reply) = (its : ReaderCommand)
+Same unit one other (Act.Reply command reply) = (its : ReaderCommand)
     → own unit command ≡ Some its
     → (other.taken ≡ one.taken) × (other.past.last_kept ≡ one.past.last_kept)
 Same unit one other act = Unit {0}
 
-either_back : {X : Type 0} {x y : X} {P : Type 0} → (x ≡ y) ⊎ P → (y ≡ x) ⊎ P
-either_back either = grind arith
-
 same_back : (unit : ReaderUnit) (one other : Facts) (act : Act) → Same unit one other act
     → Same unit other one act
-same_back unit one other (acts.Ask command) same = λ its is. either_back (same its is)
-same_back unit one other (acts.Ack command) same = λ its is. either_back (same its is)
-same_back unit one other (acts.Reply command reply) same =
+same_back unit one other (Act.Ask command) same = λ its is. let e = same its is in grind arith
+same_back unit one other (Act.Ack command) same = λ its is. let e = same its is in grind arith
+same_back unit one other (Act.Reply command reply) same =
     λ its is. (sym (same its is).0, sym (same its is).1)
 same_back unit one other act same = tt
 
@@ -42,20 +33,20 @@ module _ (unit : ReaderUnit) (choice : Choice) (before after : ReaderState) (gai
   step_same : (one other : Facts) → Alike one other → (act : Act) → Same unit one other act
       → ReaderStep unit one act choice before after gains
       → ReaderStep unit other act choice before after gains
-  step_same one other like (acts.Ask command) same =
+  step_same one other like (Act.Ask command) same =
       own_as (own unit command) (AskStep one) (AskStep other) before after gains
       (λ its is. ask_with one other like its before after gains (inl (same its is)))
-  step_same one other like (acts.Ack command) same =
+  step_same one other like (Act.Ack command) same =
       own_as (own unit command) (λ its. AckStep one its choice) (λ its. AckStep other its choice)
       before after gains (λ its is. ack_with one other like its choice before after gains
       (same_repeats one other like (transaction_of its) (same its is)))
-  step_same one other like (acts.Reply command reply) same =
+  step_same one other like (Act.Reply command reply) same =
       own_as (own unit command) (λ its. ReplyStep one its reply choice)
       (λ its. ReplyStep other its reply choice) before after gains
       (λ its is step. reply_with one other like its reply choice before after gains
       (meets_itself (own_transaction (taken its reply)) (same its is).0) step
       (rw (same its is).1 step.has_news.new))
-  step_same one other like (acts.VmcAck command reply) same =
+  step_same one other like (Act.VmcAck command reply) same =
       own_as (own unit command) (λ its. VmcAckStep one its reply choice)
       (λ its. VmcAckStep other its reply choice) before after gains
       (λ its is step. record { to = step.to; gained = rw like.0 step.gained })
@@ -250,11 +241,11 @@ module _ (known : ReaderKnown) where
   -- an act that is settled
   settled_same : (unit : ReaderUnit) (act : Act) → settled unit known act ≡ true → (holds : Bool)
       (facts : Facts) → AllowsFacts (known_in known) holds facts → Same unit base facts act
-  settled_same unit (acts.Ask command) is holds facts may =
+  settled_same unit (Act.Ask command) is holds facts may =
       settles_one known.knows_asked (own unit command) base.asked facts.asked is may.asked
-  settled_same unit (acts.Ack command) is holds facts may =
+  settled_same unit (Act.Ack command) is holds facts may =
       settles_one known.knows_taken (own unit command) base.taken facts.taken is may.taken
-  settled_same unit (acts.Reply command reply) is holds facts may =
+  settled_same unit (Act.Reply command reply) is holds facts may =
       settles_both known.knows_taken known.knows_kept (own unit command) base.taken facts.taken
       base.past.last_kept facts.past.last_kept holds is may.taken may.past.last_kept
   settled_same unit act is holds facts may = tt

@@ -1,22 +1,11 @@
 -- What is known goes on act by act.
-use Rattle.mdb_cashless.proofs.Words
-use Words.{common_steps, arith, ◌≡◌, ℕ, ◌&&◌, ◌||◌, not, Bool, true, false, List, [], Option, Some}
-use Words.{None, refl, ap, unwrap_or, if◌then◌else◌, is_some, Command, ReaderCommand, ReaderUnit}
-use Words.{Reply, Act, Beginning, PowerOn, Joined, Part, kept_of, known_before, effect_taken}
-use Words.{or_else, powers_on, resets, tells_out_of_sequence, unless_empty, if_known, past_after}
-use Words.{ReaderKnown, Transaction, drops, known_of, begin_session, messages_of, ToldFacts}
-use Words.{known_with, told_in, told_with, transaction_of, own, same_fields}
+use Rattle.mdb_cashless.proofs.Words.{common_steps, arith, ◌≡◌, ℕ, ◌&&◌, ◌||◌, not, Bool, true, false, List, [], Option, Some, None, refl, ap, unwrap_or, if◌then◌else◌, is_some, Command, ReaderCommand, ReaderUnit, Reply, Act, Beginning, PowerOn, Joined, Part, kept_of, known_before, effect_taken, or_else, powers_on, resets, tells_out_of_sequence, unless_empty, if_known, past_after, ReaderKnown, Transaction, drops, known_of, begin_session, messages_of, ToldFacts, known_with, told_in, told_with, transaction_of, own, same_fields, first_past, from_power_on, known_past_after, past_in, past_known, same_known_past, asked_by, effect_of, effect_of_own, ends_transactions, own_messages, own_of, own_transaction, parts_by, taken_told, transaction_taken_by, tells_taken}
 use Rattle.std.proofs.Common.{option_map}
-use Rattle.mdb_msgs.specs.declared.command.ReaderCommand.TheVariants as reader
 use Rattle.mdb_msgs.specs.Setups.{config_known}
-use Rattle.mdb_bus.specs.declared.act.Act.TheVariants as acts
 use Rattle.mdb_machine.specs.declared.past.Past.{Past}
-use Rattle.mdb_machine.specs.PastValues.{first_past, from_power_on, known_past_after, past_in, past_known}
 use Rattle.mdb_machine.specs.KnownMore.{known_more}
-use Rattle.mdb_machine.specs.shared.PastWays.{same_known_past}
 use Rattle.mdb_cashless.specs.declared.reader.facts.ReaderFacts.{ReaderFacts}
-use Rattle.mdb_cashless.specs.ReaderFacts.{asked_by, effect_of, effect_of_own, ends_transactions, own_messages, own_of, own_transaction, parts_by, taken_told, transaction_taken_by}
-use Rattle.mdb_cashless.specs.ReaderValues.{known_in, tells_taken}
+use Rattle.mdb_cashless.specs.ReaderValues.{known_in}
 
 -- what an act tells becomes known, and what was known stays so
 asked_after : {X : Type 0} (knows : Bool) (told old : Option X)
@@ -85,12 +74,12 @@ known_first unit (Joined setups profile) facts knows so config asked taken amoun
 told_its : (its : ReaderCommand) (begins : Bool)
     → (begins || drops its) ≡ is_some (if resets (effect_of_own (Some its)) || begins then Some None
     else option_map (λ (t : Transaction). Some t) (transaction_of its))
-told_its reader.Reset true = refl
+told_its ReaderCommand.Reset true = refl
 told_its its false = refl
 told_its its begins = refl
 
 pub answered_told : (unit : ReaderUnit) (act : Act) (command : Command) (its : ReaderCommand)
-    (reply : Reply) → act ≡ acts.Reply command reply → own unit command ≡ Some its
+    (reply : Reply) → act ≡ Act.Reply command reply → own unit command ≡ Some its
     → tells_taken its reply ≡ is_some (taken_told unit act)
 answered_told unit act command its reply is found =
     rw (is, found, own_messages)

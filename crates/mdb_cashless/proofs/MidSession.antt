@@ -1,29 +1,18 @@
 -- The ways that an act of a reader may go in a recording that begins in mid-session.
-use Rattle.mdb_cashless.proofs.Words
-use Words.{common_steps, All, ◌≤◌, ◌≡◌, ◌≢◌, ◌↔◌, ◌⊎◌, inl, inr, ℕ, Bool, true, false, List, []}
-use Words.{◌∷◌, Option, Some, None, refl, ap, sym, ◌∙◌, arith, drop, length, if◌then◌else◌}
-use Words.{drop-append_seam, take-append_seam, list_any, ReaderCommand, ReaderUnit, Reply, Act}
-use Words.{Joined, Profile, Choice, Gains, device_gains, in_slots, IsNew, held, kept_of, Allows}
-use Words.{AllowsKept, known_by, last_list, last_told, or_else, powers_on, unless_empty}
-use Words.{ReaderActivity, ReaderState, Ended, Transaction, known_of, config_in, last_said}
-use Words.{messages_of, parts_of, amounts, transaction_of, OfSome, keeping}
+use Rattle.mdb_cashless.proofs.Words.{common_steps, All, ◌≤◌, ◌≡◌, ◌≢◌, ◌↔◌, ◌⊎◌, inl, inr, ℕ, Bool, true, false, List, [], ◌∷◌, Option, Some, None, refl, ap, sym, ◌∙◌, arith, drop, length, if◌then◌else◌, drop-append_seam, take-append_seam, list_any, ReaderCommand, ReaderUnit, Reply, Act, Joined, Profile, Choice, Gains, device_gains, in_slots, IsNew, held, kept_of, Allows, AllowsKept, known_by, last_list, last_told, or_else, powers_on, unless_empty, ReaderActivity, ReaderState, Ended, Transaction, known_of, config_in, last_said, messages_of, parts_of, amounts, transaction_of, OfSome, keeping, length-take-le, take-append-drop, All-from_recursion, recursion_from_All, all_approved, StepKnowing, is_poll, is_repeated, sold_any, take_any, AllowsFacts, KnownFacts, asked_by, effect_of, ends_transactions, own_transaction, parts_by, taken_told, transaction_taken_by, Command, length-append}
 use Rattle.std.proofs.Common.{take, option_map}
-use Rattle.std.proofs.lemmas.List.{length-append, length-take-le, take-append-drop}
-use Rattle.std.proofs.lemmas.List.Elements.{All-from_recursion, recursion_from_All}
-use Rattle.mdb_msgs.specs.declared.command.Command.TheVariants as commands
 use Rattle.mdb_msgs.specs.declared.setups.Setups.{Setups}
-use Rattle.mdb_bus.specs.declared.act.Act.TheVariants as acts
 use Rattle.mdb_cashless.specs.declared.reader.messages.ReaderActivity.TheVariants.{VendDenied}
-use Rattle.mdb_cashless.specs.Reader.{all_approved, AckStep, AskStep, ReaderStep, ReplyStep, StepKnowing, before_messages, is_poll, is_repeated, machine, read, sold_any, take_any, taken}
-use Rattle.mdb_cashless.specs.ReaderFacts.{AllowsFacts, Facts, KnownFacts, asked_by, effect_of, ends_transactions, own_transaction, parts_by, taken_told, transaction_taken_by}
+use Rattle.mdb_cashless.specs.Reader.{AckStep, AskStep, ReaderStep, ReplyStep, before_messages, machine, read, taken}
+use Rattle.mdb_cashless.specs.ReaderFacts.{Facts}
 use Rattle.mdb_cashless.specs.ReaderValues.{facts_of}
 use Rattle.mdb_cashless.specs.MidSession.{AckWay, AreHeld, IsSettled, MayBeAgain, ReplyWay, SendsNone, Takes, TakesNone, TellsNone, facts_recorded}
 use Rattle.mdb_machine.specs.shared.ToldWays.{allows_if, allows_told, as_allowed, asked_so, empty_unless, keeps_if, kept_so, kept_told, list_told, none_told, not_not, told_by_none}
-use Rattle.mdb_cashless.proofs.Guesses.{held_before, repeats}
+use Rattle.mdb_cashless.proofs.Guesses.{held_before, is_itself, repeats}
 use Rattle.mdb_cashless.proofs.Knowing.{Same, asks_any, settled_steps}
 use Rattle.mdb_cashless.proofs.PowerOn.{last_taken_is}
-use Rattle.mdb_cashless.proofs.Sales.{SameFields, is_last, own_of_unit}
-use Rattle.mdb_cashless.proofs.Steps.{knowing_of}
+use Rattle.mdb_cashless.proofs.Sales.{is_last, own_of_unit}
+use Rattle.mdb_cashless.proofs.Steps.{as_found}
 
 -- no act tells something where it isn't told
 nothing : {X : Type 0} (No : Act → Type 0) (tells : Act → Option X) (so_far : List Act)
@@ -62,21 +51,20 @@ module _ (unit : ReaderUnit) (so_far : List Act) where
       by (Some t) is = inr (λ none. let told = none_taken.0 none in absurd cc)
 
 -- whether a transaction is repeated
-module _ (fields : SameFields) where
-  repeated_so : (last its : Option Transaction) (holds : Bool) → repeats last its holds ≡ true
-      → (t : Transaction) × (its ≡ Some t) × (holds ≡ true) × (last ≡ Some t)
-  repeated_so last its holds is =
-      let last_is = is_last fields last in grind (arith, common_steps, last_is)
+repeated_so : (last its : Option Transaction) (holds : Bool) → repeats last its holds ≡ true
+    → (t : Transaction) × (its ≡ Some t) × (holds ≡ true) × (last ≡ Some t)
+repeated_so last its holds is =
+    let last_is = is_last last in grind (arith, common_steps, last_is)
 
-  not_repeated : (last its : Option Transaction) (holds : Bool)
-      → ((t : Transaction) → its ≡ Some t → holds ≡ true → last ≢ Some t)
-      → repeats last its holds ≡ false
-  not_repeated last its holds other =
-      let last_is = is_last fields last in grind (arith, common_steps, last_is)
+not_repeated : (last its : Option Transaction) (holds : Bool)
+    → ((t : Transaction) → its ≡ Some t → holds ≡ true → last ≢ Some t)
+    → repeats last its holds ≡ false
+not_repeated last its holds other =
+    let last_is = is_last last in grind (arith, common_steps, last_is)
 
-  repeated : (t : Transaction) (its : Option Transaction) (holds : Bool)
-      → its ≡ Some t → holds ≡ true → repeats (Some t) its holds ≡ true
-  repeated t its holds is held = rw (is, held) ((fields t t).1 refl)
+repeated : (t : Transaction) (its : Option Transaction) (holds : Bool)
+    → its ≡ Some t → holds ≡ true → repeats (Some t) its holds ≡ true
+repeated t its holds is held = rw (is, held) (is_itself t)
 
 -- what is held of a reply's kept messages
 held_to : (unit : ReaderUnit) (so_far : List Act) (poll holds : Bool)
@@ -174,18 +162,15 @@ module _ (unit : ReaderUnit) (setups : Setups) (profile : Profile) (so_far : Lis
   pub sent : (command : ReaderCommand) (choice : Choice) (before after : ReaderState)
       (gains : Gains) → SendsNone unit so_far
       → (machine unit (Joined setups profile)).Step so_far
-      (acts.Ask (commands.Reader unit command)) choice before after gains
+      (Act.Ask (Command.Reader unit command)) choice before after gains
       ↔ AskStep (record base { asked = transaction_of command }) command before after gains
   sent command choice before after gains none =
       let its = transaction_of command in
       let kept = a_list before.holds in
       let may : Allows known.asked its = rw ((none_asked unit so_far).0 none) tt in
-      let way : AskStep (record base { asked = its }) command before after gains
-      ↔ StepKnowing unit known (acts.Ask (commands.Reader unit command)) choice before after gains =
-      knowing_of (rw (own_of_unit unit command) (asks_any (record base { asked = its }) kept.0
-      command before after gains refl
-      (guess_allowed before.holds its base.taken kept.0 may its_taken kept.1))) in
-      (way.1, way.0)
+      as_found (rw (own_of_unit unit command) (asks_any (record base { asked = its }) kept.0 command
+      before after gains refl
+      (guess_allowed before.holds its base.taken kept.0 may its_taken kept.1)))
 
   -- and each way is one after some guess of the last transaction, which may be; where no
   -- transaction is taken, any that may be does
@@ -216,208 +201,198 @@ module _ (unit : ReaderUnit) (setups : Setups) (profile : Profile) (so_far : Lis
       let some = a_list before in
       (some.0, (some.1, inr (none.0, none.1, rw none.2 none.1)))
 
-  module _ (fields : SameFields) where
-    -- a command that is taken after facts that may be is taken in one of the ways
-    takes_to : (facts : Facts) (holds : Bool) → AllowsFacts known holds facts
-        → (its : Option ReaderCommand) (before : ReaderState)
-        → Takes unit so_far base its before (take_any facts its before)
-        (sold_any facts its before)
-    takes_to facts holds allowed None before = inr (λ t is held told same. absurd cc, refl, refl)
-    takes_to facts holds allowed (Some command) before =
-        by (is_repeated facts command before.holds) refl
+  -- a command that is taken after facts that may be is taken in one of the ways
+  takes_to : (facts : Facts) (holds : Bool) → AllowsFacts known holds facts
+      → (its : Option ReaderCommand) (before : ReaderState)
+      → Takes unit so_far base its before (take_any facts its before)
+      (sold_any facts its before)
+  takes_to facts holds allowed None before = inr (λ t is held told same. absurd cc, refl, refl)
+  takes_to facts holds allowed (Some command) before =
+      by (is_repeated facts command before.holds) refl
+    where
+      its : Option Transaction
+      its = transaction_of command
+
+      by : (r : Bool) → is_repeated facts command before.holds ≡ r
+          → Takes unit so_far base (Some command) before (take_any facts (Some command) before)
+          (sold_any facts (Some command) before)
+      by true is =
+          let so = repeated_so facts.taken its before.holds is in
+          let again : MayBeAgain unit so_far (Some command) before.holds = record {
+            transaction = so.0;
+            is = so.1;
+            holds_some = so.2;
+            last = λ told. sym (taken_so facts.taken allowed.taken told) ∙ so.3;
+          } in
+          inl (again, rw is refl, rw is refl)
+      by false is = inr (
+        λ t is_own held told same.
+            let last = taken_so facts.taken allowed.taken told ∙ same in
+            let clash : true ≡ false = sym (repeated t its before.holds is_own held)
+            ∙ (sym (ap (λ l. repeats l its before.holds) last) ∙ is) in
+            absurd cc,
+        rw is refl,
+        rw (is, allowed.config, allowed.amount) refl,
+      )
+
+  -- a guess with which a command isn't repeated
+  another_guess : (its : Option Transaction) (holds : Bool) (guess : Option Transaction)
+      → Allows known.taken guess
+      → ((t : Transaction) → its ≡ Some t → holds ≡ true → (TakesNone unit so_far → ⊥)
+      → base.taken ≢ Some t)
+      → (t : Option Transaction) × Allows known.taken t
+      × (or_else its t ≡ or_else its guess) × (repeats t its holds ≡ false)
+  another_guess None holds guess may other =
+      (guess, may, refl, not_repeated guess None holds (λ t is. absurd cc))
+  another_guess (Some s) holds guess may other = elim (is_taken_known unit so_far) [
+    | inl none ↦ (
+      None,
+      taken_allows None (λ told. absurd (told none)),
+      refl,
+      not_repeated None (Some s) holds (λ t is held same. absurd cc),
+    )
+    | inr told ↦ (
+      base.taken,
+      its_taken,
+      refl,
+      not_repeated base.taken (Some s) holds (λ t is held. other t is held told),
+    )
+  ]
+
+  takes_from : (its : Option ReaderCommand) (before after : ReaderState) (sold : Ended)
+      (guess : Option Transaction) → Allows known.taken guess
+      → Takes unit so_far base its before after sold
+      → (t : Option Transaction) × TakesAfter its before after sold guess t
+  takes_from None before after sold guess may (inl again) = absurd cc
+  takes_from (Some command) before after sold guess may (inl again) =
+      let t = again.0.transaction in
+      let is = repeated t (transaction_of command) before.holds again.0.is
+      again.0.holds_some in (
+        Some t,
+        (
+          taken_allows (Some t) (λ told. sym (again.0.last told)),
+          rw again.0.is refl,
+          rw is (sym again.1),
+          rw is (sym again.2),
+        ),
+      )
+  takes_from None before after sold guess may (inr another) =
+      (guess, (may, refl, sym another.1, sym another.2))
+  takes_from (Some command) before after sold guess may (inr another) =
+      let one = another_guess (transaction_of command) before.holds guess may another.0 in
+      (one.0, (one.1, one.2, rw one.3 (sym another.1), rw one.3 (sym another.2)))
+
+  -- an ACK
+  module _ (command : ReaderCommand) (choice : Choice) (before after : ReaderState)
+      (gains : Gains) where
+    pub acked : (machine unit (Joined setups profile)).Step so_far
+        (Act.Ack (Command.Reader unit command)) choice before after gains
+        ↔ AckWay unit so_far base command choice before after gains
+    acked = as_found (rw (own_of_unit unit command) (
+      forth,
+      λ some. record {
+        middle = take_any some.0 (Some command) before;
+        sold = sold_any some.0 (Some command) before;
+        poll = some.2.poll;
+        takes = takes_to some.0 before.holds some.1 (Some command) before;
+        to = some.2.to;
+        gained = some.2.gained;
+      },
+    ))
       where
-        its : Option Transaction
-        its = transaction_of command
+        forth : AckWay unit so_far base command choice before after gains
+            → OfSome known before.holds (λ facts. AckStep facts command choice before after gains)
+        forth way =
+            let one = takes_from (Some command) before way.middle way.sold base.taken its_taken
+            way.takes in
+            let kept = a_list before.holds in (
+              keeping (record base { taken = one.0 }) kept.0,
+              guess_allowed before.holds base.asked one.0 kept.0 its_asked one.1.0 kept.1,
+              record {
+                poll = way.poll;
+                to = rw one.1.2 way.to;
+                gained = rw one.1.3 way.gained;
+              },
+            )
 
-        by : (r : Bool) → is_repeated facts command before.holds ≡ r
-            → Takes unit so_far base (Some command) before (take_any facts (Some command) before)
-            (sold_any facts (Some command) before)
-        by true is =
-            let so = repeated_so fields facts.taken its before.holds is in
-            let again : MayBeAgain unit so_far (Some command) before.holds = record {
-              transaction = so.0;
-              is = so.1;
-              holds_some = so.2;
-              last = λ told. sym (taken_so facts.taken allowed.taken told) ∙ so.3;
-            } in
-            inl (again, rw is refl, rw is refl)
-        by false is = inr (
-          λ t is_own held told same.
-              let last = taken_so facts.taken allowed.taken told ∙ same in
-              let clash : true ≡ false = sym (repeated fields t its before.holds is_own held)
-              ∙ (sym (ap (λ l. repeats l its before.holds) last) ∙ is) in
-              absurd cc,
-          rw is refl,
-          rw (is, allowed.config, allowed.amount) refl,
-        )
+  -- a reply
+  module _ (command : ReaderCommand) (reply : Reply) (choice : Choice)
+      (before after : ReaderState) (gains : Gains) where
+    abbrev Way : Type 0
+    Way = ReplyWay unit so_far base command reply choice before after gains
 
-    -- a guess with which a command isn't repeated
-    another_guess : (its : Option Transaction) (holds : Bool) (guess : Option Transaction)
-        → Allows known.taken guess
-        → ((t : Transaction) → its ≡ Some t → holds ≡ true → (TakesNone unit so_far → ⊥)
-        → base.taken ≢ Some t)
-        → (t : Option Transaction) × Allows known.taken t
-        × (or_else its t ≡ or_else its guess) × (repeats t its holds ≡ false)
-    another_guess None holds guess may other =
-        (guess, may, refl, not_repeated fields guess None holds (λ t is. absurd cc))
-    another_guess (Some s) holds guess may other = elim (is_taken_known unit so_far) [
-      | inl none ↦ (
-        None,
-        taken_allows None (λ told. absurd (told none)),
-        refl,
-        not_repeated fields None (Some s) holds (λ t is held same. absurd cc),
-      )
-      | inr told ↦ (
-        base.taken,
-        its_taken,
-        refl,
-        not_repeated fields base.taken (Some s) holds (λ t is held. other t is held told),
-      )
-    ]
+    abbrev Replies : Facts → Type 0
+    Replies facts = ReplyStep facts command reply choice before after gains
 
-    takes_from : (its : Option ReaderCommand) (before after : ReaderState) (sold : Ended)
-        (guess : Option Transaction) → Allows known.taken guess
-        → Takes unit so_far base its before after sold
-        → (t : Option Transaction) × TakesAfter its before after sold guess t
-    takes_from None before after sold guess may (inl again) = absurd cc
-    takes_from (Some command) before after sold guess may (inl again) =
-        let t = again.0.transaction in
-        let is = repeated fields t (transaction_of command) before.holds again.0.is
-        again.0.holds_some in (
-          Some t,
-          (
-            taken_allows (Some t) (λ told. sym (again.0.last told)),
-            rw again.0.is refl,
-            rw is (sym again.1),
-            rw is (sym again.2),
-          ),
-        )
-    takes_from None before after sold guess may (inr another) =
-        (guess, (may, refl, sym another.1, sym another.2))
-    takes_from (Some command) before after sold guess may (inr another) =
-        let one = another_guess (transaction_of command) before.holds guess may another.0 in
-        (one.0, (one.1, one.2, rw one.3 (sym another.1), rw one.3 (sym another.2)))
+    abbrev kept : List ReaderActivity
+    kept = kept_of (parts_of reply)
 
-    -- an ACK
-    module _ (command : ReaderCommand) (choice : Choice) (before after : ReaderState)
-        (gains : Gains) where
-      pub acked : (machine unit (Joined setups profile)).Step so_far
-          (acts.Ack (commands.Reader unit command)) choice before after gains
-          ↔ AckWay unit so_far base command choice before after gains
-      acked = (way.1, way.0)
-        where
-          forth : AckWay unit so_far base command choice before after gains
-              → OfSome known before.holds (λ facts. AckStep facts command choice before after gains)
-          forth way =
-              let one = takes_from (Some command) before way.middle way.sold base.taken its_taken
-              way.takes in
-              let kept = a_list before.holds in (
-                keeping (record base { taken = one.0 }) kept.0,
-                guess_allowed before.holds base.asked one.0 kept.0 its_asked one.1.0 kept.1,
-                record {
-                  poll = way.poll;
-                  to = rw one.1.2 way.to;
-                  gained = rw one.1.3 way.gained;
-                },
-              )
+    to_way : OfSome known before.holds Replies → Way
+    to_way some =
+        let facts = some.0 in
+        let may = some.1 in
+        let step = some.2 in
+        let middle = before_messages facts command reply choice before in
+        let is = held_to unit so_far (is_poll command) middle.holds facts.past.last_kept kept
+        step.news
+        (λ holds. some_kept before.holds facts.past.last_kept may.past.last_kept
+        (held_before facts command reply choice before holds))
+        (same_kept before.holds facts.past.last_kept may.past.last_kept) step.has_news.new in
+        record {
+          middle = middle;
+          sold = sold_any facts (taken command reply) (read choice before);
+          count = is.0;
+          last = facts.taken;
+          may_be_read = step.has_news.read;
+          takes = takes_to facts before.holds may (taken command reply) (read choice before);
+          held = is.1.0;
+          reset = rw (may.past.reset_owed ∙ same_owed) at step.has_news.reset;
+          known = taken_so facts.taken may.taken;
+          told = rw is.1.1 at step.told;
+          view = step.view;
+          holds = step.holds;
+          gained = (rw is.1.1 at step.gained)
+              ∙ ap (λ c. device_gains (in_slots (amounts (all_approved
+              (or_else (last_said config_in (messages_of reply)) c) (drop is.0 kept))
+              (sold_any facts (taken command reply) (read choice before))))) may.config;
+        }
 
-          way : AckWay unit so_far base command choice before after gains
-              ↔ StepKnowing unit known (acts.Ack (commands.Reader unit command)) choice before after
-              gains
-          way = knowing_of (rw (own_of_unit unit command) (
-            forth,
-            λ some. record {
-              middle = take_any some.0 (Some command) before;
-              sold = sold_any some.0 (Some command) before;
-              poll = some.2.poll;
-              takes = takes_to some.0 before.holds some.1 (Some command) before;
-              to = some.2.to;
-              gained = some.2.gained;
-            },
-          ))
-
-    -- a reply
-    module _ (command : ReaderCommand) (reply : Reply) (choice : Choice)
-        (before after : ReaderState) (gains : Gains) where
-      abbrev Way : Type 0
-      Way = ReplyWay unit so_far base command reply choice before after gains
-
-      abbrev Replies : Facts → Type 0
-      Replies facts = ReplyStep facts command reply choice before after gains
-
-      abbrev kept : List ReaderActivity
-      kept = kept_of (parts_of reply)
-
-      to_way : OfSome known before.holds Replies → Way
-      to_way some =
-          let facts = some.0 in
-          let may = some.1 in
-          let step = some.2 in
-          let middle = before_messages facts command reply choice before in
-          let is = held_to unit so_far (is_poll command) middle.holds facts.past.last_kept kept
-          step.news
-          (λ holds. some_kept before.holds facts.past.last_kept may.past.last_kept
-          (held_before facts command reply choice before holds))
-          (same_kept before.holds facts.past.last_kept may.past.last_kept) step.has_news.new in
+    from_way : Way → OfSome known before.holds Replies
+    from_way way =
+        let one = takes_from (taken command reply) (read choice before) way.middle way.sold
+        way.last (taken_allows way.last way.known) way.takes in
+        let list = held_from (is_poll command) way.middle.holds before.holds kept way.count
+        way.held in (
+          keeping (record base { taken = one.0 }) list.0,
+          guess_allowed before.holds base.asked one.0 list.0 its_asked one.1.0 list.1.0,
           record {
-            middle = middle;
-            sold = sold_any facts (taken command reply) (read choice before);
-            count = is.0;
-            last = facts.taken;
-            may_be_read = step.has_news.read;
-            takes = takes_to facts before.holds may (taken command reply) (read choice before);
-            held = is.1.0;
-            reset = rw (may.past.reset_owed ∙ same_owed) at step.has_news.reset;
-            known = taken_so facts.taken may.taken;
-            told = rw is.1.1 at step.told;
-            view = step.view;
-            holds = step.holds;
-            gained = (rw is.1.1 at step.gained)
-                ∙ ap (λ c. device_gains (in_slots (amounts (all_approved
-                (or_else (last_said config_in (messages_of reply)) c) (drop is.0 kept))
-                (sold_any facts (taken command reply) (read choice before))))) may.config;
-          }
+            news = drop way.count kept;
+            has_news = record {
+              read = way.may_be_read;
+              reset = way.reset;
+              new = rw one.1.2 list.1.1;
+            };
+            told = rw (one.1.1, one.1.2) way.told;
+            view = way.view;
+            holds = rw one.1.2 way.holds;
+            gained = rw one.1.3 way.gained;
+          },
+        )
 
-      from_way : Way → OfSome known before.holds Replies
-      from_way way =
-          let one = takes_from (taken command reply) (read choice before) way.middle way.sold
-          way.last (taken_allows way.last way.known) way.takes in
-          let list = held_from (is_poll command) way.middle.holds before.holds kept way.count
-          way.held in (
-            keeping (record base { taken = one.0 }) list.0,
-            guess_allowed before.holds base.asked one.0 list.0 its_asked one.1.0 list.1.0,
-            record {
-              news = drop way.count kept;
-              has_news = record {
-                read = way.may_be_read;
-                reset = way.reset;
-                new = rw one.1.2 list.1.1;
-              };
-              told = rw (one.1.1, one.1.2) way.told;
-              view = way.view;
-              holds = rw one.1.2 way.holds;
-              gained = rw one.1.3 way.gained;
-            },
-          )
-
-      pub replied : (machine unit (Joined setups profile)).Step so_far
-          (acts.Reply (commands.Reader unit command) reply) choice before after gains ↔ Way
-      replied =
-          let way : Way ↔ StepKnowing unit known (acts.Reply (commands.Reader unit command) reply)
-          choice before after gains =
-          knowing_of (rw (own_of_unit unit command) (from_way, to_way)) in
-          (way.1, way.0)
+    pub replied : (machine unit (Joined setups profile)).Step so_far
+        (Act.Reply (Command.Reader unit command) reply) choice before after gains ↔ Way
+    replied = as_found (rw (own_of_unit unit command) (from_way, to_way))
 
   -- any other act leads where it does after the facts that were told
   settled_same : (act : Act) → IsSettled unit so_far act → (holds : Bool) (facts : Facts)
       → AllowsFacts known holds facts → Same unit base facts act
-  settled_same (acts.Ask command) (inl none) holds facts may =
+  settled_same (Act.Ask command) (inl none) holds facts may =
       λ its is. inr (sym (ap own_transaction is) ∙ none)
-  settled_same (acts.Ask command) (inr sends) holds facts may = λ its is.
+  settled_same (Act.Ask command) (inr sends) holds facts may = λ its is.
       inl (asked_so setups profile (last_told (asked_by unit) so_far) facts.asked may.asked
       (λ none. sends ((none_asked unit so_far).1 none)))
-  settled_same (acts.Ack command) none holds facts may = λ its is. cc
-  settled_same (acts.Reply command reply) none holds facts may = λ its is. cc
+  settled_same (Act.Ack command) none holds facts may = λ its is. cc
+  settled_same (Act.Reply command reply) none holds facts may = λ its is. cc
   settled_same act settled holds facts may = tt
 
   pub settled_way : (act : Act) (choice : Choice) (before after : ReaderState) (gains : Gains)

@@ -1,13 +1,9 @@
 -- From power-on all is known of a reader.
-use Rattle.mdb_cashless.proofs.Words
-use Words.{and-true, common_steps, arith, ◌≡◌, ◌∙◌, ◌↔◌, Bool, List, [], ◌∷◌, Option, Some, None}
-use Words.{refl, ap, sym, unwrap_or, if◌then◌else◌, ReaderUnit, Act, PowerOn, Profile, Is, known_by}
-use Words.{last_list, last_told, or_else, Choice, Gains, ReaderState, known_of, Transaction}
+use Rattle.mdb_cashless.proofs.Words.{and-true, common_steps, arith, ◌≡◌, ◌∙◌, ◌↔◌, Bool, List, [], ◌∷◌, Option, Some, None, refl, ap, sym, unwrap_or, if◌then◌else◌, ReaderUnit, Act, PowerOn, Profile, Is, known_by, last_list, last_told, or_else, Choice, Gains, ReaderState, known_of, Transaction, same_past, StepKnowing, AllowsFacts, KnownFacts, asked_by, config_by, ends_transactions, parts_by, taken_told, transaction_taken_by, last_taken}
 use Rattle.std.proofs.Common.{option_map}
-use Rattle.mdb_machine.specs.shared.PastWays.{same_past}
-use Rattle.mdb_cashless.specs.Reader.{ReaderStep, StepKnowing}
-use Rattle.mdb_cashless.specs.ReaderFacts.{AllowsFacts, Facts, KnownFacts, asked_by, config_by, ends_transactions, parts_by, taken_told, transaction_taken_by}
-use Rattle.mdb_cashless.specs.ReaderValues.{facts_of, last_taken}
+use Rattle.mdb_cashless.specs.Reader.{ReaderStep}
+use Rattle.mdb_cashless.specs.ReaderFacts.{Facts}
+use Rattle.mdb_cashless.specs.ReaderValues.{facts_of}
 use Rattle.mdb_cashless.proofs.Said.{or_none}
 
 -- all that acts tell is known

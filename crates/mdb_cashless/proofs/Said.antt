@@ -1,13 +1,6 @@
 -- What messages of a reader say, one after another.
-use Rattle.mdb_cashless.proofs.Words.{common_steps, arith, ◌≡◌, ◌∙◌, ◌||◌, ◌++◌, Bool, List, []}
-use Rattle.mdb_cashless.proofs.Words.{◌∷◌, Option, None, refl, ap, sym, map, list_any, option_or}
-use Rattle.mdb_cashless.proofs.Words.{ReaderMsg, Part, IsSummary, or_else, ReaderActivity}
-use Rattle.mdb_cashless.proofs.Words.{amount_in, config_in, last_said, part_of, IsSaid}
-use Rattle.std.proofs.lemmas.List.{map-append}
-use Rattle.std.proofs.lemmas.List.Folds.{list_any-append}
-use Rattle.mdb_machine.specs.Past.{is_out_of_sequence}
+use Rattle.mdb_cashless.proofs.Words.{common_steps, arith, ◌≡◌, ◌∙◌, ◌||◌, ◌++◌, Bool, List, [], ◌∷◌, Option, None, refl, ap, sym, map, list_any, option_or, ReaderMsg, Part, IsSummary, or_else, ReaderActivity, amount_in, config_in, last_said, part_of, IsSaid, map-append, list_any-append, is_out_of_sequence, begins_session}
 use Rattle.mdb_cashless.specs.declared.reader.messages.Said.{Said}
-use Rattle.mdb_cashless.specs.ReaderMessages.{begins_session}
 
 -- two words for one thing
 pub or_is : {X : Type 0} (one other : Option X) → option_or one other ≡ or_else one other

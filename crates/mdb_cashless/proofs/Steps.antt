@@ -1,12 +1,8 @@
 -- What the steps of a reader come to, for the functions of its code.
-use Rattle.mdb_cashless.proofs.Words.{◌≡◌, ◌∙◌, ◌↔◌, Bool, true, false, not, Some, refl, sym}
-use Rattle.mdb_cashless.proofs.Words.{ReaderCommand, ReaderUnit, Act, Choice, Lost, Gains, Stays}
-use Rattle.mdb_cashless.proofs.Words.{ReaderState, View, view_heard, no_end, OfSome}
+use Rattle.mdb_cashless.proofs.Words.{◌≡◌, ◌∙◌, ◌↔◌, Bool, true, false, not, Some, refl, sym, ReaderCommand, ReaderUnit, Act, Choice, Lost, Gains, Stays, ReaderState, View, view_heard, no_end, OfSome, StepKnowing, asked, sold_to, KnownFacts, changes_view}
 use Rattle.std.specs.Bool.{OnFalse, OnTrue}
-use Rattle.mdb_msgs.specs.declared.command.ReaderCommand.TheVariants as reader
-use Rattle.mdb_cashless.specs.Reader.{AckStep, AskStep, ReaderStep, StepKnowing, asked, sold_to, take}
-use Rattle.mdb_cashless.specs.ReaderFacts.{Facts, KnownFacts}
-use Rattle.mdb_cashless.specs.ReaderValues.{changes_view}
+use Rattle.mdb_cashless.specs.Reader.{AckStep, AskStep, ReaderStep, take}
+use Rattle.mdb_cashless.specs.ReaderFacts.{Facts}
 
 -- states with the same parts
 pub same_state : {one other : ReaderState} → one.device ≡ other.device → one.view ≡ other.view
@@ -26,7 +22,7 @@ module _ (facts : Facts) (before after : ReaderState) (gains : Gains) where
   -- a command that leaves the view
   leaves : (command : ReaderCommand) (view : View) → changes_view command ≡ false
       → (asked facts command view ≡ Some view) × (sold_to facts command view ≡ no_end)
-  leaves reader.Reset view still = absurd cc
+  leaves ReaderCommand.Reset view still = absurd cc
   leaves command view still = (cc, cc)
 
   -- asking it changes nothing
@@ -48,13 +44,14 @@ module _ (facts : Facts) (before after : ReaderState) (gains : Gains) where
 
   -- a POLL that is acknowledged while nothing is held changes nothing
   polled : (choice : Choice) → before.holds ≡ false
-      → record (take facts reader.Poll before) { view = view_heard choice reader.Poll before.view }
-      ≡ before
+      → record (take facts ReaderCommand.Poll before) {
+        view = view_heard choice ReaderCommand.Poll before.view;
+      } ≡ before
   polled Lost free = rw free refl
   polled choice free = rw free refl
 
   pub poll_rests : (choice : Choice) → before.holds ≡ false
-      → AckStep facts reader.Poll choice before after gains ↔ Stays before after gains
+      → AckStep facts ReaderCommand.Poll choice before after gains ↔ Stays before after gains
   poll_rests choice free = (
     λ step. (step.to ∙ polled choice free, rw free at step.gained),
     λ stays. record {
@@ -74,3 +71,10 @@ knowing_of some = (
   λ found. let is = some.0 found in record { facts = is.0; allowed = is.1; step = is.2 },
   λ step. some.1 (step.facts, step.allowed, step.step),
 )
+
+pub as_found : {unit : ReaderUnit} {known : KnownFacts} {act : Act} {choice : Choice}
+    {before after : ReaderState} {gains : Gains} {Found : Type 0}
+    → Found ↔ OfSome known before.holds (λ facts. ReaderStep unit facts act choice before after
+    gains)
+    → StepKnowing unit known act choice before after gains ↔ Found
+as_found some = let way = knowing_of some in (way.1, way.0)

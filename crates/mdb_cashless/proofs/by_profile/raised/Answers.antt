@@ -1,9 +1,5 @@
-use Rattle.std.proofs.Common.{◌≡◌, ◌+◌, [], ◌∙◌, ap, arith, length, subst, take}
-use Rattle.std.proofs.Math.Seq.{take-length}
-use Rattle.std.proofs.lemmas.List.{take_more}
-use Rattle.std.proofs.lemmas.List.Elements.{Contains-get_or}
-use Rattle.mdb_cashless.specs.declared.reader.state.TheConstants.{READER_STATES}
-use Rattle.mdb_machine.proofs.StepCodes.{AreCoded, coded_more}
+use Rattle.mdb_cashless.proofs.Words.{◌≡◌, ◌+◌, [], ◌∙◌, ap, arith, length, subst, take-length, take_more, Contains-get_or, READER_STATES, AreCoded, coded_more}
+use Rattle.std.proofs.Common.{take}
 use Rattle.mdb_cashless.proofs.by_profile.raised.Goals as goal
 
 pub overflow_add-code : goal.overflow_add-code

@@ -5,12 +5,10 @@ pub returns-clause-sent : goal.returns-clause-sent
 returns-clause-sent c = sent
 
 pub returns-clause-acked : goal.returns-clause-acked
-returns-clause-acked c = λ unit setups profile so_far.
-    acked unit setups profile so_far c.transactions_with_the_same_fields_are_the_same.ensures
+returns-clause-acked c = acked
 
 pub returns-clause-replied : goal.returns-clause-replied
-returns-clause-replied c = λ unit setups profile so_far.
-    replied unit setups profile so_far c.transactions_with_the_same_fields_are_the_same.ensures
+returns-clause-replied c = replied
 
 pub returns-clause-settled : goal.returns-clause-settled
 returns-clause-settled c = settled_way

@@ -1,4 +1,4 @@
-use Rattle.std.proofs.Common.{inl, inr}
+use Rattle.mdb_cashless.proofs.Words.{inl, inr}
 use Rattle.mdb_cashless.proofs.ApprovedSales.{approved}
 use Rattle.mdb_cashless.proofs.laws.sales_of_the_extended_profile_are_approved.Goals as goal
 

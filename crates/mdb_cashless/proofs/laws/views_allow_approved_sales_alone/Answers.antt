@@ -2,4 +2,4 @@ use Rattle.mdb_cashless.proofs.Sales.{sales_may_stand}
 use Rattle.mdb_cashless.proofs.laws.views_allow_approved_sales_alone.Goals as goal
 
 pub returns : goal.returns
-returns c = sales_may_stand c.transactions_with_the_same_fields_are_the_same.ensures
+returns c = sales_may_stand

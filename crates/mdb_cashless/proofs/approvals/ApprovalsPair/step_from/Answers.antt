@@ -1,4 +1,4 @@
-use Rattle.std.proofs.Common.{sym}
+use Rattle.mdb_cashless.proofs.Words.{sym}
 use Rattle.mdb_cashless.proofs.approvals.ApprovalsPair.step_from.Goals as goal
 
 pub returns-clause-step : goal.returns-clause-step

@@ -1,6 +1,4 @@
-use Rattle.mdb_cashless.proofs.Words.{inl, inr, subst, Contains-push_cases, Gains, IsSmall}
-use Rattle.mdb_cashless.proofs.Words.{ApprovalState}
-use Rattle.std.specs.List.{Contains}
+use Rattle.mdb_cashless.proofs.Words.{inl, inr, subst, Contains-push_cases, Gains, IsSmall, ApprovalState, Contains}
 use Rattle.mdb_cashless.proofs.approvals.ways.add_step.Goals as goal
 
 pub returns-in-Some-clause-small : goal.returns-in-Some-clause-small

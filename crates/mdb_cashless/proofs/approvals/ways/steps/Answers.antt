@@ -1,4 +1,4 @@
-use Rattle.std.proofs.Common.{◌∙◌, ap, length, refl, sym}
+use Rattle.mdb_cashless.proofs.Words.{◌∙◌, ap, length, refl, sym}
 use Rattle.mdb_cashless.specs.ExtendedReader.{ReaderStep}
 use Rattle.mdb_cashless.specs.inner.Approvals.{facts_in}
 use Rattle.mdb_cashless.proofs.ApprovalWays.{three_added, ways_of}

@@ -1,5 +1,5 @@
 -- A choice is heeded where the machine of the profile heeds it.
-use Rattle.std.proofs.lemmas.Bool.{OnFalse_at, OnFalse_from}
+use Rattle.mdb_cashless.proofs.Words.{OnFalse_at, OnFalse_from}
 use Rattle.mdb_cashless.proofs.ByProfile.{plain_by}
 use Rattle.mdb_cashless.proofs.by_profile.ReaderByProfilePair.heeds_choice.Goals as goal
 

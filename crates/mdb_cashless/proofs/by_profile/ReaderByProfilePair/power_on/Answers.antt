@@ -1,8 +1,10 @@
-use Rattle.mdb_cashless.proofs.ByProfile.{alone_base, alone_extended}
+use Rattle.mdb_cashless.proofs.Words.{base_state, base_part, extended_state, extended_part}
+use Rattle.mdb_cashless.proofs.ByProfile.{alone}
 use Rattle.mdb_cashless.proofs.by_profile.ReaderByProfilePair.power_on.Goals as goal
 
 pub returns-in-Base : goal.returns-in-Base
-returns-in-Base g c = rw c.in-Base.is (alone_base _ c.power_on.ensures)
+returns-in-Base g c = rw c.in-Base.is (alone base_state base_part _ c.power_on.ensures)
 
 pub returns-in-Extended : goal.returns-in-Extended
-returns-in-Extended g c = rw c.in-Extended.is (alone_extended _ c.power_on-in-Extended.ensures)
+returns-in-Extended g c = rw c.in-Extended.is
+    (alone extended_state extended_part _ c.power_on-in-Extended.ensures)

@@ -1,5 +1,5 @@
 -- A state rests where it does in its own machine.
-use Rattle.std.proofs.lemmas.Bool.{OnTrue_at, OnTrue_from}
+use Rattle.mdb_cashless.proofs.Words.{OnTrue_at, OnTrue_from}
 use Rattle.mdb_cashless.proofs.ByProfile.{stays_by}
 use Rattle.mdb_cashless.proofs.by_profile.ReaderByProfilePair.rests.Goals as goal
 

@@ -1,5 +1,5 @@
 -- A step is that of the machine of the profile, or from a state of the other one.
-use Rattle.std.proofs.Common.{None, Some, refl}
+use Rattle.mdb_cashless.proofs.Words.{None, Some, refl}
 use Rattle.mdb_cashless.proofs.ByProfile.{IsStray, base_step, extended_step, stray_step}
 use Rattle.mdb_cashless.proofs.by_profile.ReaderByProfilePair.step_from.Goals as goal
 use Rattle.mdb_cashless.proofs.by_profile.ReaderByProfilePair.step_from.Goals.{in_default-via-in-Base+in_default, in_default-via-in-Extended+in_default}

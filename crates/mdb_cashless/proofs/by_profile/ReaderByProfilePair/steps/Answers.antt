@@ -1,7 +1,5 @@
 -- The steps by codes are those of the machine of the profile, and of a state of the other one.
-use Rattle.mdb_cashless.proofs.Words.{◌≡◌, ◌+◌, ◌-◌, ◌<◌, ◌≤◌, None, arith, refl, StateByProfile}
-use Rattle.mdb_cashless.proofs.Words.{Base, Extended, READER_STATES, base_state, extended_state}
-use Rattle.mdb_cashless.proofs.Words.{unit_of, base_part, extended_part}
+use Rattle.mdb_cashless.proofs.Words.{◌≡◌, ◌+◌, ◌-◌, ◌<◌, ◌≤◌, None, arith, refl, StateByProfile, Base, Extended, READER_STATES, base_state, extended_state, unit_of, base_part, extended_part}
 use Rattle.mdb_cashless.specs.ExtendedReader as extended
 use Rattle.mdb_cashless.specs.Reader as base
 use Rattle.mdb_cashless.specs.shared.ApprovalCodes as extended_codes

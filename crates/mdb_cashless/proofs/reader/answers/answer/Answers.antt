@@ -1,5 +1,5 @@
 -- A reply is the one step that tells what the code has found in it, or none.
-use Rattle.std.proofs.Common.{◌∙◌, sym}
+use Rattle.mdb_cashless.proofs.Words.{◌∙◌, sym}
 use Rattle.mdb_cashless.proofs.Answered.{looked_by, told, untold}
 use Rattle.mdb_cashless.proofs.Said.{or_is}
 use Rattle.mdb_cashless.proofs.reader.answers.answer.Goals as goal

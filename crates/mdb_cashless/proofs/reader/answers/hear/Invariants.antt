@@ -1,5 +1,4 @@
-use Rattle.mdb_cashless.proofs.Words.{◌≡◌, ◌+◌, ◌*◌, ◌≤◌, ◌++◌, ◌||◌, length, all_heard, keeps_some}
-use Rattle.mdb_cashless.specs.Reader.{all_approved_to}
+use Rattle.mdb_cashless.proofs.Words.{◌≡◌, ◌+◌, ◌*◌, ◌≤◌, ◌++◌, ◌||◌, length, all_heard, keeps_some, all_approved_to}
 use Rattle.mdb_cashless.proofs.reader.answers.hear.Given as goal
 
 abbrev pub invariant-loop-message : goal.invariant-loop-message

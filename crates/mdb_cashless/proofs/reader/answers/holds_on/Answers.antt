@@ -1,4 +1,4 @@
-use Rattle.std.proofs.Common.{◌&&◌, ◌∙◌, ap, not}
+use Rattle.mdb_cashless.proofs.Words.{◌&&◌, ◌∙◌, ap, not}
 use Rattle.mdb_cashless.proofs.KeptAcked.{heard_is}
 use Rattle.mdb_cashless.proofs.reader.answers.holds_on.Goals as goal
 

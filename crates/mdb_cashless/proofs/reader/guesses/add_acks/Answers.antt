@@ -21,8 +21,7 @@ returns-clause-steps c =
     (adds_two _ _ _ (Taking None) (Taking same)
     (adds_one _ _ _ _ first c.add_step.ensures.items)
     (adds_one _ _ _ _ second c.add_step-2.ensures.items))
-    (λ after gains. acks_some c.args.known.now c.args.before after gains c.args.command
-    c.args.choice c.requires.unknown)
+    (λ after gains. acks_some c.args.known.now _ after gains _ _ c.requires.unknown)
 
 pub returns-clause-small : goal.returns-clause-small
 returns-clause-small c = small_one _ _ _

@@ -2,7 +2,7 @@
 use Rattle.mdb_cashless.specs.Reader as spec
 use Rattle.mdb_cashless.specs.ReaderFacts.{Facts}
 use Rattle.mdb_cashless.specs.ReaderValues.{facts_in}
-use Rattle.mdb_cashless.specs.Transactions.{transaction_of}
+use Rattle.mdb_cashless.proofs.Words.{transaction_of}
 use Rattle.mdb_cashless.proofs.Knowing.{asks_some}
 use Rattle.mdb_cashless.proofs.Listed.{adds_first, adds_one, none_small, small_one}
 use Rattle.mdb_cashless.proofs.reader.guesses.add_asks.Goals as goal
@@ -15,8 +15,7 @@ returns-clause-steps c =
     let step = rw (c.asking-facts.ensures, c.transaction_of.ensures) at c.ask.ensures.step in
     adds_first _ _ (spec.AskStep facts c.args.command c.args.before) _ c.requires.room
     (adds_one _ _ _ _ step c.add_step.ensures.items)
-    (λ after gains. asks_some c.args.known.now c.args.before after gains c.args.command
-    c.requires.unknown)
+    (λ after gains. asks_some c.args.known.now _ after gains _ c.requires.unknown)
 
 pub returns-clause-small : goal.returns-clause-small
 returns-clause-small c = small_one _ _ _ (none_small _ c.requires.room) c.ask.ensures.small

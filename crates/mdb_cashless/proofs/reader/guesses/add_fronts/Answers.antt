@@ -1,13 +1,12 @@
 -- A reply where the last kept list isn't known: it is a front of the reply's, or none of them.
-use Rattle.std.proofs.Common.{◌∙◌, arith}
+use Rattle.mdb_cashless.proofs.Words.{◌∙◌, arith}
 use Rattle.mdb_cashless.specs.ReaderValues.{facts_in}
 use Rattle.mdb_cashless.proofs.Listed.{adds_one, fronts_found, no_front, one_front, small_one}
 use Rattle.mdb_cashless.proofs.reader.guesses.add_fronts.Goals as goal
 
 pub loop-last-init : goal.loop-last-init
 loop-last-init c = record {
-  items = no_front (facts_in c.args.facts.now) c.args.command c.args.reply.now c.args.choice
-      c.args.before _ c.as_slice-kept.result.now;
+  items = no_front (facts_in c.args.facts.now) _ _ _ _ _ c.as_slice-kept.result.now;
   room = omega arith;
   small = λ small. small;
 }
@@ -19,9 +18,8 @@ pub loop-last-preserved : goal.loop-last-preserved
 loop-last-preserved c =
     let step = rw c.keeping-facts.ensures at c.answer-in-loop-last.ensures.step in
     record {
-      items = one_front (facts_in c.args.facts.now) c.args.command c.args.reply.now c.args.choice
-          c.args.before _ _ _ c.as_slice-kept.result.now c.loop-last.last
-          c.loop-last.invariant.items
+      items = one_front (facts_in c.args.facts.now) _ _ _ _ _ _ _ c.as_slice-kept.result.now
+          c.loop-last.last c.loop-last.invariant.items
           (adds_one _ _ _ _ step c.add_step-in-loop-last.ensures.items);
       room = omega (arith, c.loop-last.invariant.room, c.add_step-in-loop-last.ensures.room);
       small = λ small. small_one _ _ _ (c.loop-last.invariant.small small)
@@ -32,8 +30,8 @@ pub returns-clause-items : goal.returns-clause-items
 returns-clause-items c =
     let said = rw c.messages_of.ensures.messages at c.read.ensures in
     let step = rw c.keeping-other.ensures at c.answer.ensures.step in
-    fronts_found (facts_in c.args.facts.now) c.args.command c.args.reply.now c.args.choice
-    c.args.before _ _ _ c.as_slice-kept.result.now c.loop-last.last
+    fronts_found (facts_in c.args.facts.now) _ _ _ _ _ _ _ c.as_slice-kept.result.now
+    c.loop-last.last
     (c.as_slice-kept.ensures.value ∙ said.summary_is.kept_is)
     (omega (arith, c.loop-last.auto.last-end, c.loop-last-test.false))
     (adds_one _ _ _ _ step c.add_step.ensures.items) c.loop-last.invariant.items

@@ -8,8 +8,8 @@ pub returns-then-knows_kept-clause-items : goal.returns-then-knows_kept-clause-i
 returns-then-knows_kept-clause-items c = adds_as _ _ _ _
     (adds_one _ _ (spec.ReplyStep (facts_in c.args.facts.now) c.args.command c.args.reply.now
     c.args.choice c.args.before) _ c.answer.ensures.step c.add_step.ensures.items)
-    (λ after gains. keeps_known (facts_in c.args.facts.now) c.args.command c.args.reply.now
-    c.args.choice c.args.before c.args.knows_kept after gains c.if-knows_kept.true)
+    (λ after gains. keeps_known (facts_in c.args.facts.now) _ _ _ _ c.args.knows_kept after gains
+    c.if-knows_kept.true)
 
 pub returns-then-knows_kept-clause-small : goal.returns-then-knows_kept-clause-small
 returns-then-knows_kept-clause-small c small =

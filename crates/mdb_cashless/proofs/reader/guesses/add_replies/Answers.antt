@@ -1,8 +1,7 @@
 -- A reply where it isn't known which transaction the reader took last, or where it is.
-use Rattle.mdb_cashless.proofs.Words.{◌∙◌, ◌⊎◌, Option, None, Some, ap, subst, if_known}
-use Rattle.mdb_cashless.proofs.Words.{Transaction}
+use Rattle.mdb_cashless.proofs.Words.{◌∙◌, ◌⊎◌, Option, None, Some, ap, subst, if_known, Transaction, own_transaction}
 use Rattle.mdb_cashless.specs.Reader as spec
-use Rattle.mdb_cashless.specs.ReaderFacts.{Facts, own_transaction}
+use Rattle.mdb_cashless.specs.ReaderFacts.{Facts}
 use Rattle.mdb_cashless.specs.ReaderValues.{facts_in}
 use Rattle.mdb_cashless.specs.inner.Guesses as guesses
 use Rattle.mdb_cashless.proofs.Knowing.{replies_known, replies_some}
@@ -11,8 +10,7 @@ use Rattle.mdb_cashless.proofs.reader.guesses.add_replies.Goals as goal
 
 pub returns-then-known-clause-steps : goal.returns-then-known-clause-steps
 returns-then-known-clause-steps c = adds_first _ _ _ _ c.requires c.add_keeping.ensures.items
-    (λ after gains. replies_known c.args.known.now c.args.before after gains c.args.command
-    c.args.reply.now c.args.choice c.if-known.true)
+    (λ after gains. replies_known c.args.known.now _ after gains _ _ _ c.if-known.true)
 
 pub returns-then-known-clause-small : goal.returns-then-known-clause-small
 returns-then-known-clause-small c = c.add_keeping.ensures.small (none_small _ c.requires)
@@ -36,8 +34,7 @@ returns-clause-steps c =
     (subst (λ (f : Facts). Adds mid new (Keeps f)) (c.taking-same.ensures
     ∙ ap (λ t. taking (Some t)) (c.again.ensures ∙ ap guesses.again c.taken_by.ensures))
     c.add_keeping-3.ensures.items))
-    (λ after gains. replies_some known c.args.before after gains c.args.command c.args.reply.now
-    c.args.choice c.if-known.false)
+    (λ after gains. replies_some known _ after gains _ _ _ c.if-known.false)
 
 pub returns-clause-small : goal.returns-clause-small
 returns-clause-small c = c.add_keeping-3.ensures.small

@@ -1,5 +1,5 @@
 -- The steps are the one by a settled act, or those of the guesses.
-use Rattle.std.proofs.Common.{◌∙◌, ap, length, sym}
+use Rattle.mdb_cashless.proofs.Words.{◌∙◌, ap, length, sym}
 use Rattle.mdb_cashless.specs.Reader as spec
 use Rattle.mdb_cashless.specs.ReaderValues.{known_in}
 use Rattle.mdb_cashless.proofs.Listed.{adds_first, adds_one, none_small, small_one}

@@ -1,4 +1,4 @@
-use Rattle.std.proofs.Common.{◌∙◌, sym}
+use Rattle.mdb_cashless.proofs.Words.{◌∙◌, sym}
 use Rattle.mdb_cashless.proofs.KnownAfter.{answered_told}
 use Rattle.mdb_cashless.proofs.reader.known.tells_taken.Goals as goal
 

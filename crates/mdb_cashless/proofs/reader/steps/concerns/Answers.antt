@@ -1,5 +1,5 @@
 -- An ask concerns a reader where its command may change the view.
-use Rattle.std.proofs.Common.{◌∙◌, sym}
+use Rattle.mdb_cashless.proofs.Words.{◌∙◌, sym}
 use Rattle.mdb_cashless.proofs.Steps.{ask_stays, denied}
 use Rattle.mdb_cashless.proofs.reader.steps.concerns.Goals as goal
 

@@ -1,15 +1,12 @@
 -- A choice is heeded where it may lead elsewhere than the plain one.
-use Rattle.mdb_cashless.proofs.Words.{false, sym, ◌∙◌, ◌≡◌, rules, messages_of, part_of, OnFalse_at}
-use Rattle.mdb_cashless.proofs.Words.{no_restart}
-use Rattle.mdb_msgs.specs.declared.command.Command.TheVariants as commands
-use Rattle.mdb_bus.specs.declared.act.Act.TheVariants as acts
+use Rattle.mdb_cashless.proofs.Words.{false, sym, ◌∙◌, ◌≡◌, rules, messages_of, part_of, OnFalse_at, no_restart, Command, Act}
 use Rattle.mdb_cashless.proofs.Choices.{unheard, unread, untaken}
-use Rattle.mdb_cashless.proofs.reader.steps.heeds_choice.Goals as goal
 use Rattle.mdb_cashless.proofs.Steps.{denied}
+use Rattle.mdb_cashless.proofs.reader.steps.heeds_choice.Goals as goal
 
 pub returns-in-Ack-Reader : goal.returns-in-Ack-Reader
 returns-in-Ack-Reader c =
-    let act : c.args.act.now ≡ acts.Ack (commands.Reader c.in-Ack-Reader.field-0-0
+    let act : c.args.act.now ≡ Act.Ack (Command.Reader c.in-Ack-Reader.field-0-0
     c.in-Ack-Reader.command) = search rules in
     denied c.heeds_taking.result (λ no unit facts choice after gains stands. rw act
     (untaken unit facts c.args.state after gains c.in-Ack-Reader.field-0-0 c.in-Ack-Reader.command

@@ -1,5 +1,5 @@
 -- The step by an act is that by the command that the act is to this reader.
-use Rattle.std.proofs.Common.{◌∙◌, sym}
+use Rattle.mdb_cashless.proofs.Words.{◌∙◌, sym}
 use Rattle.mdb_cashless.proofs.reader.steps.step.Goals as goal
 
 pub returns-in-Some-clause-step : goal.returns-in-Some-clause-step

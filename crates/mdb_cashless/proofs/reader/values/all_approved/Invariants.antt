@@ -1,4 +1,5 @@
-use Rattle.std.proofs.Common.{◌≡◌, ◌*◌, ◌≤◌, sum_by, take}
+use Rattle.mdb_cashless.proofs.Words.{◌≡◌, ◌*◌, ◌≤◌, sum_by}
+use Rattle.std.proofs.Common.{take}
 use Rattle.mdb_cashless.specs.Reader.{approved}
 use Rattle.mdb_cashless.proofs.reader.values.all_approved.Given as goal
 
