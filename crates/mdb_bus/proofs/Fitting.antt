@@ -1,6 +1,5 @@
--- Each act list has a loss that fits, whichever free acts are to be heard: the rows of an act are
--- damaged where the act after it tells so, and where it tells nothing and the act is not to be
--- heard.
+-- Each act list has a loss that fits, whichever free acts are to be heard. The rows of an act are
+-- damaged where the act after it tells so, or tells nothing and the act isn't to be heard.
 use Rattle.std.proofs.Math.Dec.{leb}
 use Rattle.mdb_bus.proofs.Words.{[], Act, ap, ArePieces, arith, Bool, Event, events_of, false, HearsAsWished, HearsFreeAsWished, if◌then◌else◌, IsAck, le-leb, left_open, length, length-append, List, lt-leb, MayCome, MayStand, not, nothing_told, Option, Piece, piece_events, Profile, profile_of, Quiet, refl, Scope, sym, true, Whole, Wish, ℕ, ◌++◌, ◌+◌, ◌<◌, ◌↔◌, ◌∙◌, ◌∷◌, ◌≡◌, ◌≤◌}
 use Rattle.mdb_bus.specs.Wish.{IsFree}

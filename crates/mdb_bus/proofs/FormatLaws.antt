@@ -1,5 +1,5 @@
 -- The laws of formats, by those of readings.
-use Rattle.mdb_bus.proofs.Words.{[], AllByRecursion, ap, AreAlike, AreReply, AreSome, arith, As, Bool, BytesHaveOneFault, Command, Err, false, Format, HasFault, HasMessages, HasOpenFault, HaveFaults, IfErr, IfOk, IfSome, inl, inr, is_extended, IsFirst, IsIn, IsInSome, IsOpenOr, IsPlainList, IsReadAs, IsReadFault, IsReadingIn, IsReadOpen, IsReplyTo, joint_fault, List, list_any, long, may_have_options, MsgFault, Ok, Option, Or, Reading, readings, refl, Reply, reply_bytes, ReplyHasNoFault, Result, short, Some, subst, sym, true, varies, what_counts, ℕ, ◌||◌, ◌∙◌, ◌∷◌, ◌≡◌, ◌≢◌, ◌⊎◌}
+use Rattle.mdb_bus.proofs.Words.{[], AllByRecursion, ap, AreAlike, AreReply, AreSome, arith, As, Bool, BytesHaveOneFault, Command, Err, false, Format, HasFault, HasMessages, HasOpenFault, HaveFaults, IfErr, IfOk, IfSome, inl, inr, is_extended, IsFirst, IsIn, IsInSome, IsOpenOr, IsPlainList, IsReadAs, IsReadFault, IsReadingIn, IsReadOpen, IsReplyTo, joint_fault, List, list_any, long, may_have_options, MsgFault, Ok, Option, Or, or_parts, Reading, readings, refl, Reply, reply_bytes, ReplyHasNoFault, Result, short, Some, subst, sym, true, varies, what_counts, ℕ, ◌||◌, ◌∙◌, ◌∷◌, ◌≡◌, ◌≢◌, ◌⊎◌}
 use Rattle.mdb_msgs.specs.declared.fault.MsgFault.TheVariants.{Length, Message, Profile as Left, Answer}
 use Rattle.mdb_msgs.specs.declared.reading.Ids.{Ids}
 use Rattle.mdb_msgs.specs.declared.reading.Ids.TheVariants.{Bare, ByNext, Full}
@@ -40,7 +40,6 @@ module _ (command : Command) where
   some_read Open reply extended answers is = (reply, (some_first reply is.0, answers, refl))
 
 -- ---- by the law that a reply has no fault
-
 module _ (none : ReplyHasNoFault) (command : Command) where
   -- bytes that are a reply in a reading have no fault in it
   none_bad_in : (reading : Reading) (bytes : List ℕ) (reply : Reply) (fault : MsgFault)
@@ -246,11 +245,6 @@ same_plain law command bytes reading reply other extended plain some is =
     law reading command other reply is.0 here is.1 some.1 (sym is.2 ∙ some.2)
 
 -- ---- a list in which readings differ in no message
-
-neither : (a b : Bool) → (a || b) ≡ false → (a ≡ false) × (b ≡ false)
-neither false false same = (refl, refl)
-neither a b same = absurd (cc same)
-
 module _ (one other : Reading) where
   text_stays : (message : ReaderMsg) (text rest : List ℕ) → varies message ≡ false
       → IsTextOf one message text rest → IsTextOf other message text rest
@@ -263,7 +257,7 @@ module _ (one other : Reading) where
       → Stand (reader_msg_bytes id text) (IsReaderMsg other id text) messages tail
   list_stays id text [] tail same stand = tt
   list_stays id text (message ∷ messages) tail same stand =
-      let apart = neither (varies message) (list_any varies messages) same in (
+      let apart = or_parts (varies message) (list_any varies messages) same in (
         text_stays message _ _ apart.0 stand.0,
         list_stays id text messages tail apart.1 stand.1,
       )
@@ -288,7 +282,6 @@ plain_open law reading command bytes reply plain is =
     )
 
 -- ---- the replies that open bytes are
-
 module _ (command : Command) (bytes : List ℕ) where
   -- what says in each reading the same as a reply
   abbrev IsAlikeIn : Reply → Reading → Type 0

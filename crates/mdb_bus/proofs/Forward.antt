@@ -1,9 +1,8 @@
 -- A row that a position leads on by extends the act list.
-use Rattle.mdb_bus.proofs.Words.{[], Act, act_after, act_in, acts_of, All-append, All-from_recursion, ap, append-nil, append_assoc, ArePieces, arith, Asked, asked_after, asked_device, Asks, AskTail, Break, break_least, BreakMayCome, Controller, Event, events_of, first_position, Grown, grown, InAsk, InBlockTime, InForeign, inl, inr, InRepeat, InReply, IsAt, IsByte, IsSaid, IsTail, last_of, Leads, left_by, left_open, length, length-append, Levels, levels_before, levels_if, levels_of, Line, List, MayCome, None, Opens, Option, Peripheral, Piece, piece_after, piece_events, PieceFits, pieces_after, Position, position_after, position_of, Profile, profile_of, Quiet, refl, RepeatTail, Replied, ReplyTail, Returned, rules, Say, Scope, Situation, situation_of, Some, Step, subst, sym, Whole, with_act, Word, WordLeads, ℕ, ◌++◌, ◌+◌, ◌<◌, ◌∙◌, ◌∷◌, ◌≡◌, ◌≤◌, ◌⊎◌, IsReplyFront}
+use Rattle.mdb_bus.proofs.Words.{[], Act, act_after, act_in, acts_of, All-append, All-from_recursion, ap, append-nil, append_assoc, ArePieces, arith, Asked, asked_after, asked_device, Asks, AskTail, Break, break_least, BreakMayCome, Controller, Event, events_of, first_position, Grown, grown, InAsk, InBlockTime, InForeign, inl, inr, InRepeat, InReply, IsAt, IsByte, IsReplyFront, IsSaid, IsTail, last_of, Leads, left_by, left_open, length, length-append, Levels, levels_before, levels_if, levels_of, Line, List, MayCome, None, Opens, Option, Peripheral, Piece, piece_after, piece_events, PieceFits, pieces_after, Position, position_after, position_of, Profile, profile_of, Quiet, refl, RepeatTail, Replied, ReplyTail, Returned, rules, Say, Scope, Situation, situation_of, Some, Step, subst, sym, Whole, with_act, Word, WordLeads, ℕ, ◌++◌, ◌+◌, ◌<◌, ◌∙◌, ◌∷◌, ◌≡◌, ◌≤◌, ◌⊎◌}
 use Rattle.mdb_bus.specs.declared.act.Act.TheVariants as acts
 use Rattle.mdb_bus.specs.shared.Step as step
-use Rattle.mdb_bus.proofs.Rows.{begins_block, say_byte, say_sum, say_word}
-use Rattle.mdb_bus.proofs.Lists.{at_first, spaced_on}
+use Rattle.mdb_bus.proofs.Lists.{at_first, spaced_on, begins_block, say_byte, say_sum, say_word}
 use Rattle.mdb_bus.proofs.Verdicts.{sealed}
 
 module _ (scope : Scope) (pieces : List Piece) (row : Event) (next : Step) where

@@ -118,18 +118,14 @@ module _ (scope : Scope) where
       subst (λ ps. With ps (piece_events g.newest) ≡ After pieces) same (rw (← new) alone)
   by_rows With After pieces (Break at length) next act are leads g alone more = absurd leads
   by_rows With After pieces (Word at line word) next act are leads g alone more =
-      ap (With g.earlier) g.events ∙ by g.from
-    where
-      by : ((g.begun ≡ []) × (pieces ≡ g.earlier))
-          ⊎ ((tail : Piece) × IsTail tail × (piece_events tail ≡ g.begun)
-          × (pieces ≡ tail ∷ g.earlier))
-          → With g.earlier (g.begun ++ Word at line word ∷ []) ≡ After pieces
-      by (inl (none, same)) = rw (none, ← same) alone
-      by (inr (tail, open_end, is, same)) =
-          let goes = goes_on tail g.earlier at line word next open_end
-          (subst (λ ps. Leads (situation_of scope ps) (Word at line word) next) same leads) in
-          rw (← is) (more tail g.earlier (subst (ArePieces scope) same are) open_end goes)
-          ∙ ap After (sym same)
+      ap (With g.earlier) g.events ∙ (elim g.from [
+        | inl (none, same) ↦ rw (none, ← same) alone
+        | inr (tail, open_end, is, same) ↦
+            let goes = goes_on tail g.earlier at line word next open_end
+            (subst (λ ps. Leads (situation_of scope ps) (Word at line word) next) same leads) in
+            rw (← is) (more tail g.earlier (subst (ArePieces scope) same are) open_end goes)
+            ∙ ap After (sym same)
+      ])
 
   -- haste after a row
   pub haste_on : (pieces : List Piece) (row : Event) (next : Step) (act : Option Act)
@@ -159,15 +155,6 @@ module _ (scope : Scope) where
   same_sender (RepeatTail command reply words events) (Word at Peripheral word) first others asked
       said is goes = sender_of Peripheral at word words first others asked (rw is at said.1)
   same_sender tail row first others asked said is goes = absurd goes
-
-  -- one row by itself
-  alone_row : (pieces : List Piece) (row : Event)
-      → with_rows (position_of scope pieces) (Last pieces) (asked_device pieces) (row ∷ [])
-      (untimely_of scope pieces)
-      ≡ with_sender (untimely_sender scope pieces row) (untimely_of scope pieces)
-  alone_row pieces row =
-      rw add-zero (adds_one (is_untimely (position_of scope pieces) (Last pieces) row)
-      (sender_by (asked_device pieces) row) (untimely_of scope pieces))
 
   -- a tail with a row more
   more_rows : (tail : Piece) (earlier : List Piece) (row : Event) → ArePieces scope (tail ∷ earlier)
@@ -202,5 +189,7 @@ module _ (scope : Scope) where
       ∙ by_rows (λ earlier events. with_rows (position_of scope earlier) (Last earlier)
       (asked_device earlier) events (untimely_of scope earlier))
       (λ ps. with_sender (untimely_sender scope ps row) (untimely_of scope ps))
-      pieces row next act are leads g (alone_row pieces row)
+      pieces row next act are leads g
+      (rw add-zero (adds_one (is_untimely (position_of scope pieces) (Last pieces) row)
+      (sender_by (asked_device pieces) row) (untimely_of scope pieces)))
       (λ tail earlier its. more_rows tail earlier row its)

@@ -311,10 +311,9 @@ module _ (law : FirstTells) (less more : Scope) (wider : LeavesOutMore less more
   -- what stays says what it said
   said_stays : (piece : Piece) → is_left_out more piece ≡ false → IsSaid less piece
       → IsSaid more piece
-  said_stays (Whole (acts.Ask command) events) kept said = (
-    record { spells = said.0.spells; known = rw wider.begins at said.0.known; followed = kept },
-    said.1,
-  )
+  said_stays (Whole (acts.Ask command) events) kept said =
+      let known = rw wider.begins at said.0.known in
+      (record { spells = said.0.spells; known = known; followed = kept }, said.1)
   said_stays (Whole acts.Foreign events) kept said = foreign_stays less more wider events kept said
   said_stays (AskTail bytes events) kept said =
       let front = rw wider.begins at (plain_front less bytes said.0) in

@@ -22,7 +22,6 @@ pub mod OneFault
 pub mod OneStep
 pub mod PlainMoney
 pub mod Promises
-pub mod Rows
 pub mod Sound
 pub mod Stops
 pub mod Verdicts

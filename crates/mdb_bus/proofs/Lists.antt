@@ -1,5 +1,5 @@
--- Lists of events and of words, with their last element apart.
-use Rattle.mdb_bus.proofs.Words.{[], All, ap, append_assoc, AreSpaced, arith, Beginning, Break, Controller, controller_words, Event, first_position, get_or-append-add, get_or_append_left, InBlockTime, InForeign, Joined, last_of, length, length-append, length-map, Line, List, peripheral_words, Position, PowerOn, Profile, Quiet, refl, said_by, Say, Some, subst, sym, Word, ℕ, ◌++◌, ◌+◌, ◌∙◌, ◌∷◌, ◌≡◌, ◌≢◌, ◌≤◌, ◌↔◌, Option}
+-- Lists of events and of words, with their last element apart, or with one more.
+use Rattle.mdb_bus.proofs.Words.{[], All, ap, append_assoc, AreSpaced, arith, Beginning, block_of, Break, Controller, controller_words, Event, first_position, get_or-append-add, get_or_append_left, InBlockTime, InForeign, IsBlockWord, Joined, last_of, length, length-append, length-map, Line, List, map-append, Option, Peripheral, peripheral_words, Position, PowerOn, Profile, Quiet, refl, said_by, Say, Some, subst, sum, sym, Word, ℕ, ◌%◌, ◌++◌, ◌+◌, ◌↔◌, ◌∙◌, ◌∷◌, ◌≡◌, ◌≢◌, ◌≤◌}
 
 -- a recording begins in quiet or in foreign traffic
 pub at_first : (P : Position → Type 0) → P Quiet → P InForeign → (begins : Beginning)
@@ -155,3 +155,33 @@ pub all_last : (P : ℕ → Type 0) (xs : List ℕ) (x : ℕ) → All P (xs ++ x
 all_last P xs x all =
     rw (get_or-append-add xs (x ∷ []) 0 x) at
     (all (length xs + 0) x (omega (arith, length-append xs (x ∷ []))))
+
+-- words with one more, as it stands in a row, are said by events with one more
+pub say_word : (line : Line) (words : List ℕ) (events : List Event) (at word : ℕ)
+    → Say line words events → Say line (words ++ word ∷ []) (events ++ Word at line word ∷ [])
+say_word line words events at word says =
+    let meant = map-append (λ w. Some (line, w)) words (word ∷ []) in
+    rw (map-append, says) (sym meant)
+
+-- a block of the controller with one byte more
+pub say_byte : (bytes : List ℕ) (events : List Event) (at word : ℕ) → bytes ≢ []
+    → Say Controller (controller_words bytes) events
+    → Say Controller (controller_words (bytes ++ word ∷ []))
+    (events ++ Word at Controller word ∷ [])
+say_byte [] events at word some says = absurd (some refl)
+say_byte (byte ∷ bytes) events at word some says = say_word Controller ((256 + byte) ∷ bytes) events
+    at word says
+
+-- data bytes and the marked word of their sum are the words of their block
+pub say_sum : (bytes : List ℕ) (events : List Event) (at word : ℕ) → word ≡ 256 + sum bytes % 256
+    → Say Peripheral bytes events
+    → Say Peripheral (peripheral_words (block_of bytes)) (events ++ Word at Peripheral word ∷ [])
+say_sum bytes events at word is says =
+    rw (peripheral_push, ← is) (say_word Peripheral bytes events at word says)
+
+-- the first event of a block of the controller is a marked word
+pub begins_block : (bytes : List ℕ) (first : Event) (others : List Event) → bytes ≢ []
+    → Say Controller (controller_words bytes) (first ∷ others) → IsBlockWord first
+begins_block [] first others some says = absurd (some refl)
+begins_block (byte ∷ bytes) first others some says =
+    let is = heard first Controller (256 + byte) (cc) in rw is.1 (omega arith)

@@ -1,6 +1,6 @@
 -- What the first bytes of a block tell of ENABLE OPTIONS, which a profile may leave out.
 use Rattle.std.proofs.lemmas.Bool.Decides.{nat_tests}
-use Rattle.mdb_bus.proofs.Words.{[], ap, append-nil, arith, begins_options, block_of, Bool, cases_eq, Command, false, Foreign, HasCommand, if◌then◌else◌, inl, inr, is_enable_options, leaves_options, length, length-append, List, More, Need, needed, needed_by, Profile, refl, Spells, sum, sym, true, ℕ, ◌%◌, ◌&&◌, ◌++◌, ◌==◌, ◌||◌, ◌∙◌, ◌∷◌, ◌≡◌, ◌≢◌, ◌≤◌, ◌⊎◌}
+use Rattle.mdb_bus.proofs.Words.{[], and_right, ap, append-nil, arith, begins_options, block_of, Bool, cases_eq, Command, false, Foreign, HasCommand, if◌then◌else◌, inl, inr, is_enable_options, leaves_options, length, length-append, List, More, Need, needed, needed_by, Profile, refl, Spells, sum, sym, true, ℕ, ◌%◌, ◌&&◌, ◌++◌, ◌==◌, ◌||◌, ◌∙◌, ◌∷◌, ◌≡◌, ◌≢◌, ◌≤◌, ◌⊎◌}
 use Rattle.mdb_bus.proofs.Lists.{some_length}
 
 -- a law of mdb_msgs: the first two bytes of a command's block tell whether it is ENABLE OPTIONS
@@ -12,13 +12,9 @@ TwoTell = (prefix rest : List ℕ) (command : Command) → 2 ≤ length prefix
 abbrev pub AreKnown : Profile → List ℕ → Type 0
 AreKnown profile bytes = (leaves_options profile && begins_options bytes) ≡ false
 
-pub none_of_both : (a b : Bool) → b ≡ false → (a && b) ≡ false
-none_of_both true b none = none
-none_of_both false b none = refl
-
 -- one byte doesn't
 pub begins_one : (byte : ℕ) → begins_options (byte ∷ []) ≡ false
-begins_one byte = none_of_both (byte == 0x17 || byte == 0x67) false refl
+begins_one byte = and_right (byte == 0x17 || byte == 0x67) false refl
 
 -- what needs anything that isn't foreign isn't masked
 pub otherwise : (masked : Bool) (need told : Need) → (if masked then Foreign else need) ≡ told
@@ -39,7 +35,7 @@ module _ (profile : Profile) where
   known_need bytes known = rw known
 
   pub one_need : (byte : ℕ) → needed_by profile (byte ∷ []) ≡ needed (byte ∷ [])
-  one_need byte = known_need (byte ∷ []) (none_of_both (leaves_options profile) _ (begins_one byte))
+  one_need byte = known_need (byte ∷ []) (and_right (leaves_options profile) _ (begins_one byte))
 
   -- what needs anything that isn't foreign is such bytes
   pub unmasked : (bytes : List ℕ) (told : Need) → needed_by profile bytes ≡ told → told ≢ Foreign
@@ -47,19 +43,13 @@ module _ (profile : Profile) where
   unmasked bytes told is other =
       otherwise (leaves_options profile && begins_options bytes) (needed bytes) told is other
 
-  -- each profile has another command than ENABLE OPTIONS
-  pub another_known : (command : Command) → is_enable_options command ≡ false
-      → HasCommand profile command
-  another_known command other =
-      none_of_both (leaves_options profile) (is_enable_options command) other
-
 module _ (law : TwoTell) (profile : Profile) where
   -- bytes in front of a command that the profile has are such bytes
   pub front_known : (prefix rest : List ℕ) (command : Command) → prefix ≢ []
       → Spells command (prefix ++ rest) → HasCommand profile command → AreKnown profile prefix
   front_known [] rest command some spells known = absurd (some refl)
   front_known (first ∷ []) rest command some spells known =
-      none_of_both (leaves_options profile) _ (begins_one first)
+      and_right (leaves_options profile) _ (begins_one first)
   front_known (first ∷ second ∷ more) rest command some spells known =
       rw (law (first ∷ second ∷ more) rest command (omega arith) spells) known
 
@@ -68,12 +58,6 @@ module _ (law : TwoTell) (profile : Profile) where
       → Spells command (prefix ++ rest) → AreKnown profile prefix → HasCommand profile command
   known_front prefix rest command two spells known =
       rw (law prefix rest command two spells) at known
-
-  -- a whole block of such a command begins with such bytes
-  pub block_known : (block : List ℕ) (command : Command) → block ≢ [] → Spells command block
-      → HasCommand profile command → AreKnown profile block
-  block_known block command some spells known =
-      front_known block [] command some (rw append-nil spells) known
 
 -- a first byte with which ENABLE OPTIONS begins, or another
 address : (first : ℕ) → (first ≡ 0x17) ⊎ ((first ≡ 0x67)

@@ -1,7 +1,7 @@
 -- The laws of mdb_msgs, put together, of the devices that are followed.
-use Rattle.mdb_bus.proofs.Words.{[], All, ap, Asks, begins_options, block_of, BlockHasOneReply, Bool, Command, command_bytes, Exactly, false, Foreign, is_enable_options, IsByte, IsOpen, IsTold, leaves_options, length, List, needed, needed_in, OpenIsAnothersFront, PlainOpenIsAFront, profile_of, refl, reply_bytes, Scope, Spells, sum, TellsLength, true, ℕ, ◌%◌, ◌&&◌, ◌++◌, ◌<◌, ◌∙◌, ◌≡◌, ◌≢◌}
+use Rattle.mdb_bus.proofs.Words.{[], All, ap, append-nil, Asks, begins_options, block_of, BlockHasOneReply, Bool, Command, command_bytes, Exactly, false, Foreign, is_enable_options, IsByte, IsOpen, IsTold, leaves_options, length, List, needed, needed_in, OpenIsAnothersFront, PlainOpenIsAFront, profile_of, refl, reply_bytes, Scope, Spells, sum, TellsLength, true, ℕ, ◌%◌, ◌&&◌, ◌++◌, ◌<◌, ◌∙◌, ◌≡◌, ◌≢◌}
 use Rattle.mdb_bus.specs.shared.Grammar.{OpenIsAFront}
-use Rattle.mdb_bus.proofs.Masked.{TwoTell, block_known, front_known, known_need, unmasked}
+use Rattle.mdb_bus.proofs.Masked.{TwoTell, front_known, known_need, unmasked}
 use Rattle.mdb_bus.proofs.Followed.{FirstTells, asks_followed, block_followed, needed_followed, still_followed, was_followed, within}
 use Rattle.mdb_bus.proofs.Lists.{not_empty, some_there}
 use Rattle.mdb_bus.proofs.Verdicts.{some_bytes}
@@ -17,7 +17,8 @@ needs first two law scope block command asks =
     let some : block ≢ [] = rw asks.spells.bytes (not_empty content (sum content % 256)) in
     needed_followed scope block (block_followed first scope command block asks)
     ∙ (known_need (profile_of scope.begins) block
-    (block_known two (profile_of scope.begins) block command some asks.spells asks.known)
+    (front_known two (profile_of scope.begins) block [] command some (rw append-nil asks.spells)
+    asks.known)
     ∙ law block command asks.spells)
 
 -- its first bytes tell it, or leave it to the second

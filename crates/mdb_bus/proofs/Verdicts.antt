@@ -1,6 +1,6 @@
 -- What is made of a word, position by position.
 use Rattle.std.proofs.lemmas.Option.{slice_get-get_or, slice_get_past}
-use Rattle.mdb_bus.proofs.Words.{[], All, All-append, All-from_get_or, All-from_recursion, answer_byte, answer_most, ap, append_assoc, arith, Asked, Base, begins_options, Belongs, block_most, block_of, Bool, BytesHaveOneFault, Command, command_bytes, Controller, Counts, Covers, drop, EnablesMore, Err, Event, Exactly, Extended, false, Fits, Foreign, format_for, FrontIsOpen, get_or, HasCommand, HasFault, IfOk, InAsk, InBlockTime, inl, inr, InReply, is_past, is_untimely, IsAskFront, IsBefore, IsByte, IsCommandFront, IsFirstByPlace, IsGoingOn, IsJudged, IsJudgedBy, IsOpen, IsOpened, IsPast, IsRead, IsRepeatFront, IsReplyEnd, IsSettled, IsShort, IsTimely, IsTrue, IsUnknownExpansion, Judged, leaves_options, LeavesProfile, length, length-append, length-drop, Levels, List, More, MsgFault, Need, needed, needed_by, needed_in, nil_from_length, None, NotBefore, NotPast, Ok, OnOk, OpenIsAnothersFront, Option, OutOfOrder, Outside, Peripheral, peripheral_words, place_of, Position, Profile, profile_of, refl, Reply, reply_words, ReplyHasNoFault, Result, RowBreaks, Rule, rules, same_from_push, Scope, Situation, slice_get, slice_index, Some, Spells, suc, sum, sym, take, true, w8, Word, WORD_GAP_MIN, WrongLength, zero, ℕ, ◌%◌, ◌&&◌, ◌++◌, ◌+◌, ◌<◌, ◌↔◌, ◌∙◌, ◌∷◌, ◌≡◌, ◌≢◌, ◌≤◌, ◌⊎◌}
+use Rattle.mdb_bus.proofs.Words.{[], All, All-append, All-from_get_or, All-from_recursion, and_right, answer_byte, answer_most, ap, append_assoc, arith, Asked, Base, begins_options, Belongs, block_most, block_of, Bool, BytesHaveOneFault, cases_Bool, Command, command_bytes, Controller, Counts, Covers, drop, EnablesMore, Err, Event, Exactly, Extended, false, Fits, Foreign, format_for, FrontIsOpen, get_or, HasCommand, HasFault, IfOk, InAsk, InBlockTime, inl, inr, InReply, is_enable_options, is_past, is_untimely, IsAskFront, IsBefore, IsByte, IsCommandFront, IsFirstByPlace, IsGoingOn, IsJudged, IsJudgedBy, IsOpen, IsOpened, IsPast, IsRead, IsRepeatFront, IsReplyEnd, IsSettled, IsShort, IsTimely, IsTrue, IsUnknownExpansion, Judged, leaves_options, LeavesProfile, length, length-append, length-drop, Levels, List, More, MsgFault, Need, needed, needed_by, needed_in, nil_from_length, None, NotBefore, NotPast, Ok, OnOk, OpenIsAnothersFront, Option, OutOfOrder, Outside, Peripheral, peripheral_words, place_of, Position, Profile, profile_of, refl, Reply, reply_words, ReplyHasNoFault, Result, RowBreaks, Rule, rules, same_from_push, Scope, Situation, slice_get, slice_index, Some, Spells, suc, sum, sym, take, true, w8, Word, WORD_GAP_MIN, WrongLength, zero, ℕ, ◌%◌, ◌&&◌, ◌++◌, ◌+◌, ◌<◌, ◌↔◌, ◌∙◌, ◌∷◌, ◌≡◌, ◌≢◌, ◌≤◌, ◌⊎◌}
 use Rattle.mdb_blocks.specs.declared.answer.Answer.{Answer}
 use Rattle.mdb_msgs.specs.Answers.{HasDataAnswer}
 use Rattle.mdb_msgs.specs.Laws.{OpenIsAFront}
@@ -12,7 +12,7 @@ use Rattle.mdb_bus.specs.declared.judged.Judged.TheVariants as judged
 use Rattle.mdb_bus.specs.declared.phase.Phase.TheVariants as phase
 use Rattle.mdb_bus.proofs.Needs.{from_2_to_32, not_left, stays, narrows}
 use Rattle.mdb_bus.proofs.FormatLaws.{none_as, one_bad, bad_length}
-use Rattle.mdb_bus.proofs.Masked.{AreKnown, TwoTell, another_known, begins_one, content_tells, known_front, known_need, more_known, none_of_both, one_need, options_more, unmasked}
+use Rattle.mdb_bus.proofs.Masked.{AreKnown, TwoTell, begins_one, content_tells, known_front, known_need, more_known, one_need, options_more, unmasked}
 use Rattle.mdb_bus.proofs.Followed.{AreFollowed, FirstTells, asks_followed, expansion_opens, front_followed, needed_followed, plain_front, still_followed, within}
 use Rattle.mdb_bus.proofs.Lists.{not_empty, peripheral_push, some_length, some_there}
 
@@ -147,7 +147,7 @@ module _ (profile : Profile) where
       record {
         some = λ none. cc none;
         command = found.0;
-        known = another_known profile found.0 found.4;
+        known = and_right (leaves_options profile) (is_enable_options found.0) found.4;
         rest = found.1;
         open_end = found.2;
         spelled = found.3;
@@ -162,15 +162,12 @@ module _ (profile : Profile) where
   -- what two bytes make foreign, the first leaves to the second
   left_foreign : (first word : ℕ) → IsOpen (first ∷ [])
       → needed_by profile (first ∷ word ∷ []) ≡ Foreign → needed (first ∷ []) ≡ More
-  left_foreign first word alone foreign = by (begins_options (first ∷ word ∷ [])) refl
-    where
-      by : (begins : Bool) → begins_options (first ∷ word ∷ []) ≡ begins
-          → needed (first ∷ []) ≡ More
-      by true begins = options_more first word begins
-      by false none =
-          let known = none_of_both (leaves_options profile) _ none in
-          left_by first word _ refl alone
-          (λ n tells. cc (known_need profile (first ∷ word ∷ []) known, foreign, tells))
+  left_foreign first word alone foreign = elim (cases_Bool (begins_options (first ∷ word ∷ []))) [
+    | inl begins ↦ options_more first word begins
+    | inr none ↦
+        let known = known_need profile (first ∷ word ∷ []) (and_right (leaves_options profile) _ none)
+        in left_by first word _ refl alone (λ n tells. cc (known, foreign, tells))
+  ]
 
   -- what is made of a second byte
   module _ {bytes : List ℕ} {first byte word : ℕ} {told : Need} (is : bytes ≡ first ∷ [])

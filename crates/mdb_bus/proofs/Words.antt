@@ -1,6 +1,6 @@
 -- The names of std, of the crates below and of this crate's specs that its proofs share.
 pub use Rattle.std.proofs.Common.{[], All, ap, append_assoc, arith, Bool, drop, Err, false, Fits, get_or, IfErr, IfOk, IfSome, if◌then◌else◌, inl, inr, IsTrue, length, length-append, length-drop, List, nat_le, None, not, Ok, OnOk, Option, refl, Result, rules, slice_get, slice_index, Some, subst, suc, sum, sym, take, true, w8, zero, ℕ, ◌%◌, ◌&&◌, ◌++◌, ◌+◌, ◌-◌, ◌<◌, ◌==◌, ◌||◌, ◌↔◌, ◌∙◌, ◌∷◌, ◌≡◌, ◌≢◌, ◌≤◌, ◌⊎◌}
-pub use Rattle.std.proofs.lemmas.Bool.{cases_eq, cond_both, false_from_ne_true, le-leb, lt-leb, lt-ltb}
+pub use Rattle.std.proofs.lemmas.Bool.{and_right, cases_Bool, cases_eq, cond_both, false_from_ne_true, le-leb, lt-leb, lt-ltb, or_parts}
 pub use Rattle.std.proofs.lemmas.List.{append-nil, get_or-append-add, get_or_append_left, length-map, map-append, nil_from_length, same_from_push}
 pub use Rattle.std.proofs.lemmas.List.Elements.{All-append, All-from_get_or, All-from_recursion, recursion_from_All}
 pub use Rattle.std.specs.List.{AllByRecursion, filter, list_any}

@@ -1,17 +1,15 @@
-use Rattle.mdb_bus.proofs.Words.{rules, sum, ◌%◌, ◌≡◌}
+use Rattle.mdb_bus.proofs.Words.{rules, ◌%◌, ◌≡◌}
 use Rattle.mdb_bus.proofs.Verdicts.{ask_ends, ask_more}
 use Rattle.mdb_bus.proofs.judging.asking.judge_end_of_ask.Goals as goal
 
 pub returns-then-enables_more : goal.returns-then-enables_more
 returns-then-enables_more c =
-    let total : c.args.word ≡ sum c.args.bytes.now % 256 = search rules in
     ask_more c.what_it_needs_is_a_command.ensures c.first_two_bytes_tell_enable_options.ensures
     c.args.bytes.now c.args.word c.as_slice.ensures.some c.as_slice.ensures.are_bytes
-    c.requires.last total c.enables_more.result c.enables_more.ensures c.if-enables_more.true
+    c.requires.last (search rules) c.enables_more.result c.enables_more.ensures c.if-enables_more.true
 
 pub returns : goal.returns
 returns c =
-    let total : c.args.word ≡ sum c.args.bytes.now % 256 = search rules in
     ask_ends c.what_it_needs_is_a_command.ensures c.first_two_bytes_tell_enable_options.ensures
     c.args.bytes.now c.args.word c.as_slice.ensures.some c.as_slice.ensures.are_bytes
-    c.requires.last total c.enables_more.result c.enables_more.ensures c.if-enables_more.false
+    c.requires.last (search rules) c.enables_more.result c.enables_more.ensures c.if-enables_more.false

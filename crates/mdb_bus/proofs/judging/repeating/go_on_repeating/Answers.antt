@@ -1,14 +1,13 @@
 -- A word goes on with a repeat, or ends it.
-use Rattle.mdb_bus.proofs.Words.{ap, arith, length, refl, reply_words, rules, slice_get, Some, ◌≡◌}
+use Rattle.mdb_bus.proofs.Words.{ap, arith, length, refl, reply_words, rules, ◌≡◌}
 use Rattle.mdb_bus.proofs.Verdicts.{repeats, repeated}
 use Rattle.mdb_bus.proofs.judging.repeating.go_on_repeating.Goals as goal
 
 pub returns-then-from-as_slice-clause-judged : goal.returns-then-from-as_slice-clause-judged
 returns-then-from-as_slice-clause-judged c =
     let reply = c.args.last_reply.now.reply in
-    let here : slice_get (reply_words reply) c.args.said ≡ Some c.args.word = search rules in
     let front = repeats reply c.args.said c.args.word (length c.args.last_reply.now.bytes)
-    c.word.ensures.count (omega (arith, ap length c.as_slice.ensures.bytes)) here in
+    c.word.ensures.count (omega (arith, ap length c.as_slice.ensures.bytes)) (search rules) in
     λ scope levels command. record {
       judged = λ covers. (refl, front, (search rules, search rules));
       timely = search rules;
@@ -17,9 +16,8 @@ returns-then-from-as_slice-clause-judged c =
 pub returns-else-from-as_slice-clause-judged : goal.returns-else-from-as_slice-clause-judged
 returns-else-from-as_slice-clause-judged c =
     let words = reply_words c.args.last_reply.now.reply in
-    let here : slice_get words c.args.said ≡ Some c.args.word = search rules in
     let whole = repeated words c.args.said c.args.word (length c.args.last_reply.now.bytes)
-    c.word.ensures.count (omega (arith, ap length c.as_slice.ensures.bytes)) here in
+    c.word.ensures.count (omega (arith, ap length c.as_slice.ensures.bytes)) (search rules) in
     λ scope levels command. record {
       judged = λ covers. (whole, (search rules, search rules));
       timely = search rules;
