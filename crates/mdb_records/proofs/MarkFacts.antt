@@ -35,34 +35,6 @@ end-marked new left (Some b) unheld h = cc
 end-marked None left None unheld h = tt
 end-marked (Some xs) left None unheld h = ap (marked left) h ∙ marked-nil left
 
--- a read under the limit
-pub under-limit : (old new : Option (List ℕ)) (left given : ℕ) (held : Option ℕ)
-    (part tail : List ℕ) → is_some held ≡ false → given ≤ length part → given ≤ left
-    → 0 < length part
-    → Consumes old new (take given part) × (given ≡ 0 → 0 < length part → IsAtEnd new)
-    → Consumes (given_of old left held) (given_of new (left - given) held)
-    (take given (part ++ tail))
-    × (given ≡ 0 → 0 < length (part ++ tail) → IsAtEnd (given_of new (left - given) held))
-under-limit old new left given held part tail unheld fits low some h =
-    let first : take given (part ++ tail) ≡ take given part = take-append-le given part tail fits in
-    let size = length-take given part in (
-      rw first (consumes-marked old new (take given part) left (left - given) held unheld
-          (omega arith) h.0),
-      λ none _. end-marked new (left - given) held unheld (h.1 none some),
-    )
-
--- the end of the text at the limit
-pub end-at-limit : (old new : Option (List ℕ)) (left given size : ℕ) (held : Option ℕ)
-    (part : List ℕ) → is_some held ≡ false → given ≡ 0 → 0 < length part
-    → Consumes old new (take given part) × (given ≡ 0 → 0 < length part → IsAtEnd new)
-    → Consumes (given_of old left held) (given_of new left held) []
-    × (◌≡◌ {A = ℕ} 0 0 → 0 < size → IsAtEnd (given_of new left held))
-end-at-limit old new left given size held part unheld none some h =
-    let none_taken : take given part ≡ [] = rw none refl in (
-      consumes-marked old new [] left left held unheld (omega arith) (rw none_taken at h.0),
-      λ _ _. end-marked new left held unheld (h.1 none some),
-    )
-
 -- the mark stands before the first byte past the limit
 marked-at-limit : (b : ℕ) (rest : List ℕ) (left : ℕ) → left ≡ 0
     → marked left (b ∷ rest) ≡ mark ∷ b ∷ rest
@@ -87,12 +59,36 @@ one-taken given [] some fits one = absurd (omega arith)
 one-taken given (b ∷ c ∷ rest) some fits one = absurd (omega arith)
 one-taken given (b ∷ []) some fits one = let single : given ≡ 1 = omega arith in rw single refl
 
--- a byte past the limit is held
-pub past-limit : (old new : Option (List ℕ)) (left given : ℕ) (held : Option ℕ) (part : List ℕ)
-    → is_some held ≡ false → left ≡ 0
-    → (given ≡ 0 → ⊥) → given ≤ length part → length part ≡ 1
-    → Consumes old new (take given part) × (given ≡ 0 → 0 < length part → IsAtEnd new)
-    → Keeps (given_of old left held) (prepend_known (mark ∷ get_or part 0 0 ∷ []) new)
-past-limit old new left given held part unheld e some fits one h =
-    keeps-held old new left held (get_or part 0 0) unheld e
-    (rw (one-taken given part some fits one) at h.0)
+-- a read of the reader below
+module _ (old new : Option (List ℕ)) (left given : ℕ) (held : Option ℕ) (part : List ℕ)
+    (unheld : is_some held ≡ false)
+    (read : Consumes old new (take given part) × (given ≡ 0 → 0 < length part → IsAtEnd new)) where
+  -- one under the limit
+  pub under-limit : (tail : List ℕ) → given ≤ length part → given ≤ left → 0 < length part
+      → Consumes (given_of old left held) (given_of new (left - given) held)
+      (take given (part ++ tail))
+      × (given ≡ 0 → 0 < length (part ++ tail) → IsAtEnd (given_of new (left - given) held))
+  under-limit tail fits low some =
+      let first = take-append-le given part tail fits in
+      let size = length-take given part in (
+        rw first (consumes-marked old new (take given part) left (left - given) held unheld
+            (omega arith) read.0),
+        λ none _. end-marked new (left - given) held unheld (read.1 none some),
+      )
+
+  -- the end of the text at the limit
+  pub end-at-limit : (size : ℕ) → given ≡ 0 → 0 < length part
+      → Consumes (given_of old left held) (given_of new left held) []
+      × (◌≡◌ {A = ℕ} 0 0 → 0 < size → IsAtEnd (given_of new left held))
+  end-at-limit size none some =
+      let none_taken : take given part ≡ [] = rw none refl in (
+        consumes-marked old new [] left left held unheld (omega arith) (rw none_taken at read.0),
+        λ _ _. end-marked new left held unheld (read.1 none some),
+      )
+
+  -- a byte past the limit is held
+  pub past-limit : left ≡ 0 → (given ≡ 0 → ⊥) → given ≤ length part → length part ≡ 1
+      → Keeps (given_of old left held) (prepend_known (mark ∷ get_or part 0 0 ∷ []) new)
+  past-limit e some fits one =
+      keeps-held old new left held (get_or part 0 0) unheld e
+      (rw (one-taken given part some fits one) at read.0)

@@ -1,5 +1,7 @@
 -- What the limit makes of a text at whose start a byte order mark may stand.
-use Rattle.mdb_records.proofs.Words.{◌<◌, length, ◌≡◌, ◌≤◌, ◌⊎◌, inl, inr, ℕ, zero, suc, Bool, List, [], ◌∷◌, ◌++◌, true, false, refl, ap, arith, eqb-true, All, if◌then◌else◌, ◌&&◌, All-cons, All-nil, is_bom, strip_bom, mark, marked, Gives, HasMark}
+use Rattle.std.proofs.lemmas.Bool.{and_parts}
+use Rattle.std.proofs.Math.Bool.{and-false}
+use Rattle.mdb_records.proofs.Words.{◌<◌, length, ◌≡◌, ◌≤◌, ◌⊎◌, inl, inr, ℕ, zero, suc, Bool, List, [], ◌∷◌, ◌++◌, true, false, refl, ap, arith, eqb-true, All, if◌then◌else◌, All-cons, All-nil, is_bom, strip_bom, mark, marked, Gives, HasMark}
 
 -- one more byte before the mark
 pub gives-cons : (b : ℕ) (text given : List ℕ) → (given ≡ text) ⊎ HasMark text given
@@ -20,26 +22,11 @@ pub whole : (text given : List ℕ) → (given ≡ text) ⊎ HasMark text given 
 whole text given (inl e) = inl e
 whole text given (inr m) = inr (inl m)
 
--- a test of three parts, whose second fails
-neither : (p q : Bool) → ((p && false) && q) ≡ false
-neither true q = refl
-neither false q = refl
-
--- a test of two parts, whose second fails
-never : (p : Bool) → (p && false) ≡ false
-never true = refl
-never false = refl
-
--- each test holds where both do
-both : (p q : Bool) → (p && q) ≡ true → (p ≡ true) × (q ≡ true)
-both true q e = (refl, e)
-both false q e = cc
-
 -- the bytes of a byte order mark are above ASCII
 bom-high : (a b c : ℕ) → is_bom a b c ≡ true → (128 ≤ a) × (128 ≤ b)
 bom-high a b c e =
-    let outer = both _ _ e in
-    let inner = both _ _ outer.0 in
+    let outer = and_parts _ _ e in
+    let inner = and_parts _ _ outer.0 in
     let first : a ≡ 0xEF = eqb-true a 0xEF inner.0 in
     let second : b ≡ 0xBB = eqb-true b 0xBB inner.1 in
     (omega arith, omega arith)
@@ -67,16 +54,16 @@ gives-stripped zero (a ∷ []) = inr (inl ([], a ∷ [], refl, refl))
 gives-stripped zero (a ∷ b ∷ []) = inr (inl ([], a ∷ b ∷ [], refl, refl))
 gives-stripped zero (a ∷ b ∷ c ∷ rest) =
     at-bom [] (a ∷ b ∷ c ∷ rest) rest _ (is_bom a b c) (λ _. All-nil (λ b. 128 ≤ b)) refl
-gives-stripped (suc zero) (a ∷ b ∷ []) = inr (inl (a ∷ [], b ∷ [], refl, rw neither refl))
+gives-stripped (suc zero) (a ∷ b ∷ []) = inr (inl (a ∷ [], b ∷ [], refl, rw and-false refl))
 gives-stripped (suc zero) (a ∷ b ∷ c ∷ rest) =
     at-bom (a ∷ []) (b ∷ c ∷ rest) rest _ (is_bom a b c)
     (λ e. All-cons (λ b. 128 ≤ b) a [] (bom-high a b c e).0 (All-nil (λ b. 128 ≤ b)))
-    (rw neither refl)
+    (rw and-false refl)
 gives-stripped (suc (suc zero)) (a ∷ b ∷ c ∷ rest) =
     at-bom (a ∷ b ∷ []) (c ∷ rest) rest _ (is_bom a b c)
     (λ e. All-cons (λ b. 128 ≤ b) a (b ∷ []) (bom-high a b c e).0
     (All-cons (λ b. 128 ≤ b) b [] (bom-high a b c e).1 (All-nil (λ b. 128 ≤ b))))
-    (rw never refl)
+    (rw and-false refl)
 gives-stripped (suc (suc (suc limit))) (a ∷ b ∷ c ∷ rest) = past-bom a b c limit rest (is_bom a b c)
 gives-stripped limit text = inl refl
 
@@ -112,9 +99,9 @@ unfolding strip_bom marked
 stripped-over zero (a ∷ []) h = ([], a ∷ [], refl)
 stripped-over zero (a ∷ b ∷ []) h = ([], a ∷ b ∷ [], refl)
 stripped-over zero (a ∷ b ∷ c ∷ rest) h = ([], a ∷ b ∷ c ∷ rest, refl)
-stripped-over (suc zero) (a ∷ b ∷ []) h = (a ∷ [], b ∷ [], rw neither refl)
-stripped-over (suc zero) (a ∷ b ∷ c ∷ rest) h = (a ∷ [], b ∷ c ∷ rest, rw neither refl)
-stripped-over (suc (suc zero)) (a ∷ b ∷ c ∷ rest) h = (a ∷ b ∷ [], c ∷ rest, rw never refl)
+stripped-over (suc zero) (a ∷ b ∷ []) h = (a ∷ [], b ∷ [], rw and-false refl)
+stripped-over (suc zero) (a ∷ b ∷ c ∷ rest) h = (a ∷ [], b ∷ c ∷ rest, rw and-false refl)
+stripped-over (suc (suc zero)) (a ∷ b ∷ c ∷ rest) h = (a ∷ b ∷ [], c ∷ rest, rw and-false refl)
 stripped-over (suc (suc (suc limit))) (a ∷ b ∷ c ∷ rest) h =
     over-bom a b c limit rest (omega arith) (is_bom a b c)
 stripped-over limit text h = absurd (omega arith)

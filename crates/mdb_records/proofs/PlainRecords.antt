@@ -90,7 +90,8 @@ whole_text (fields ∷ those) plain =
 pub read_of_lines : (those : List (List (List ℕ))) → ArePlain those
     → records default_config (strip_bom (lines_of those)) ≡ those
 read_of_lines those plain =
-    rw (whole_text those plain, add-one) (enough (length (lines_of those)) those plain (bytes those))
+    rw (whole_text those plain, add-one)
+    (enough (length (lines_of those)) those plain (bytes those))
 
 -- plain records after plain ones
 pub plain_append : (one other : List (List (List ℕ))) → ArePlain one → ArePlain other

@@ -12,11 +12,9 @@ use Rattle.mdb_words.specs.Row.{IsRow, break_letter, letter_of}
 use Rattle.mdb_records.proofs.PlainRecords.{IsPlain, IsPlainByte}
 use Rattle.mdb_words.proofs.Numerals.{IsDecimal-decimal, IsDecimal-lt, IsHexWord-hex_word}
 
-digit_plain : (c : ℕ) → IsAsciiDigit c → IsPlainByte c
-digit_plain c digit = (omega (arith, digit), omega (arith, digit))
-
 decimal_plain : (most n : ℕ) → IsDecimal most (decimal n) n → All IsPlainByte (decimal n)
-decimal_plain most n is = All-weaker IsAsciiDigit IsPlainByte digit_plain (decimal n) is.digits
+decimal_plain most n is = All-weaker IsAsciiDigit IsPlainByte
+    (λ c digit. (omega (arith, digit), omega (arith, digit))) (decimal n) is.digits
 
 glyph_plain : (d : ℕ) → d < 16 → IsPlainByte (digit_glyph true d)
 glyph_plain d h = grind (arith, nat_tests)

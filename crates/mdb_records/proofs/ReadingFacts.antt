@@ -1,5 +1,5 @@
 -- One read of a reader of records, as a step along the records to come.
-use Rattle.mdb_records.proofs.Words.{◌≡◌, ◌<◌, ◌≤◌, ◌+◌, ◌-◌, ℕ, Bool, List, [], ◌∷◌, ◌++◌, ◌⊎◌, ap, length, take, drop, Option, Some, None, true, false, inl, inr, refl, ◌∙◌, All, Ok, Err, IfOk, IfSome, Result, is_none, option_map, Keeps, Read, ends_at_end, next_record, AreRecords, ReadRecord, Reached, Ready, default_config, reader_headers, reader_state, records, strip_bom, took_first, Row, cut_from, fields_of, text_of, rows-end, rows-more, State, parted, ReadsWhatStands, given_of, mark, marked, TakesLine, Tells, line, lines_given, lines_remaining, ReadsNext, StandsAfter, StandsAt, fields_at, Advances, HasMark, IsOverLimit, IsUncut, ToCome, current_fields, Stage, All-take, All-drop, All-cons, All-nil}
+use Rattle.mdb_records.proofs.Words.{◌≡◌, ◌<◌, ◌≤◌, ◌+◌, ◌-◌, ℕ, Bool, List, [], ◌∷◌, ◌++◌, ◌⊎◌, ap, length, take, drop, Option, Some, None, true, false, inl, inr, refl, ◌∙◌, All, IfSome, is_none, option_map, Keeps, Read, ends_at_end, next_record, AreRecords, ReadRecord, Reached, Ready, default_config, reader_headers, reader_state, records, strip_bom, took_first, Row, cut_from, fields_of, text_of, rows-end, rows-more, State, parted, ReadsWhatStands, given_of, mark, marked, TakesLine, Tells, line, lines_given, lines_remaining, ReadsNext, StandsAfter, StandsAt, fields_at, Advances, HasMark, IsOverLimit, IsUncut, ToCome, current_fields, Stage, All-take, All-drop, All-cons, All-nil}
 use Rattle.std.proofs.lemmas.Bool.{cases_Bool}
 use Rattle.csv.specs.Records as csv
 use Rattle.csv.specs.declared.parser.State.TheVariants as st
@@ -283,12 +283,6 @@ pub fields-by-csv : {R : Type 0} (value : Stage R) (ends : List ℕ) (row : Row)
     → csv.fields_of row ≡ fields_at value ends row
 fields-by-csv (stage.Lines lines) ends row h = absurd (h lines refl)
 fields-by-csv value ends row h = refl
-
--- what a fact of an answer yields
-pub IfOk-map : {T E : Type 0} (result : Result T E) (P Q : T → Type 0) → ((x : T) → P x → Q x)
-    → IfOk result P → IfOk result Q
-IfOk-map (Ok x) P Q f h = f x h
-IfOk-map (Err e) P Q f h = tt
 
 -- a test of a header row
 no-headers : (headers : Option Headers) → is_none headers ≡ true → headers ≡ None

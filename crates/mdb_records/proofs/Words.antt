@@ -13,7 +13,7 @@ pub use Rattle.std.proofs.lemmas.Bool.Decides.{nat_tests}
 pub use Rattle.std.proofs.lemmas.List.{drop-take, drop_more, get_or-drop, take-append-le, take_more}
 pub use Rattle.std.proofs.lemmas.List.Elements.{All-append, All-cons, All-head, All-nil, All-tail, All-weaker, All-pop, All-take, All-drop}
 pub use Rattle.std.specs.Io.KnownBytes.{Consumes, IsAtEnd, Keeps, prepend_known}
-pub use Rattle.std.specs.Prelude.{Err, IfOk, IfSome, if◌then◌else◌, is_none, is_some, IsSome, option_map, Result, slice_set, ⊤, ◌&&◌, ◌==◌, ◌||◌}
+pub use Rattle.std.specs.Prelude.{IfSome, if◌then◌else◌, is_none, is_some, IsSome, option_map, slice_set, ⊤, ◌==◌, ◌||◌}
 pub use Rattle.mdb_words.specs.RowsWritten.{hex_word, joined_by_commas, row_fields}
 pub use Rattle.mdb_records.specs.Lines.{end_of_last, limited_remaining, line, lines_given, lines_remaining, TakesLine, Tells, unread}
 pub use Rattle.mdb_records.specs.Mark.{given_of, mark}

@@ -92,7 +92,7 @@ letter_byte : (line : Line) → IsFieldByte (letter_of line)
 letter_byte Controller = inr (omega arith, omega arith)
 letter_byte Peripheral = inr (omega arith, omega arith)
 
-pub three_bytes : {A : Type 0} (P : A → Type 0) (a b c : A) → P a → P b → P c → All P (a ∷ b ∷ c ∷ [])
+three_bytes : {A : Type 0} (P : A → Type 0) (a b c : A) → P a → P b → P c → All P (a ∷ b ∷ c ∷ [])
 three_bytes P a b c p q r =
     All-cons P a (b ∷ c ∷ []) p (All-cons P b (c ∷ []) q (All-cons P c [] r (All-nil P)))
 
