@@ -87,10 +87,8 @@ plain_front scope bytes front = record {
 pub expansion_opens : (scope : Scope) (bytes : List ℕ)
     → IsUnknownExpansion (profile_of scope.begins) bytes
     → AreFollowed scope bytes → IsForeignOpening scope bytes
-expansion_opens scope (first ∷ second ∷ []) unknown followed = (
-  needed_followed scope (first ∷ []) followed
-      ∙ (one_need (profile_of scope.begins) first ∙ unknown.0),
-  needed_followed scope (first ∷ second ∷ []) followed ∙ unknown.1,
-  unknown.2,
-)
+expansion_opens scope (first ∷ second ∷ []) unknown followed =
+    let one = needed_followed scope (first ∷ []) followed in
+    let two = needed_followed scope (first ∷ second ∷ []) followed in
+    (one ∙ (one_need (profile_of scope.begins) first ∙ unknown.0), two ∙ unknown.1, unknown.2)
 expansion_opens scope bytes unknown followed = absurd unknown

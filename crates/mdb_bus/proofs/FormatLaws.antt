@@ -257,10 +257,8 @@ module _ (one other : Reading) where
       → Stand (reader_msg_bytes id text) (IsReaderMsg other id text) messages tail
   list_stays id text [] tail same stand = tt
   list_stays id text (message ∷ messages) tail same stand =
-      let apart = or_parts (varies message) (list_any varies messages) same in (
-        text_stays message _ _ apart.0 stand.0,
-        list_stays id text messages tail apart.1 stand.1,
-      )
+      let apart = or_parts (varies message) (list_any varies messages) same in
+      (text_stays message _ _ apart.0 stand.0, list_stays id text messages tail apart.1 stand.1)
 
   -- it is one of each reading of the extended profile
   plain_in : is_extended other ≡ true → (command : Command) (reply : Reply) → IsPlainList reply

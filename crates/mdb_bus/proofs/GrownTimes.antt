@@ -1,4 +1,5 @@
 -- Haste, and the rows out of their time, after one row more.
+use Rattle.std.proofs.Math.Nat.{add-zero, add_assoc}
 use Rattle.mdb_bus.proofs.Words.{[], Act, ap, ArePieces, arith, asked_device, AskTail, Base, Blame, block_most, Bool, Break, came_early, Controller, controller_words, Device, Event, events_of, false, far_apart, Grown, haste_after, haste_with, if◌then◌else◌, InAsk, inl, inr, is_in_haste, is_past, is_untimely, IsSaid, IsTail, last_of, Leads, left_by, Line, List, lt-ltb, None, Option, Peripheral, Piece, piece_events, pieces_after, Position, position_of, refl, RepeatTail, ReplyTail, Say, Scope, sender_by, situation_of, Some, Step, subst, sym, true, untimely_of, untimely_sender, Whole, with_rows, with_sender, with_untimely, Word, ℕ, ◌++◌, ◌+◌, ◌<◌, ◌∙◌, ◌∷◌, ◌≡◌, ◌≢◌, ◌⊎◌}
 use Rattle.mdb_bus.specs.declared.untimely.Untimely.{Untimely}
 use Rattle.mdb_bus.specs.declared.act.Act.TheVariants as acts
@@ -41,19 +42,12 @@ with_more : (position : Position) (from : Option Event) (events : List Event) (r
 with_more position from [] row haste some = absurd (some refl)
 with_more position from (first ∷ others) row haste some = refl
 
--- sums
-sum_more : (n some more : ℕ) → n + (some + more) ≡ n + some + more
-sum_more n some more = omega arith
-
 -- rows of a sender add up
 adds_up : (more some : ℕ) (sender : Blame) (counts : Untimely)
     → with_untimely (some + more) sender counts
     ≡ with_untimely more sender (with_untimely some sender counts)
 adds_up more some blame.Other counts = refl
-adds_up more some sender counts = rw sum_more
-
-add-zero : (n : ℕ) → n + 0 ≡ n
-add-zero n = omega arith
+adds_up more some sender counts = rw (← add_assoc)
 
 -- no row adds nothing
 adds_none : (sender : Blame) (counts : Untimely) → with_untimely 0 sender counts ≡ counts

@@ -76,11 +76,10 @@ module _ (less more : Scope) (wider : LeavesOutMore less more) where
   opening_stays : (bytes : List ℕ) → AreFollowed more bytes → IsForeignOpening less bytes
       → IsForeignOpening more bytes
   opening_stays (first ∷ []) followed opening = sym (same_need (first ∷ []) followed) ∙ opening
-  opening_stays (first ∷ second ∷ []) followed opening = (
-    sym (same_need (first ∷ []) followed) ∙ opening.0,
-    sym (same_need (first ∷ second ∷ []) followed) ∙ opening.1,
-    opening.2,
-  )
+  opening_stays (first ∷ second ∷ []) followed opening =
+      let one = same_need (first ∷ []) followed in
+      let two = same_need (first ∷ second ∷ []) followed in
+      (sym one ∙ opening.0, sym two ∙ opening.1, opening.2)
   opening_stays bytes followed opening = absurd opening
 
   -- a foreign act that doesn't begin a block to a device that is left out is foreign as it was

@@ -71,13 +71,12 @@ pub say_last : (line : Line) (words : List ℕ) (events : List Event) (event : E
     → (front : List ℕ) × (word : ℕ) × (words ≡ front ++ word ∷ []) × Say line front events
     × (said_by event ≡ Some (line, word))
 say_last line [] [] event says = cc
-say_last line [] (f ∷ events) event says = cc
 say_last line (w ∷ []) [] event says = ([], w, refl, refl, cc)
-say_last line (w ∷ v ∷ words) [] event says = cc
 say_last line (w ∷ words) (f ∷ events) event says =
     let rest = say_last line words events event (cc) in
     let whole : words ≡ rest.0 ++ rest.1 ∷ [] = rest.2 in
     (w ∷ rest.0, rest.1, cc, cc, rest.4)
+say_last line words events event says = cc
 
 -- one word is one event
 pub one_alone : (line : Line) (word : ℕ) (front : List Event) (event : Event) → Say line (word ∷ [])

@@ -96,8 +96,5 @@ pub options_more : (first second : ℕ) → begins_options (first ∷ second ∷
 options_more first second begins = elim (address first) [
   | inl one ↦ rw one
   | inr (inl two) ↦ rw two
-  | inr (inr other) ↦
-      let none : begins_options (first ∷ second ∷ []) ≡ false =
-      ap (λ b. b && (second == 0x04)) other in
-      absurd (cc)
+  | inr (inr other) ↦ cc (ap (λ b. b && (second == 0x04)) other, begins)
 ]

@@ -28,9 +28,7 @@ module _ (scope : Scope) (grammar : Grammar scope) where
   command_not_foreign : (bytes : List ℕ) (command : Command) → Asks scope command bytes
       → IsForeignOpening scope bytes → ⊥
   command_not_foreign bytes command asks opening =
-      let clash : Exactly (length bytes) ≡ Foreign =
-      sym (grammar.needs bytes command asks) ∙ opening_foreign scope bytes opening in
-      cc clash
+      cc (grammar.needs bytes command asks, opening_foreign scope bytes opening)
 
   module _ (from : Option Event) (levels : Levels) (to : Event) (word : ℕ) where
     -- a word leads to one step from a position

@@ -54,13 +54,10 @@ open_front first law another scope bytes all wanting =
     let there = within scope bytes (needed_in scope bytes) refl other in
     let plain = unmasked profile bytes (needed_in scope bytes) there.1 other in
     let begun : IsOpen bytes = rw plain.1 wanting in
-    let found = open_one law another (leaves_options profile) bytes all begun plain.0 in (
-      found.0,
-      found.1,
-      found.2,
-      asks_followed first scope found.0 (bytes ++ found.1) found.3 found.4
-          (still_followed scope bytes found.1 (some_bytes bytes begun) there.0),
-    )
+    let found = open_one law another (leaves_options profile) bytes all begun plain.0 in
+    let more = still_followed scope bytes found.1 (some_bytes bytes begun) there.0 in
+    let asks = asks_followed first scope found.0 (bytes ++ found.1) found.3 found.4 more in
+    (found.0, found.1, found.2, asks)
 
 -- for a command and a reading, data bytes have at most one reply
 pub one_reply : BlockHasOneReply → OneReply

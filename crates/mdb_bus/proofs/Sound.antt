@@ -24,17 +24,14 @@ say_long : (line : Line) (words : List ℕ) (events : List Event) → Say line w
     → LastIsLong (last_of events)
 say_long line words [] says = tt
 say_long line words (Word at on word ∷ []) says = tt
-say_long line [] (Break at length ∷ []) says = cc
-say_long line (w ∷ words) (Break at length ∷ []) says = cc
-say_long line [] (event ∷ next ∷ events) says = cc
 say_long line (w ∷ words) (event ∷ next ∷ events) says = say_long line words (next ∷ events) (cc)
+say_long line words events says = cc
 
 module _ (scope : Scope) where
   -- a piece has events
   pub piece_some : (rest : List Piece) (piece : Piece) → MayStand scope rest piece
       → piece_events piece ≢ []
-  piece_some rest piece stands none =
-      let clash : [] ≡ stands.first ∷ stands.others = sym none ∙ stands.begins in cc
+  piece_some rest piece stands none = cc (stands.begins, none)
 
   -- the position after pieces in order is sound
   pub is_sound : (pieces : List Piece) → ArePieces scope pieces

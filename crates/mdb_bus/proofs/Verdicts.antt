@@ -165,8 +165,9 @@ module _ (profile : Profile) where
   left_foreign first word alone foreign = elim (cases_Bool (begins_options (first ∷ word ∷ []))) [
     | inl begins ↦ options_more first word begins
     | inr none ↦
-        let known = known_need profile (first ∷ word ∷ []) (and_right (leaves_options profile) _ none)
-        in left_by first word _ refl alone (λ n tells. cc (known, foreign, tells))
+        let known = known_need profile (first ∷ word ∷ [])
+        (and_right (leaves_options profile) _ none) in
+        left_by first word _ refl alone (λ n tells. cc (known, foreign, tells))
   ]
 
   -- what is made of a second byte
