@@ -1,5 +1,5 @@
 -- The steps of a device that keeps messages, as the code finds them.
-use Rattle.mdb_machine.proofs.Words.{◌≡◌, ◌∙◌, ◌↔◌, ◌&&◌, ◌==◌, not, ℕ, Bool, true, false, List, [], ◌∷◌, None, Some, refl, ap, sym, subst, length, map, arith, if◌then◌else◌, OnFalse, eqb-true, Command, Reply, Act, Choice, Plain, Lost, Restart, Again, Gains, Part, CanStand, Stays, controller_gains, device_gains, no_gains, Facts, Tables, Conduct, KeeperStep, ReplyStep, VmcAckStep, worth, MayBeRead, HasNews, has_reset, held, holds_acked, holds_after, holds_read, kept_of, IsSummary, IsOnly, IsOnlyStep}
+use Rattle.mdb_machine.proofs.Words.{◌≡◌, ◌∙◌, ◌↔◌, ◌&&◌, ◌==◌, not, ℕ, Bool, true, false, List, [], None, Some, refl, ap, sym, subst, length, map, if◌then◌else◌, OnFalse, eqb-true, Command, Reply, Act, Choice, Plain, Lost, Restart, Again, Gains, Part, CanStand, Stays, controller_gains, device_gains, no_gains, Facts, Tables, Conduct, KeeperStep, ReplyStep, VmcAckStep, worth, MayBeRead, HasNews, has_reset, held, holds_acked, holds_after, holds_read, kept_of, IsSummary, IsOnly, IsOnlyStep, nil_from_length}
 use Rattle.mdb_bus.specs.declared.act.Act.TheVariants as acts
 use Rattle.mdb_machine.proofs.KeptLists.{HasNewsOnly, free_acked, only_news}
 
@@ -137,24 +137,6 @@ module _ {Own Setup Asked M State : Type 0} (conduct : Conduct Own Setup Asked M
     λ stays. record { to = stays.0 ∙ sym (conduct.same_as_set before); gained = stays.1 },
   )
 
--- no messages: what the code asks
-pub idle : {T Own Setup Asked M State : Type 0} (tables : Tables Own Setup Asked M)
-    (conduct : Conduct Own Setup Asked M State) (part_of : T → Part M) (messages : List T)
-    (act : Act) (command : Command) (own : Own) (reply : Reply) (empty : Bool)
-    → act ≡ acts.VmcAck command reply → tables.own command ≡ Some own
-    → map part_of messages ≡ tables.parts_of reply → empty ≡ (length messages == 0)
-    → OnFalse (not empty) ((facts : Facts Setup Asked M) (choice : Choice)
-    (before after : State) (gains : Gains)
-    → KeeperStep tables conduct facts act choice before after gains
-    ↔ (after ≡ before) × (gains ≡ no_gains))
-idle tables conduct part_of messages act command own reply false is own_is parts e = tt
-idle tables conduct part_of [] act command own reply true is own_is parts e =
-    λ facts choice before after gains.
-    rw (is, own_is, ← parts) (idle_ack conduct facts choice before after gains (tables.is_poll own))
-idle tables conduct part_of (m ∷ messages) act command own reply true is own_is parts e =
-    let none : length (m ∷ messages) ≡ 0 = eqb-true (length (m ∷ messages)) 0 (sym e) in
-    absurd (omega (arith, none))
-
 -- each choice that can stand on an act leads nowhere else than the plain one
 abbrev pub IsUnheeded : {Own Setup Asked M State : Type 0} → Tables Own Setup Asked M
     → Conduct Own Setup Asked M State → Act → State → Type 0
@@ -191,19 +173,32 @@ module _ {Own Setup Asked M State : Type 0} (conduct : Conduct Own Setup Asked M
         gained = step.gained;
       }
 
-pub unread : {T Own Setup Asked M State : Type 0} (tables : Tables Own Setup Asked M)
+-- messages of a reply, as the code finds them
+module _ {T Own Setup Asked M State : Type 0} (tables : Tables Own Setup Asked M)
     (conduct : Conduct Own Setup Asked M State) (part_of : T → Part M) (messages : List T)
-    (act : Act) (command : Command) (own : Own) (reply : Reply) (before : State) (may : Bool)
-    → act ≡ acts.Reply command reply
-    → tables.own command ≡ Some own
-    → map part_of messages ≡ tables.parts_of reply
-    → OnFalse may (MayBeRead Restart (map part_of messages) → ⊥)
-    → OnFalse may (IsUnheeded tables conduct act before)
-unread tables conduct part_of messages act command own reply before true is own_is parts never = tt
-unread tables conduct part_of messages act command own reply before false is own_is parts never =
-    λ facts choice after gains.
-    rw (is, own_is) (plain_alone conduct facts (tables.is_poll own) (tables.parts_of reply) before
-    after gains command reply (λ read. never (subst (MayBeRead Restart) (sym parts) read)) choice)
+    (act : Act) (command : Command) (own : Own) (reply : Reply) where
+  -- an ACK of none of them changes nothing
+  pub idle : (empty : Bool) → act ≡ acts.VmcAck command reply → tables.own command ≡ Some own
+      → map part_of messages ≡ tables.parts_of reply → empty ≡ (length messages == 0)
+      → OnFalse (not empty) ((facts : Facts Setup Asked M) (choice : Choice)
+      (before after : State) (gains : Gains)
+      → KeeperStep tables conduct facts act choice before after gains
+      ↔ (after ≡ before) × (gains ≡ no_gains))
+  idle false is own_is parts e = tt
+  idle true is own_is parts e = λ facts choice before after gains.
+      let none = nil_from_length messages (eqb-true (length messages) 0 (sym e)) in
+      rw (is, own_is, ← parts, none)
+      (idle_ack conduct facts choice before after gains (tables.is_poll own))
+
+  -- a choice is unheeded where they can't be read otherwise
+  pub unread : (before : State) (may : Bool) → act ≡ acts.Reply command reply
+      → tables.own command ≡ Some own → map part_of messages ≡ tables.parts_of reply
+      → OnFalse may (MayBeRead Restart (map part_of messages) → ⊥)
+      → OnFalse may (IsUnheeded tables conduct act before)
+  unread before true is own_is parts never = tt
+  unread before false is own_is parts never = λ facts choice after gains.
+      rw (is, own_is) (plain_alone conduct facts (tables.is_poll own) (tables.parts_of reply)
+      before after gains command reply (λ read. never (rw parts read)) choice)
 
 pub unheard : {Own Setup Asked M State : Type 0} (tables : Tables Own Setup Asked M)
     (conduct : Conduct Own Setup Asked M State) (act : Act) (command : Command) (own : Own)

@@ -1,5 +1,6 @@
 -- From power-on all is known of a device that keeps messages.
-use Rattle.mdb_machine.proofs.Words.{◌≡◌, ◌∙◌, ◌↔◌, ◌&&◌, ◌||◌, not, Bool, true, false, List, [], Option, Some, None, option_map, ltb, refl, ap, sym, subst, unwrap_or, fun_ext, Act, PowerOn, Profile, Choice, Gains, enabled_of, known_enabled, AllowsFacts, Facts, Tables, asked_by, effect_of, known_of, parts_by, setup_by, facts_of, Conduct, KeeperStep, StepKnowing, Allows, AllowsKept, known_by, last_list, last_told, or_else, past_of, same_past}
+use Rattle.std.proofs.Math.Bool.{or-false, and-true}
+use Rattle.mdb_machine.proofs.Words.{◌≡◌, ◌∙◌, ◌↔◌, Bool, List, [], Option, Some, None, option_map, refl, ap, sym, subst, unwrap_or, fun_ext, Act, PowerOn, Profile, Choice, Gains, enabled_of, known_enabled, AllowsFacts, Facts, Tables, asked_by, effect_of, known_of, parts_by, setup_by, facts_of, Conduct, KeeperStep, StepKnowing, Allows, AllowsKept, known_by, last_list, last_told, or_else, past_of, same_past}
 
 -- the facts are the same where their fields are
 pub same_facts : {Setup Asked M : Type 0} {one other : Facts Setup Asked M}
@@ -26,14 +27,6 @@ kept_known : {M : Type 0} (profile : Profile) (told : Option (List M)) (holds : 
 kept_known profile None holds kept = (λ e. e, λ e. e)
 kept_known profile (Some list) holds kept = (λ e. e, λ e. e)
 
-no_more : (a b : Bool) → (a || (false && b)) ≡ a
-no_more true b = refl
-no_more false b = refl
-
-owed_so : (a : Bool) → (a && not false) ≡ a
-owed_so true = refl
-owed_so false = refl
-
 pub power_on_known : {Own Setup Asked M : Type 0} (tables : Tables Own Setup Asked M)
     (profile : Profile) (so_far : List Act) (holds : Bool) (facts : Facts Setup Asked M)
     → AllowsFacts (known_of tables (PowerOn profile) so_far) holds facts
@@ -44,11 +37,11 @@ power_on_known {Setup = Setup} {Asked = Asked} {M = M} tables profile so_far hol
     let past = past_of (effect_of tables) (parts_by tables) so_far in
     let enabled : known_enabled (PowerOn profile) (effect_of tables) so_far
     ≡ enabled_of profile (effect_of tables) so_far =
-    fun_ext (λ kind. no_more (enabled_of profile (effect_of tables) so_far kind) (ltb kind 16)) in
+    fun_ext (λ kind. or-false (enabled_of profile (effect_of tables) so_far kind)) in
     let kept = kept_known profile (last_list (parts_by tables) so_far) holds in (
       λ is. same_facts (is.setup ∙ setup) ((asked facts.last_asked).0 is.last_asked)
           (is.enabled ∙ enabled)
-          (same_past (is.past.reset_owed ∙ owed_so past.reset_owed)
+          (same_past (is.past.reset_owed ∙ and-true past.reset_owed)
           ((kept facts.past.last_kept).0 is.past.last_kept)),
       λ same. record {
         setup = ap (λ (f : Facts Setup Asked M). f.setup) same ∙ sym setup;
@@ -57,7 +50,7 @@ power_on_known {Setup = Setup} {Asked = Asked} {M = M} tables profile so_far hol
         enabled = ap (λ (f : Facts Setup Asked M). f.enabled) same ∙ sym enabled;
         past = record {
           reset_owed = ap (λ (f : Facts Setup Asked M). f.past.reset_owed) same
-              ∙ sym (owed_so past.reset_owed);
+              ∙ sym (and-true past.reset_owed);
           last_kept = (kept facts.past.last_kept).1
               (ap (λ (f : Facts Setup Asked M). f.past.last_kept) same);
         };

@@ -13,13 +13,17 @@ up-le (suc k) e =
     let less : pad (suc k) e < suc k = mod-lt _ (omega arith) in
     omega (arith, less)
 
--- where each rounding adds no more than what it rounds to
-bounded : (up : ℕ → ℕ → ℕ) → ((k e : ℕ) → up k e ≤ e + k) → (size align : ℕ) → size ≤ 65536
-    → align ≤ 65536
-    → up (max (max (max align 1) 8) 1) (up 1 (up 1 (up (max (max align 1) 8) 0
+-- the size of a summary of 16 messages of a size, where `up` rounds
+abbrev padded : (ℕ → ℕ → ℕ) → ℕ → ℕ → ℕ
+padded up size align =
+    up (max (max (max align 1) 8) 1) (up 1 (up 1 (up (max (max align 1) 8) 0
     + up (max (max align 1) 8)
     (up 1 (up 8 (up (max align 1) 0 + up (max align 1) (up align 0 + 16 * size)) + 8) + 0))
-    + 1) + 1) < 9223372036854775808
+    + 1) + 1)
+
+-- where each rounding adds no more than what it rounds to
+bounded : (up : ℕ → ℕ → ℕ) → ((k e : ℕ) → up k e ≤ e + k) → (size align : ℕ) → size ≤ 65536
+    → align ≤ 65536 → padded up size align < 9223372036854775808
 bounded up le size align few small =
     let a = up align 0 in
     let b = up (max align 1) (a + 16 * size) in
@@ -47,9 +51,5 @@ bounded up le size align few small =
     )
 
 pub summary_fits : (R : RattleType) → TakesFewBytes R
-    → let size = type_size R in let align = type_align R in
-    up (max (max (max align 1) 8) 1) (up 1 (up 1 (up (max (max align 1) 8) 0
-    + up (max (max align 1) 8)
-    (up 1 (up 8 (up (max align 1) 0 + up (max align 1) (up align 0 + 16 * size)) + 8) + 0))
-    + 1) + 1) < 9223372036854775808
+    → padded up (type_size R) (type_align R) < 9223372036854775808
 summary_fits R few = bounded up up-le (type_size R) (type_align R) few.0 few.1

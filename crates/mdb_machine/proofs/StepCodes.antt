@@ -13,34 +13,27 @@ pub coded_more : {State : Type 0} (code_of : State → ℕ) (steps more : List (
     (coded longer : List (ℕ × Gains)) (step : State × Gains) → more ≡ steps ++ step ∷ []
     → longer ≡ coded ++ (code_of step.0, step.1) ∷ []
     → AreCoded code_of steps coded → AreCoded code_of more longer
-coded_more {State} code_of steps more coded longer step more_is longer_is are next gains = (
-  λ has. elim (Contains-push_cases coded (code_of step.0, step.1) (next, gains)
-      (subst (λ l. Contains l (next, gains)) longer_is has)) [
+coded_more {State} code_of steps more coded longer step more_is longer_is are next gains =
+    rw (more_is, longer_is) (
+      λ has. elim (Contains-push_cases coded (code_of step.0, step.1) (next, gains) has) [
         | inl among ↦
-            let one = (are next gains).0 among in (
-              one.0,
-              one.1,
-              subst (λ l. Contains l (one.0, gains)) (sym more_is)
-                  (Contains-append_left steps (step ∷ []) (one.0, gains) one.2),
-            )
+            let one = (are next gains).0 among in
+            (one.0, one.1, Contains-append_left steps (step ∷ []) (one.0, gains) one.2)
         | inr last ↦ (
           step.0,
           ap (λ (p : ℕ × Gains). p.0) last,
-          subst (λ l. Contains l (step.0, gains)) (sym more_is)
-              (subst (λ (g : Gains). Contains (steps ++ step ∷ []) (step.0, g))
-              (ap (λ (p : ℕ × Gains). p.1) last) (Contains-push steps step)),
+          subst (λ (g : Gains). Contains (steps ++ step ∷ []) (step.0, g))
+              (ap (λ (p : ℕ × Gains). p.1) last) (Contains-push steps step),
         )
       ],
-  λ has. subst (λ l. Contains l (next, gains)) (sym longer_is)
-      (elim (Contains-push_cases steps step (has.0, gains)
-      (subst (λ l. Contains l (has.0, gains)) more_is has.2)) [
+      λ has. elim (Contains-push_cases steps step (has.0, gains) has.2) [
         | inl among ↦ Contains-append_left coded ((code_of step.0, step.1) ∷ []) (next, gains)
             ((are next gains).1 (has.0, has.1, among))
         | inr last ↦ subst (λ (p : ℕ × Gains). Contains (coded ++ (code_of step.0, step.1) ∷ []) p)
             (as_pair has.0 next gains step has.1 last)
             (Contains-push coded (code_of step.0, step.1))
-      ]),
-)
+      ],
+    )
   where
     as_pair : (after : State) (next : ℕ) (gains : Gains) (one : State × Gains)
         → code_of after ≡ next → one ≡ (after, gains)

@@ -4,7 +4,7 @@ pub use Rattle.std.proofs.Common.{[], ap, arith, bit_or, Bool, drop, false, get_
 pub use Rattle.std.proofs.Math.Path.{fun_ext}
 pub use Rattle.std.proofs.Math.Seq.{drop-append_seam, take-append_seam, take-length}
 pub use Rattle.std.proofs.lemmas.Bool.{cases_lt, eqb-true, le-ltb, lt-ltb, or_cases, or_left, or_right, and_right, and_parts}
-pub use Rattle.std.proofs.lemmas.List.{length-append, length-take-le, map_more, take-append-drop, take_more}
+pub use Rattle.std.proofs.lemmas.List.{length-append, length-take-le, map_more, take-append-drop, take_more, nil_from_length}
 pub use Rattle.std.proofs.lemmas.List.Elements.{All-from_recursion, Contains-append_left, Contains-push, Contains-push_cases, filter_map-append, recursion_from_All}
 pub use Rattle.std.proofs.lemmas.Option.{none-some, same_Some}
 pub use Rattle.std.specs.Bool.{OnFalse, OnTrue}
