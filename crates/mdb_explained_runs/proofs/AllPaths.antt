@@ -1,20 +1,10 @@
 -- The paths of a device among those of all, whose chains share their links.
-use Rattle.mdb_explained_runs.proofs.Words
-use Words.{arith, ap, sym, subst, Contains, ◌∙◌, ◌≡◌, ◌+◌, ◌^◌, ℕ, Bool, true, false, List, ◌∷◌}
-use Words.{◌++◌, length, Result, Ok, inl, inr, refl, get_or, ◌<◌, ◌≤◌, OnFalse, OnTrue, IfOk, Event}
-use Words.{Device, Act, PowerOn, Profile, Piece, Whole, acts_of, events_of, IsActOf, AllPaths, Best}
-use Words.{Weight, Link, Goal, DEVICES, device_place, Mark, machine_of, own_marks, AreAllFacts}
-use Words.{AreAllPaths, AreAllWithin, AreBestMarks, HasNoWay, weight_for, Denotes, IsChain}
-use Words.{KeepChains, ints, below, earlier, placed, same_or_not, is_machine_of, unmoved}
+use Rattle.mdb_explained_runs.proofs.Words.{arith, ap, Contains, ◌∙◌, ◌≡◌, ◌+◌, ◌^◌, ℕ, Bool, true, false, List, ◌∷◌, ◌++◌, length, Result, Ok, inl, inr, refl, get_or, ◌<◌, ◌≤◌, OnFalse, OnTrue, IfOk, Event, Device, Act, PowerOn, Profile, Piece, Whole, acts_of, events_of, IsActOf, AllPaths, Best, Weight, Link, Goal, DEVICES, device_place, Mark, machine_of, own_marks, AreAllFacts, AreAllPaths, AreAllWithin, AreBestMarks, HasNoWay, weight_for, Denotes, IsChain, KeepChains, ints, below, earlier, placed, same_or_not, is_machine_of, unmoved, AreFactsOf, ArePathsOf, AreWithinOf, HasWay, LeadsPathsOf, OneLeadsPaths, paths_in, ArePaths, IsBestOf, subst, sym}
 use Rattle.mdb_explained_runs.specs.declared.explain.paths.Paths.{Paths}
 use Rattle.mdb_follow.specs.Sides.{FactsOf, code_of, codes_of, stands_for}
-use Rattle.mdb_explained_runs.specs.inner.AllPaths.{AreFactsOf, ArePathsOf, AreWithinOf}
-use Rattle.mdb_explained_runs.specs.inner.AllPaths.{HasWay, LeadsPathsOf, OneLeadsPaths, paths_in}
-use Rattle.mdb_explained_runs.specs.inner.Paths.{ArePaths, IsBestOf}
 use Rattle.mdb_explained_runs.proofs.Bests.{as_good-then}
 use Rattle.mdb_explained_runs.proofs.Chains.{denotes-one, keep-same, keep-then}
-use Rattle.mdb_explained_runs.proofs.EntryLimits.{entries-within-kept}
-use Rattle.mdb_explained_runs.proofs.Paths.{paths-kept, paths-still}
+use Rattle.mdb_explained_runs.proofs.Paths.{entries-within-kept, paths-kept, paths-still}
 
 pub on-false : (b : Bool) (P Q : Type 0) → (P → Q) → OnFalse b P → OnFalse b Q
 on-false true P Q weaker h = tt
@@ -40,88 +30,80 @@ module _ (old new : AllPaths) (keep : KeepChains old.chains.links.items new.chai
 
 -- Only the paths of one device are led, and those of the others stay.
 
--- an act in which a device has no part leaves its paths
-still-of : (profile : Profile) (device : Device) {weight : Weight} {old new : List Link}
-    {pieces : List Piece} (act : Act) (events : List Event)
-    {paths : Paths (FactsOf device) (codes_of device)}
-    → (IsActOf device act → ⊥) → KeepChains old new → PathsAt profile device weight old pieces paths
-    → PathsAt profile device weight new (Whole act events ∷ pieces) paths
-still-of profile device {pieces = pieces} act events {paths} other keep are = record {
-  facts = unmoved (PowerOn profile) device paths.facts (acts_of pieces) act other are.facts;
-  best = paths-kept keep (paths-still act events (λ k d within acts choice before after gains same.
-      (is_machine_of (PowerOn profile) device).elsewhere acts act choice before after gains other)
-      are.best);
-}
-
--- The paths of the device of an arm were led.
-pub one-leads : {E : Type 0} (r : Result Bool E) (goal : Goal) (device which : Device)
-    (weight : Weight) (act : Act) (row : ℕ) (old new : AllPaths) → device ≡ which
-    → weight ≡ weight_for goal device
-    → IfOk r (λ goes. OnTrue goes ((profile : Profile) (pieces : List Piece) (events : List Event)
-    → row ≡ length (events_of pieces ++ events)
-    → PathsAt profile which weight old.chains.links.items pieces (paths_in old which)
-    → PathsAt profile which weight new.chains.links.items (Whole act events ∷ pieces)
-    (paths_in new which)))
-    → IfOk r (λ _. (limit : ℕ) → AreWithinOf limit old which
-    → AreWithinOf (limit + 2 ^ 32) new which)
-    → ((other : Device) → (other ≡ which → ⊥) → paths_in new other ≡ paths_in old other)
-    → IfOk r (λ goes. OnTrue goes (OneLeadsPaths device goal act row old new))
-one-leads (Ok true) goal device which weight act row old new is weighs led within others =
-    let weight_is : weight ≡ weight_for goal which = weighs ∙ ap (weight_for goal) is in
-    rw is (record {
-      own = record { led = rw weight_is at led; within = within };
-      others = others;
-    })
-one-leads r goal device which weight act row old new is weighs led within others = tt
-
--- Where it has no way, the device has none.
-pub one-none : {E : Type 0} (r : Result Bool E) (goal : Goal) (device which : Device)
-    (weight : Weight) (act : Act) (old : AllPaths) → device ≡ which
-    → weight ≡ weight_for goal device
-    → IfOk r (λ goes. OnFalse goes ((profile : Profile) (pieces : List Piece)
-    → PathsAt profile which weight old.chains.links.items pieces (paths_in old which)
-    → HasNoWay profile pieces act which))
-    → IfOk r (λ goes. OnFalse goes ((profile : Profile) (pieces : List Piece)
-    → ArePathsOf profile goal pieces old device → HasNoWay profile pieces act device))
-one-none (Ok false) goal device which weight act old is weighs none =
-    let weight_is : weight ≡ weight_for goal which = weighs ∙ ap (weight_for goal) is in
-    λ profile pieces are. subst (HasNoWay profile pieces act) (sym is)
-    (none profile pieces (rw weight_is (subst (ArePathsOf profile goal pieces old) is are)))
-one-none r goal device which weight act old is weighs none = tt
-
-module _ (goal : Goal) (device : Device) (act : Act) (row : ℕ) (old new : AllPaths)
-    (keep : KeepChains old.chains.links.items new.chains.links.items) where
-  -- All go on where the paths of the only device that has a part in the act were led.
-  pub all-led : ((other : Device) → IsActOf other act → other ≡ device)
-      → OneLeadsPaths device goal act row old new → (profile : Profile) (pieces : List Piece)
+module _ (goal : Goal) {device which : Device} {weight : Weight} (act : Act) (old : AllPaths)
+    (is : device ≡ which) (weighs : weight ≡ weight_for goal device) where
+  -- The paths of the device of an arm were led.
+  pub one-leads : {E : Type 0} (r : Result Bool E) (row : ℕ) (new : AllPaths)
+      → IfOk r (λ goes. OnTrue goes ((profile : Profile) (pieces : List Piece)
       (events : List Event) → row ≡ length (events_of pieces ++ events)
-      → AreAllPaths profile goal pieces old
+      → PathsAt profile which weight old.chains.links.items pieces (paths_in old which)
+      → PathsAt profile which weight new.chains.links.items (Whole act events ∷ pieces)
+      (paths_in new which)))
+      → IfOk r (λ _. (limit : ℕ) → AreWithinOf limit old which
+      → AreWithinOf (limit + 2 ^ 32) new which)
+      → ((other : Device) → (other ≡ which → ⊥) → paths_in new other ≡ paths_in old other)
+      → IfOk r (λ goes. OnTrue goes (OneLeadsPaths device goal act row old new))
+  one-leads (Ok true) row new led within others = rw is (record {
+    own = record { led = rw (weighs, is) at led; within = within };
+    others = others;
+  })
+  one-leads r row new led within others = tt
+
+  -- Where it has no way, the device has none.
+  pub one-none : {E : Type 0} (r : Result Bool E)
+      → IfOk r (λ goes. OnFalse goes ((profile : Profile) (pieces : List Piece)
+      → PathsAt profile which weight old.chains.links.items pieces (paths_in old which)
+      → HasNoWay profile pieces act which))
+      → IfOk r (λ goes. OnFalse goes ((profile : Profile) (pieces : List Piece)
+      → ArePathsOf profile goal pieces old device → HasNoWay profile pieces act device))
+  one-none (Ok false) none = λ profile pieces are.
+      subst (HasNoWay profile pieces act) (sym is) (none profile pieces
+      (rw (weighs, is) (subst (ArePathsOf profile goal pieces old) is are)))
+  one-none r none = tt
+
+module _ (goal : Goal) (act : Act) (row : ℕ) (old new : AllPaths)
+    (keep : KeepChains old.chains.links.items new.chains.links.items) where
+  -- those of a device that has no part in the act are led where they stay
+  stays : (device : Device) → paths_in new device ≡ paths_in old device
+      → (IsActOf device act → ⊥) → LeadsPathsOf goal act row old new device
+  stays device same other = record {
+    led = λ profile pieces events at are. rw same (record {
+      facts = unmoved (PowerOn profile) device _ (acts_of pieces) act other are.facts;
+      best = paths-kept keep (paths-still act events
+          (λ k d within acts choice before after gains is.
+          (is_machine_of (PowerOn profile) device).elsewhere acts act choice before after gains
+          other) are.best);
+    });
+    within = λ limit are. rw same (entries-within-kept _ (omega arith) keep are);
+  }
+
+  -- all are led where those of the only device are that has a part in the act
+  pub all-lead : (device : Device) → ((other : Device) → IsActOf other act → other ≡ device)
+      → OneLeadsPaths device goal act row old new → (other : Device)
+      → LeadsPathsOf goal act row old new other
+  all-lead device only one other = elim (same_or_not other device) [
+    | inl same ↦ rw same one.own
+    | inr apart ↦ stays other (one.others other apart) (λ of. apart (only other of))
+  ]
+
+-- and all stay where the act is no device's
+pub none-leads : (goal : Goal) (act : Act) (row : ℕ) (all : AllPaths)
+    → ((other : Device) → IsActOf other act → ⊥) → (device : Device)
+    → LeadsPathsOf goal act row all all device
+none-leads goal act row all none device =
+    stays goal act row all all keep-same device refl (none device)
+
+-- where those of each are led, all are those through an act more
+module _ {goal : Goal} {act : Act} {row : ℕ} {old new : AllPaths}
+    (leads : (device : Device) → LeadsPathsOf goal act row old new device) where
+  pub all-led : (profile : Profile) (pieces : List Piece) (events : List Event)
+      → row ≡ length (events_of pieces ++ events) → AreAllPaths profile goal pieces old
       → AreAllPaths profile goal (Whole act events ∷ pieces) new
-  all-led only one profile pieces events at are other = elim (same_or_not other device) [
-    | inl same ↦ rw same (one.own.led profile pieces events at (are device))
-    | inr apart ↦ rw (one.others other apart)
-        (still-of profile other act events (λ of. apart (only other of)) keep (are other))
-  ]
+  all-led profile pieces events at are device =
+      (leads device).led profile pieces events at (are device)
 
-  pub all-within : OneLeadsPaths device goal act row old new → (limit : ℕ) → AreAllWithin limit old
-      → AreAllWithin (limit + 2 ^ 32) new
-  all-within one limit are other = elim (same_or_not other device) [
-    | inl same ↦ rw same (one.own.within limit (are device))
-    | inr apart ↦ rw (one.others other apart)
-        (entries-within-kept _ (omega arith) keep (are other))
-  ]
-
--- All stay where the act is no device's.
-module _ (all : AllPaths) where
-  pub none-led : (goal : Goal) (act : Act) → ((other : Device) → IsActOf other act → ⊥)
-      → (profile : Profile) (pieces : List Piece) (events : List Event)
-      → AreAllPaths profile goal pieces all
-      → AreAllPaths profile goal (Whole act events ∷ pieces) all
-  none-led goal act none profile pieces events are device =
-      still-of profile device act events (none device) keep-same (are device)
-
-  pub none-within : (limit : ℕ) → AreAllWithin limit all → AreAllWithin (limit + 2 ^ 32) all
-  none-within limit are device = entries-within-kept _ (omega arith) keep-same (are device)
+  pub all-within : (limit : ℕ) → AreAllWithin limit old → AreAllWithin (limit + 2 ^ 32) new
+  all-within limit are device = (leads device).within limit (are device)
 
 -- In a loop over the devices: the paths of those before a place were led, those of the others are
 -- what they were, and each chain has its marks.
@@ -149,12 +131,10 @@ module _ {goal : Goal} {act : Act} {row count : ℕ} {old mid : AllPaths} (d : D
   next-waits : paths_in mid Next ≡ paths_in old Next
   next-waits = front.waiting Next (omega (arith, placed count d within))
 
-  pub front-more : (new : AllPaths) (goes : Bool) → goes ≡ true
-      → OnTrue goes (OneLeadsPaths Next goal act row mid new)
+  pub front-more : (new : AllPaths) → OneLeadsPaths Next goal act row mid new
       → KeepChains mid.chains.links.items new.chains.links.items
       → FrontLeads goal act row (count + 1) old new
-  front-more new goes so led keep =
-      let one : OneLeadsPaths Next goal act row mid new = rw so at led in
+  front-more new one keep =
       let at = placed count d within in
       record {
         gone = λ device less. elim (same_or_not device Next) [
@@ -189,14 +169,13 @@ module _ {goal : Goal} {act : Act} {row count : ℕ} {old mid : AllPaths} (d : D
   front-fits limit are = within-moved old mid front.kept Next next-waits limit (are Next)
 
   -- and where it has no way, it had none
-  pub front-none : (goes : Bool) → goes ≡ false
-      → OnFalse goes ((profile : Profile) (pieces : List Piece)
+  pub front-none : ((profile : Profile) (pieces : List Piece)
       → ArePathsOf profile goal pieces mid Next → HasNoWay profile pieces act Next)
       → (profile : Profile) (pieces : List Piece) → AreAllPaths profile goal pieces old
       → (one : Device) × HasNoWay profile pieces act one
-  front-none goes so none profile pieces are = (
+  front-none none profile pieces are = (
     Next,
-    (rw so at none) profile pieces
+    none profile pieces
         (moved old mid front.kept Next next-waits profile goal pieces (are Next)),
   )
 

@@ -1,12 +1,5 @@
 -- What is as good as what, and entries that are taken in.
-use Rattle.mdb_explained_runs.proofs.Words
-use Words.{arith, inl, inr, refl, sym, subst, ap, ◌∙◌, ◌≡◌, ◌≢◌, ◌⊎◌, ◌+◌, ◌<◌, ◌≤◌, ℕ, ℤ, ◌+ℤ◌}
-use Words.{List, [], ◌∷◌, ◌++◌, length, set, take, get_or, Contains, cases_eq, ints, take_all}
-use Words.{take_more, Contains-append_left, Contains-push, Contains-get_or, Contains-push_cases}
-use Words.{Best, Choice, Plain, marks_at, HasAsGood, contains-cases, contains-here, contains-there}
-use Rattle.std.proofs.lemmas.List.{get_or-set_other, get_or-set_same}
-use Rattle.std.proofs.lemmas.List.{get_or_default, length-set}
-use Rattle.mdb_explained_runs.specs.inner.Paths.{HasCodeAt, IsAsGood, IsBestOf, TakesIn}
+use Rattle.mdb_explained_runs.proofs.Words.{arith, inl, inr, refl, sym, subst, ap, ◌∙◌, ◌≡◌, ◌≢◌, ◌⊎◌, ◌+◌, ◌<◌, ◌≤◌, ℕ, ℤ, ◌+ℤ◌, List, [], ◌∷◌, ◌++◌, length, set, get_or, Contains, cases_eq, ints, Contains-append_left, Contains-push, Contains-push_cases, Best, Choice, Plain, marks_at, HasAsGood, contains-cases, contains-here, HasCodeAt, IsAsGood, IsBestOf, TakesIn, get_or-set_other, get_or-set_same, get_or_default, length-set, contains-none}
 
 -- a best is as good as another
 abbrev pub IsAsGoodAs : Best → Best → Type 0
@@ -32,32 +25,18 @@ pub has-weaker : {entries : List (ℕ × Best)} {code : ℕ} {a b : ℤ} {m n : 
 has-weaker good has =
     record { best = has.best; listed = has.listed; good = as_good-then has.good good }
 
--- the same in other words
-pub has-counted : {entries : List (ℕ × Best)} {code : ℕ} {a b : ℤ} {m n : ℕ} → a ≡ b → m ≡ n
-    → HasAsGood entries code a m → HasAsGood entries code b n
-has-counted same few has = has-weaker (omega (arith, ints)) has
-
 -- an element in place of another
 
 module _ {X : Type 0} (xs : List X) (k : ℕ) (y : X) (within : k < length xs) where
   set-has : Contains (set xs k y) y
-  set-has = (k, omega (arith, length-set xs k y), get_or-set_same xs k y y within)
+  set-has = search (arith, length-set, get_or-set_same)
 
   set-cases : (x : X) → Contains (set xs k y) x → Contains xs x ⊎ (y ≡ x)
-  set-cases x (at, inside, is) = elim (cases_eq at k) [
-    | inl same ↦ inr (sym (get_or-set_same xs k y x within)
-        ∙ ap (λ n. get_or (set xs k y) n x) (sym same) ∙ is)
-    | inr other ↦ inl (
-      at,
-      omega (arith, length-set xs k y),
-      sym (get_or-set_other xs k at y x other) ∙ is,
-    )
-  ]
+  set-cases x has = grind (arith, cases_eq, length-set, get_or-set_same, get_or-set_other)
 
   set-keeps : (x : X) → Contains xs x → ((d : X) → get_or xs k d ≡ x) ⊎ Contains (set xs k y) x
   set-keeps x (at, inside, is) = elim (cases_eq at k) [
-    | inl same ↦ inl (λ d. get_or_default xs k d x within
-        ∙ ap (λ n. get_or xs n x) (sym same) ∙ is)
+    | inl same ↦ inl (λ d. get_or_default xs k d x within ∙ (rw same at is))
     | inr other ↦ inr (
       at,
       omega (arith, length-set xs k y),
@@ -73,10 +52,7 @@ module _ {Is : ℕ × Best → Type 0} (entries : List (ℕ × Best)) where
   -- an entry is taken in after all
   pub takes-push : (entry : ℕ × Best) → Is entry → TakesIn Is entries (entries ++ entry ∷ [])
   takes-push entry is = record {
-    from = λ one has. elim (Contains-push_cases entries entry one has) [
-      | inl old ↦ inl old
-      | inr same ↦ inr (subst Is same is)
-    ];
+    from = λ one has. grind (arith, Contains-push_cases entries entry one has, is);
     kept = λ code value marks has. record {
       best = has.best;
       listed = Contains-append_left entries (entry ∷ []) (code, has.best) has.listed;
@@ -89,10 +65,8 @@ module _ {Is : ℕ × Best → Type 0} (entries : List (ℕ × Best)) where
       → ((d : ℕ × Best) → IsAsGoodAs best (get_or entries place d).1)
       → TakesIn Is entries (set entries place (code, best))
   takes-set place code best is there good = record {
-    from = λ one has. elim (set-cases entries place (code, best) there.0 one has) [
-      | inl old ↦ inl old
-      | inr same ↦ inr (subst Is same is)
-    ];
+    from = λ one has.
+        grind (arith, set-cases entries place (code, best) there.0 one has, is);
     kept = λ at value marks has.
         elim (set-keeps entries place (code, best) there.0 (at, has.best) has.listed) [
           | inl here ↦ record {
@@ -106,22 +80,16 @@ module _ {Is : ℕ × Best → Type 0} (entries : List (ℕ × Best)) where
         ];
   }
 
--- what was taken in is as good as itself
-module _ (entries : List (ℕ × Best)) (code : ℕ) (best : Best) where
-  pub has-push : HasAsGood (entries ++ (code, best) ∷ []) code best.value best.marks
-  has-push = record {
-    best = best;
-    listed = Contains-push entries (code, best);
-    good = as_good-same best;
-  }
+-- what was taken in is as good as what it is as good as
+module _ (entries : List (ℕ × Best)) (code : ℕ) (best : Best) {value : ℤ} {marks : ℕ}
+    (good : IsAsGood best.value best.marks value marks) where
+  pub has-push : HasAsGood (entries ++ (code, best) ∷ []) code value marks
+  has-push = record { best = best; listed = Contains-push entries (code, best); good = good }
 
   pub has-set : (place : ℕ) → place < length entries
-      → HasAsGood (set entries place (code, best)) code best.value best.marks
-  has-set place within = record {
-    best = best;
-    listed = set-has entries place (code, best) within;
-    good = as_good-same best;
-  }
+      → HasAsGood (set entries place (code, best)) code value marks
+  has-set place within =
+      record { best = best; listed = set-has entries place (code, best) within; good = good }
 
 -- an entry that is as good stays
 pub has-still : (entries : List (ℕ × Best)) (place code : ℕ) (found : ℕ × Best) {value : ℤ}
@@ -157,54 +125,37 @@ pub marks-most : (row : ℕ) (one choice : Choice) → choice ≢ Plain
 marks-most row one Plain not = absurd (not refl)
 marks-most row one choice not = marks-few row one
 
--- the best so far: the first or one of the rest, and as good as the first and so many of the rest
-pub record IsBestSoFar (rest : List (ℕ × Best)) (first : Best) (i : ℕ) (best : Best)
-    : Type 0 where
-  pub is : (best ≡ first) ⊎ ((code : ℕ) × Contains rest (code, best))
-  pub good : IsAsGoodAs best first
-  pub least : (entry : ℕ × Best) → Contains (take i rest) entry → IsAsGoodAs best entry.1
+-- one alone is the best
+pub best-alone : (code : ℕ) (best : Best) → IsBestOf ((code, best) ∷ []) best
+best-alone code best = record {
+  code = code;
+  listed = contains-here (code, best) [] (code, best) refl;
+  least = λ entry has. elim (contains-cases (code, best) [] entry has) [
+    | inl same ↦ subst (λ e. IsAsGoodAs best e.1) same (as_good-same best)
+    | inr none ↦ absurd (contains-none entry none)
+  ];
+}
 
-module _ {rest : List (ℕ × Best)} {first : Best} {i : ℕ} {best : Best} where
-  -- with one more it stays, where it is as good
-  pub best-stays : (d : ℕ × Best) → i < length rest → IsAsGoodAs best (get_or rest i d).1
-      → IsBestSoFar rest first i best → IsBestSoFar rest first (i + 1) best
-  best-stays d within good so_far = record {
-    is = so_far.is;
-    good = so_far.good;
-    least = λ entry has.
-        elim (Contains-push_cases _ _ entry (rw (take_more rest i d within) at has)) [
-          | inl old ↦ so_far.least entry old
-          | inr same ↦ subst (λ e. IsAsGoodAs best e.1) same good
-        ];
+module _ {entries : List (ℕ × Best)} {best : Best} (is : IsBestOf entries best)
+    (entry : ℕ × Best) where
+  -- with one more the best stays, where it is as good
+  pub best-stays : IsAsGoodAs best entry.1 → IsBestOf (entries ++ entry ∷ []) best
+  best-stays good = record {
+    code = is.code;
+    listed = Contains-append_left entries (entry ∷ []) (is.code, best) is.listed;
+    least = λ one has. elim (Contains-push_cases entries entry one has) [
+      | inl old ↦ is.least one old
+      | inr same ↦ subst (λ e. IsAsGoodAs best e.1) same good
+    ];
   }
 
-  -- at the end it is the best of all
-  pub best-last : (code : ℕ) → length rest ≤ i → IsBestSoFar rest first i best
-      → IsBestOf ((code, first) ∷ rest) best
-  best-last code all so_far =
-      let one = found so_far.is in
-      record {
-        code = one.0;
-        listed = one.1;
-        least = λ entry has. elim (contains-cases (code, first) rest entry has) [
-          | inl same ↦ subst (λ e. IsAsGoodAs best e.1) same so_far.good
-          | inr more ↦ so_far.least entry (rw (take_all i rest all) more)
-        ];
-      }
-    where
-      found : (best ≡ first) ⊎ ((at : ℕ) × Contains rest (at, best))
-          → (at : ℕ) × Contains ((code, first) ∷ rest) (at, best)
-      found (inl same) =
-          (code, contains-here (code, first) rest (code, best) (ap (λ b. (code, b)) (sym same)))
-      found (inr (at, has)) = (at, contains-there (code, first) rest (at, best) has)
-
--- and else the one more is the best
-pub best-goes : {rest : List (ℕ × Best)} {first : Best} {i : ℕ} {best : Best} (d : ℕ × Best)
-    → i < length rest → IsAsGoodAs (get_or rest i d).1 best → IsBestSoFar rest first i best
-    → IsBestSoFar rest first (i + 1) (get_or rest i d).1
-best-goes {rest} {i = i} d within good so_far = best-stays d within (as_good-same
-    (get_or rest i d).1) (record {
-      is = inr (_, Contains-get_or rest i d within);
-      good = as_good-then good so_far.good;
-      least = λ entry has. as_good-then good (so_far.least entry has);
-    })
+  -- and else the one more is the best
+  pub best-goes : IsAsGoodAs entry.1 best → IsBestOf (entries ++ entry ∷ []) entry.1
+  best-goes good = record {
+    code = entry.0;
+    listed = Contains-push entries entry;
+    least = λ one has. elim (Contains-push_cases entries entry one has) [
+      | inl old ↦ as_good-then good (is.least one old)
+      | inr same ↦ subst (λ e. IsAsGoodAs entry.1 e.1) same (as_good-same entry.1)
+    ];
+  }

@@ -1,12 +1,7 @@
 -- Chains in links, as they grow and as they are read.
-use Rattle.mdb_explained_runs.proofs.Words
-use Words.{arith, refl, sym, subst, ap, ◌∙◌, ◌≡◌, ◌+◌, ◌<◌, ◌≤◌, ℕ, List, [], ◌∷◌, ◌++◌, length}
-use Words.{reverse, slice_get, Some, append_assoc, length-append, get_or_from_slice_get, same_Some}
-use Words.{slice_get_read, get_or-append_seam, Link, Mark, Denotes, DenotesAt, IsChain, KeepChains}
-use Rattle.std.proofs.lemmas.Option.{slice_get_within}
-use Rattle.std.proofs.lemmas.List.{append-nil, get_or_append_left, reverse-append}
+use Rattle.mdb_explained_runs.proofs.Words.{arith, refl, sym, ap, ◌∙◌, ◌≡◌, ◌+◌, ◌<◌, ◌≤◌, ℕ, List, [], ◌∷◌, ◌++◌, length, reverse, slice_get, Some, append_assoc, length-append, get_or_from_slice_get, same_Some, slice_get_read, get_or-append_seam, Link, Mark, Denotes, DenotesAt, IsChain, KeepChains, linked, append-nil, get_or_append_left, reverse-append, slice_get_within}
 use Rattle.mdb_explained_runs.specs.declared.explain.chains.Chain.{Chain}
-use Rattle.mdb_explained_runs.specs.inner.Chains.{linked, nothing}
+use Rattle.mdb_explained_runs.specs.inner.Chains.{nothing}
 
 -- with the same links
 pub keep-same : {links : List Link} → KeepChains links links
@@ -55,11 +50,9 @@ grown links link marks old =
 -- So many marks of a chain are read, the newest first: before them come those of what is left.
 pub record IsRead (links : List Link) (chain : ℕ) (marks : List (ℕ × Mark)) (at : ℕ)
     : Type 0 where
-  pub whole : List (ℕ × Mark)
-  pub denotes : DenotesAt links chain whole
   pub rest : List (ℕ × Mark)
   pub left : DenotesAt links at rest
-  pub are : whole ≡ rest ++ reverse marks
+  pub whole : DenotesAt links chain (rest ++ reverse marks)
 
 -- a chain that ends with a link: what it denotes ends with the mark of this link
 record EndsBy (links : List Link) (link : Link) (whole : List (ℕ × Mark)) : Type 0 where
@@ -69,13 +62,8 @@ record EndsBy (links : List Link) (link : Link) (whole : List (ℕ × Mark)) : T
 
 module _ {links : List Link} where
   pub begins : (chain : Chain) → IsChain links chain → IsRead links chain.at [] chain.at
-  begins chain is = record {
-    whole = is.0;
-    denotes = is.1;
-    rest = is.0;
-    left = is.1;
-    are = sym (append-nil is.0);
-  }
+  begins chain is =
+      record { rest = is.0; left = is.1; whole = rw append-nil is.1 }
 
   ends-by : (n : ℕ) (link : Link) → slice_get links n ≡ Some link → {at : ℕ}
       {whole : List (ℕ × Mark)} → at ≡ n + 1 → DenotesAt links at whole → EndsBy links link whole
@@ -99,33 +87,21 @@ module _ {links : List Link} where
       → IsRead links chain (marks ++ (link.row, link.mark) ∷ []) link.parent.at
   reads_on {marks = marks} n at link same there read =
       let by = ends-by n link there same read.left in
-      let one : List (ℕ × Mark) = (link.row, link.mark) ∷ [] in
       record {
-        whole = read.whole;
-        denotes = read.denotes;
         rest = by.marks;
         left = by.older;
-        are = read.are ∙ ap (λ r. r ++ reverse marks) by.is
-            ∙ append_assoc by.marks one (reverse marks)
-            ∙ ap (λ r. by.marks ++ r) (sym (reverse-append marks one));
+        whole = rw reverse-append (rw (by.is, append_assoc) at read.whole);
       }
 
   pub is_read : {chain : ℕ} {marks : List (ℕ × Mark)} (at : ℕ) → at ≡ 0
       → IsRead links chain marks at → DenotesAt links chain (reverse marks)
-  is_read {chain} {marks} at none read =
-      subst (DenotesAt links chain)
-      (read.are ∙ ap (λ r. r ++ reverse marks) (none-left none read.left)) read.denotes
+  is_read at none read = rw (none-left none read.left) at read.whole
 
   -- what a chain denotes is among the links
-  within-at : {at : ℕ} {marks : List (ℕ × Mark)} → DenotesAt links at marks → at ≤ length links
+  pub within-at : {at : ℕ} {marks : List (ℕ × Mark)} → DenotesAt links at marks → at ≤ length links
   within-at nothing = omega arith
   within-at (linked n link rest is old) =
       let within : n < length links = slice_get_within links n link is in omega (arith, within)
-
-  -- what is left to read is among the links
-  pub read-within : {chain at : ℕ} {marks : List (ℕ × Mark)} → IsRead links chain marks at
-      → at ≤ length links
-  read-within read = within-at read.left
 
   -- a chain denotes one list of marks
   pub denotes-one : {at : ℕ} {one other : List (ℕ × Mark)} → DenotesAt links at one

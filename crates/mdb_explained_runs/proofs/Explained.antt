@@ -1,21 +1,36 @@
 -- The best marks of each device towards a goal, as one list: they explain it.
-use Rattle.mdb_explained_runs.proofs.Words
-use Words.{arith, refl, sym, ap, ◌∙◌, ◌≡◌, ℕ, ◌+◌, ◌≤◌, inl, inr, [], List, length, Event, Device}
-use Words.{IsActList, Piece, acts_of, profile_of, PowerOn, Profile, Scope, Seeker, Goal, Mark}
-use Words.{account_device, Choices, device_place, Explains, machine_of, choices_in, marks_of}
-use Words.{own_marks, from_power_on, AllSums, IsReached, States, AreAllPaths, AreBestMarks}
-use Words.{IsMergeOf, IsOfBoth, IsSeeker, below, earlier, same_or_not, follows_as, merged}
-use Words.{merged_agrees, OneActList, split_with_choices, is_machine_of}
+use Rattle.mdb_explained_runs.proofs.Words.{arith, refl, sym, ap, ◌∙◌, ◌≡◌, ℕ, ◌+◌, ◌≤◌, inl, inr, [], List, length, Event, Device, IsActList, Piece, acts_of, profile_of, PowerOn, Profile, Scope, Seeker, Goal, Mark, account_device, Choices, device_place, Explains, machine_of, marks_of, own_marks, from_power_on, AllSums, States, AreAllPaths, AreBestMarks, IsMergeOf, IsOfBoth, IsSeeker, below, earlier, same_or_not, follows_as, merged, merged_agrees, OneActList, is_machine_of, AreBestBelow, ℤ, ◌≤ℤ◌, ints, false_from_ne_true, same_device, Bound, Least, Greatest, IsAsFar, goal_value, weight_for, towards, weigh, is_one, itself}
 use Rattle.mdb_msgs.specs.declared.device_set.DeviceSet.{DeviceSet}
 use Rattle.mdb_bus.specs.Bus as link
-use Rattle.mdb_explained_runs.specs.inner.AllPaths.{AreBestBelow, HasWay}
-use Rattle.mdb_explained_runs.proofs.BestMarks.{farthest-of, fewest-of}
 use Rattle.mdb_explained_runs.proofs.MarkedRuns.{JoinWithChoices, marked-run, marks_rise, rising_one, ways-of}
-use Rattle.mdb_explained_runs.proofs.Merging.{all_merged, anothers, its_own, merged_more}
-use Rattle.mdb_explained_runs.proofs.Merging.{merged_enough, merged_none, with_own}
-use Rattle.mdb_explained_runs.proofs.OwnMarks.{PartsAreTold, all_together, in_own, own_apart, own_in}
-use Rattle.mdb_explained_runs.proofs.OwnMarks.{own_of_merged, own_rise}
-use Rattle.mdb_explained_runs.proofs.OwnMarks.{together_most}
+use Rattle.mdb_explained_runs.proofs.Merging.{all_merged, anothers, its_own, merged_more, merged_enough, merged_none, with_own}
+use Rattle.mdb_explained_runs.proofs.OwnMarks.{PartsAreTold, all_together, in_own, own_apart, own_in, own_of_merged, own_rise, together_most}
+
+-- what the sums of the goal's device count is the goal's value, towards its end
+goal-weighed : (goal : Goal) (sums : AllSums)
+    → weigh (weight_for goal (account_device goal.account)) (sums (account_device goal.account))
+    ≡ towards goal.bound (goal_value goal sums)
+goal-weighed goal sums = rw (itself (account_device goal.account))
+
+-- where two runs come to the same value of the goal, the sums of each device count the same in
+-- both: those of another device than the goal's count nothing
+same-weighed : (goal : Goal) (device : Device) (one other : AllSums)
+    → goal_value goal one ≡ goal_value goal other
+    → weigh (weight_for goal device) (one device) ≡ weigh (weight_for goal device) (other device)
+same-weighed goal device one other same =
+    let its = account_device goal.account in
+    elim (same_or_not its device) [
+      | inl is ↦ rw (← is)
+          (goal-weighed goal one ∙ ap (towards goal.bound) same ∙ sym (goal-weighed goal other))
+      | inr apart ↦
+          rw (false_from_ne_true (same_device its device) (λ is. apart (is_one its device is)))
+    ]
+
+-- what counts less is at least as far
+as-far : (bound : Bound) (one other : ℤ) → towards bound one ≤ℤ towards bound other
+    → IsAsFar bound one other
+as-far Least one other less = less
+as-far Greatest one other less = omega (arith, ints)
 
 -- what the laws say: ways with the same choices join, rows have one act list, and it is told
 -- whether a device has a part in an act
@@ -44,7 +59,7 @@ module _ (laws : ExplainLaws) (profile : Profile) (without : DeviceSet) (events 
     merge_is merge is =
         rising_one (marks_of pieces Chosen) merge (marks_rise Here pieces Chosen list.in_order)
         is.rise (λ mark. (
-          (λ has. let found = in_own laws.told pieces Chosen mark has in
+          (λ has. let found = in_own pieces Chosen mark has in
               is.own found.0 mark (rw (each found.0) at found.1)),
           (λ has. let found = is.some mark has in
               own_in found.0 pieces Chosen mark (rw (each found.0) found.1)),
@@ -67,14 +82,17 @@ module _ (laws : ExplainLaws) (profile : Profile) (without : DeviceSet) (events 
               let ways = ways-of (laws.one_list Here) pieces list
               (record { run = run; are = refl }) in
               let device : Device = account_device goal.account in
-              farthest-of (best device) sums other refl (run.states device) ways.chosen
-              (ways.ways device);
+              let good = (best device).least (run.states device) (other device) ways.chosen
+              (ways.ways device) in
+              as-far goal.bound (goal_value goal sums) (goal_value goal other)
+              (omega (arith, ints, good, goal-weighed goal sums, goal-weighed goal other));
           fewest = λ others other marked as_good.
               let ways = ways-of (laws.one_list Here) pieces list marked in
               let no_more = together_most (λ device. own_marks device pieces Chosen)
               (λ device. own_marks device pieces ways.chosen)
-              (λ device. rw (each device) (fewest-of (best device) sums other refl as_good
-              (marked.run.states device) ways.chosen (ways.ways device))) in
+              (λ device. rw (each device) (((best device).least (marked.run.states device)
+              (other device) ways.chosen (ways.ways device)).no_more
+              (same-weighed goal device sums other (sym as_good)))) in
               omega (
                 arith,
                 ap length (merge_is merge is),
@@ -96,7 +114,7 @@ module _ (laws : ExplainLaws) (profile : Profile) (without : DeviceSet) (events 
       explained goal is.of best all (all_merged is.of all
       (λ device. rw (own device) at (own_rise Here device pieces chosen list.in_order))
       (λ x y differ mark next has its same. differ
-      (own_apart laws.told Here pieces chosen list.in_order x y mark next (rw (own x) has)
+      (own_apart Here pieces chosen list.in_order x y mark next (rw (own x) has)
       (rw (own y) its) same))
       is.merge)
 
@@ -147,18 +165,3 @@ module _ {goal : Goal} {events : List Event} {seeker : Seeker}
       let by : on.profile ≡ profile =
       ap profile_of (sym on.begins ∙ ap (λ (s : Scope). s.begins) same) in
       rw by at on.paths
-
--- in reached rows each device has a way through the acts of their act list
-pub has-way : (profile : Profile) (without : DeviceSet) → OneActList (from_power_on profile without)
-    → {events : List Event} {pieces : List Piece}
-    → IsActList (from_power_on profile without) pieces events
-    → IsReached (from_power_on profile without) events → (device : Device)
-    → HasWay profile pieces device
-has-way profile without one {events} {pieces} list reached device =
-    let run = reached.1 in
-    rw (← one events run.pieces pieces run.act_list list) (
-      run.states device,
-      reached.0 device,
-      choices_in run,
-      split_with_choices (PowerOn profile) run.loss run.pieces run.states reached.0 run.way device,
-    )

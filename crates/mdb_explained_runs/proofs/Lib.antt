@@ -1,8 +1,6 @@
 pub mod AllPaths
-pub mod BestMarks
 pub mod Bests
 pub mod Chains
-pub mod EntryLimits
 pub mod Explained
 pub mod LastMark
 pub mod MarkedFronts
@@ -14,7 +12,6 @@ pub mod OneKind
 pub mod OneReplayFault
 pub mod OneStep
 pub mod OwnMarks
-pub mod PathStarts
 pub mod Paths
 pub mod ReplayReports
 pub mod Replaying

@@ -1,24 +1,9 @@
 -- Fronts of rows that have a run with given marks: each has one with the marks there.
-use Rattle.std.proofs.Common.{arith, refl, ap, sym, subst, ◌∙◌, ◌≡◌, ◌⊎◌, inl, inr, ◌+◌, ◌<◌}
-use Rattle.std.proofs.Common.{◌≤◌, ℕ, List, [], ◌∷◌, ◌++◌, length, All}
-use Rattle.std.proofs.Common.{append_assoc, length-append}
-use Rattle.std.proofs.lemmas.List.{append-nil}
-use Rattle.std.proofs.lemmas.List.Elements.{All-append, All-nil}
-use Rattle.mdb_words.specs.declared.event.Event.{Event}
-use Rattle.mdb_bus.specs.declared.scope.Beginning.{Beginning}
-use Rattle.mdb_bus.specs.declared.scope.Scope.{Scope}
-use Rattle.mdb_bus.specs.ActLists.{IsActList, Piece, Whole, acts_of, events_of, piece_events}
-use Rattle.mdb_bus.specs.Pieces.{IsTail}
+use Rattle.mdb_explained_runs.proofs.Words.{IsActList, Piece, Whole, acts_of, events_of, piece_events, IsTail, Beginning, Scope, choices_in, marks_at, marks_of, HasMarkedRun, SplitAt, Mark, split_with_choices, AllFollow, Choices, AllSums, States, Event, All, List, [], ap, append_assoc, arith, inl, inr, length, length-append, subst, sym, ℕ, ◌++◌, ◌+◌, ◌<◌, ◌∙◌, ◌∷◌, ◌≡◌, ◌≤◌, ◌⊎◌, append-nil, All-append, All-nil}
 use Rattle.mdb_bus.specs.shared.Grammar.{OpenIsAFront}
 use Rattle.mdb_bus.proofs.Backward.{backward}
 use Rattle.mdb_bus.proofs.Forward.{forward}
 use Rattle.mdb_bus.proofs.Lists.{not_empty}
-use Rattle.mdb_explained_runs.specs.declared.mark.Mark.{Mark}
-use Rattle.mdb_follow.specs.Choosing.{AllFollow, Choices}
-use Rattle.mdb_explained_runs.specs.Marks.{choices_in, marks_at, marks_of}
-use Rattle.mdb_explained_runs.specs.ReplayFaults.{HasMarkedRun, SplitAt}
-use Rattle.mdb_follow.specs.Runs.{AllSums, States}
-use Rattle.mdb_follow.proofs.Joining.{split_with_choices}
 use Rattle.mdb_explained_runs.proofs.MarkedRuns.{IsAt, JoinWithChoices, all_within, at_row, marked-run}
 
 -- Ways through pieces without the last row, and the marks: those of the ways, and then some at that
@@ -44,10 +29,9 @@ module _ (begins : Beginning) (number : ℕ) (rest : List Piece) where
     states = λ device. (ways device).before;
     sums = λ device. (ways device).sums_before;
     ways = λ device. (ways device).way;
-    back = marks_at (length (events_of rest ++ events)) chosen.choice;
-    are = refl;
-    at = subst (λ n. All (IsAt n) (marks_at (length (events_of rest ++ events)) chosen.choice))
-        count (at_row (length (events_of rest ++ events)) chosen.choice);
+    back = marks_at number chosen.choice;
+    are = rw count;
+    at = at_row number chosen.choice;
   }
   kept_rest tail count chosen states sums ways = record {
     chosen = chosen;

@@ -1,14 +1,5 @@
 -- Marks: they tell what is chosen, and their rows rise.
-use Rattle.mdb_explained_runs.proofs.Words
-use Words.{arith, refl, sym, ap, subst, ◌∙◌, ◌≡◌, ◌↔◌, inl, inr, ℕ, ◌<◌, List, [], ◌∷◌, ◌++◌}
-use Words.{length, length-append, All, Contains, Option, Some, None, true, Bool-set, same_from_push}
-use Words.{All-append, All-contains, All-nil, All-tail, All-push, Contains-push, Event, Act, Scope}
-use Words.{ArePieces, IsActList, Piece, Whole, acts_of, events_of, piece_events, contains-cases}
-use Words.{contains-here, contains-none, contains-there, Choice, Plain, Lost, Restart, Again}
-use Words.{CanStand, approves, Mark, AllFollow, Choices, ChoicesBy, choices_of, AllSums, IsWay}
-use Words.{States, OneActList, split_with_choices, Loss, LossFits, Beginning, Rise, StandsWithin}
-use Words.{choice_by, marks_at, marks_of, with_mark, MarkedRun, choices_in}
-use Rattle.std.proofs.lemmas.List.{append-nil}
+use Rattle.mdb_explained_runs.proofs.Words.{arith, refl, sym, ap, subst, ◌∙◌, ◌≡◌, ◌↔◌, ℕ, ◌<◌, List, [], ◌∷◌, ◌++◌, length, length-append, All, Contains, Option, Some, None, true, Bool-set, same_from_push, All-append, All-contains, All-nil, All-tail, All-push, Contains-push, Event, Act, Scope, ArePieces, IsActList, Piece, Whole, acts_of, events_of, piece_events, contains-cases, contains-here, contains-none, contains-there, Choice, Plain, Lost, Restart, Again, CanStand, approves, Mark, AllFollow, Choices, ChoicesBy, choices_of, AllSums, IsWay, States, OneActList, split_with_choices, Loss, LossFits, Beginning, Rise, StandsWithin, choice_by, marks_at, marks_of, with_mark, MarkedRun, choices_in, append-nil, ◌⊎◌}
 use Rattle.mdb_bus.specs.declared.act.Act.TheVariants as kinds
 use Rattle.mdb_explained_runs.specs.declared.mark.Mark.TheVariants as marks
 
@@ -204,21 +195,19 @@ pub later_in : (first mark : ℕ × Mark) (others : List (ℕ × Mark)) → Rise
 later_in first mark others rise has =
     All-contains (λ later. first.0 < later.0) others mark rise.0 has
 
+-- what is among marks that rise is the first, or one of the others, which stand after it
+pub rise_cases : (first mark : ℕ × Mark) (others : List (ℕ × Mark)) → Rise (first ∷ others)
+    → Contains (first ∷ others) mark
+    → (first ≡ mark) ⊎ (Contains others mark × (first.0 < mark.0))
+rise_cases first mark others rise has =
+    grind (arith, contains-cases first others mark has, later_in first mark others rise)
+
 -- the first mark of two lists with the same elements is one
 same_first : (one other : ℕ × Mark) (ones others : List (ℕ × Mark)) → Rise (one ∷ ones)
     → Rise (other ∷ others) → Contains (other ∷ others) one → Contains (one ∷ ones) other
     → one ≡ other
-same_first one other ones others rise also has back = elim (contains-cases other others one has) [
-  | inl is ↦ sym is
-  | inr later ↦ elim (contains-cases one ones other back) [
-    | inl is ↦ is
-    | inr more ↦ absurd (omega (
-      arith,
-      later_in other one others also later,
-      later_in one other ones rise more,
-    ))
-  ]
-]
+same_first one other ones others rise also has back =
+    grind (arith, rise_cases other one others also has, rise_cases one other ones rise back)
 
 -- the other elements are the same too
 in_others : (one other : ℕ × Mark) (ones others : List (ℕ × Mark)) → Rise (one ∷ ones)
@@ -226,14 +215,11 @@ in_others : (one other : ℕ × Mark) (ones others : List (ℕ × Mark)) → Ris
     → ((mark : ℕ × Mark) → Contains (one ∷ ones) mark → Contains (other ∷ others) mark)
     → (mark : ℕ × Mark) → Contains ones mark → Contains others mark
 in_others one other ones others rise first same mark has =
-    elim (contains-cases other others mark (same mark (contains-there one ones mark has))) [
-      | inl is ↦ absurd (omega (
-        arith,
-        later_in one mark ones rise has,
-        ap (λ (m : ℕ × Mark). m.0) (first ∙ is),
-      ))
-      | inr later ↦ later
-    ]
+    grind (
+      arith,
+      contains-cases other others mark (same mark (contains-there one ones mark has)),
+      later_in one mark ones rise has,
+    )
 
 -- lists of marks that rise are one by their elements
 pub rising_one : (one other : List (ℕ × Mark)) → Rise one → Rise other

@@ -1,26 +1,7 @@
 -- Lists of marks as one: it has their elements, and it rises where they do.
-use Rattle.mdb_explained_runs.proofs.Words
-use Words.{ap, arith, refl, sym, ◌≡◌, ◌⊎◌, inl, inr, ℕ, ◌+◌, ◌<◌, ◌≤◌, List, [], ◌∷◌, length}
-use Words.{get_or, All, Contains, if◌then◌else◌, false_from_ne_true, Contains-get_or, Device}
-use Words.{same_device, device_place, below, earlier, same_or_not, Mark, Rise, IsMergeOf, IsOfBoth}
-use Words.{Merges, of_one, of_other, contains-cases, contains-here, contains-none, contains-there}
-use Rattle.mdb_msgs.specs.shared.SameDevices.{is_one, says}
-use Rattle.mdb_explained_runs.specs.inner.Merges.{AreApart, IsFront, IsMergeBelow}
+use Rattle.mdb_explained_runs.proofs.Words.{ap, arith, refl, sym, ◌≡◌, ◌⊎◌, inl, inr, ℕ, ◌+◌, ◌<◌, ◌≤◌, List, [], ◌∷◌, get_or, All, Contains, if◌then◌else◌, false_from_ne_true, Contains-get_or, Device, same_device, device_place, below, earlier, same_or_not, Mark, Rise, IsMergeOf, IsOfBoth, Merges, of_one, of_other, contains-cases, contains-here, contains-none, contains-there, AreApart, IsFront, IsMergeBelow, is_one, says}
 use Rattle.mdb_explained_runs.specs.inner.Merges.{nothing}
-use Rattle.mdb_explained_runs.proofs.MarkedRuns.{later_in}
-
--- nothing is left of both
-pub none_left : (one other : List (ℕ × Mark)) → length one ≡ 0 → length other ≡ 0
-    → Merges one other []
-none_left [] [] none also = nothing
-none_left [] (mark ∷ other) none also = absurd (omega (arith, also))
-none_left (mark ∷ one) other none also = absurd (omega (arith, none))
-
--- a mark goes before no others
-pub before_none : (mark : ℕ × Mark) (others : List (ℕ × Mark)) → length others ≡ 0
-    → IsFront mark others
-before_none mark [] none = tt
-before_none mark (first ∷ others) none = absurd (omega (arith, none))
+use Rattle.mdb_explained_runs.proofs.MarkedRuns.{later_in, rise_cases}
 
 -- the two lists can change places
 turned : {one other both : List (ℕ × Mark)} → Merges one other both → Merges other one both
@@ -33,10 +14,13 @@ from_one : {one other both : List (ℕ × Mark)} → Merges one other both → (
     → Contains one mark → Contains both mark
 from_one nothing mark has = has
 from_one (of_one first ones others rest front is) mark has =
-    elim (contains-cases first ones mark has) [
-      | inl same ↦ contains-here first rest mark same
-      | inr later ↦ contains-there first rest mark (from_one is mark later)
-    ]
+    grind (
+      arith,
+      contains-cases first ones mark has,
+      from_one is mark,
+      contains-here first rest mark,
+      contains-there first rest mark,
+    )
 from_one (of_other first ones others rest front is) mark has =
     contains-there first rest mark (from_one is mark has)
 
@@ -45,31 +29,16 @@ from_some : {one other both : List (ℕ × Mark)} → Merges one other both → 
     → Contains both mark → Contains one mark ⊎ Contains other mark
 from_some nothing mark has = inl has
 from_some (of_one first ones others rest front is) mark has =
-    elim (contains-cases first rest mark has) [
-      | inl same ↦ inl (contains-here first ones mark same)
-      | inr later ↦ elim (from_some is mark later) [
-        | inl its ↦ inl (contains-there first ones mark its)
-        | inr its ↦ inr its
-      ]
-    ]
+    grind (arith, contains-cases, from_some is mark, contains-here, contains-there)
 from_some (of_other first ones others rest front is) mark has =
-    elim (contains-cases first rest mark has) [
-      | inl same ↦ inr (contains-here first others mark same)
-      | inr later ↦ elim (from_some is mark later) [
-        | inl its ↦ inl its
-        | inr its ↦ inr (contains-there first others mark its)
-      ]
-    ]
+    grind (arith, contains-cases, from_some is mark, contains-here, contains-there)
 
 -- a row that is at most that of the first of marks that rise is at most that of each
 at_most : (mark later : ℕ × Mark) (others : List (ℕ × Mark)) → Rise others → IsFront mark others
     → Contains others later → mark.0 ≤ later.0
 at_most mark later [] rise front has = absurd (contains-none later has)
 at_most mark later (first ∷ others) rise front has =
-    elim (contains-cases first others later has) [
-      | inl same ↦ rw same at front
-      | inr more ↦ omega (arith, front, later_in first later others rise more)
-    ]
+    grind (arith, rise_cases first later others rise has, front)
 
 -- a mark stands before all that it goes before, where no other has its row
 goes_first : (mark : ℕ × Mark) (one other : List (ℕ × Mark)) {both : List (ℕ × Mark)}
@@ -77,14 +46,13 @@ goes_first : (mark : ℕ × Mark) (one other : List (ℕ × Mark)) {both : List 
     → AreApart (mark ∷ one) other → All (λ later. mark.0 < later.0) both
 goes_first mark one other {both} is rise also front apart k d inside =
     let later = get_or both k d in
-    elim (from_some is later (Contains-get_or both k d inside)) [
-      | inl its ↦ later_in mark later one rise its
-      | inr its ↦
-          let most : mark.0 ≤ later.0 = at_most mark later other also front its in
-          let differ : mark.0 ≡ later.0 → ⊥ =
-          apart mark later (contains-here mark one mark refl) its in
-          grind (arith, most, differ)
-    ]
+    grind (
+      arith,
+      from_some is later (Contains-get_or both k d inside),
+      later_in mark later one rise,
+      at_most mark later other also front,
+      apart mark later (contains-here mark one mark refl),
+    )
 
 -- they are one list that rises, where both do and are apart
 rises : {one other both : List (ℕ × Mark)} → Merges one other both → Rise one → Rise other

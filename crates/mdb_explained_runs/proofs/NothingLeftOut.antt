@@ -1,13 +1,5 @@
 -- A replay blames no device that is left out, and tells nothing of one.
-use Rattle.mdb_explained_runs.proofs.Words
-use Words.{ap, subst, sym, ◌∙◌, ◌≡◌, inl, inr, ℤ, ℕ, pos, ◌-ℤ◌, List, [], ◌∷◌, ◌++◌, ◌&&◌, Option}
-use Words.{Some, All, All-from_recursion, Event, Device, Blame, Rule, Scope, ArePieces, Piece}
-use Words.{Whole, acts_of, haste_of, is_excused, sender_of, acts_with, breaks_among, IsLeftOut}
-use Words.{IsLinkFault, blame_on, IsFollowed, IsBreak, own_acts, Account, AccountName, Offence}
-use Words.{Range, Report, account_device, account_of, account_slot, sums_of, HasNothingLeftOut}
-use Words.{IsRange, no_account, no_range, IsAccount, device_report, device_report_of, AllSums, Run}
-use Words.{Sums, no_sums, are_breaks, BreaksTellNothing, blamed_in, not_early, NamesFollowed}
-use Words.{nothing_counted, listed, Mark, MarkedRun, IsReplayOffence, IsReplayReport}
+use Rattle.mdb_explained_runs.proofs.Words.{ap, subst, sym, ◌∙◌, ◌≡◌, inl, inr, ℤ, ℕ, pos, ◌-ℤ◌, List, [], ◌∷◌, ◌++◌, ◌&&◌, Option, Some, All, All-from_recursion, Event, Device, Blame, Rule, Scope, ArePieces, Piece, Whole, acts_of, haste_of, is_excused, sender_of, acts_with, breaks_among, IsLeftOut, IsLinkFault, blame_on, IsFollowed, IsBreak, own_acts, Account, AccountName, Offence, Range, Report, account_device, account_of, account_slot, sums_of, HasNothingLeftOut, IsRange, no_account, no_range, IsAccount, device_report, device_report_of, AllSums, Run, Sums, no_sums, are_breaks, BreaksTellNothing, blamed_in, not_early, NamesFollowed, nothing_counted, listed, Mark, MarkedRun, IsReplayOffence, IsReplayReport}
 use Rattle.mdb_explained_runs.proofs.ReplayReports.{named_in_replay}
 
 -- no offence of a replay is blamed on a device that is left out

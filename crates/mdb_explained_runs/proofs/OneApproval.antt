@@ -1,40 +1,25 @@
 -- A reader by the extended profile has one step at most from power-on, by an act under a choice.
-use Rattle.mdb_explained_runs.proofs.Words.{◌≡◌, ℕ, false, List, sym, inl, inr, ◌∙◌, ReaderCommand}
-use Rattle.mdb_explained_runs.proofs.Words.{ReaderUnit, Reply, Act, PowerOn, Profile, Choice, own}
+use Rattle.mdb_explained_runs.proofs.Words.{arith, rules, ◌≡◌, ℕ, false, List, sym, ◌∙◌, ReaderCommand, ReaderUnit, Reply, Act, PowerOn, Profile, Choice, own}
 use Rattle.mdb_msgs.specs.declared.command.ReaderCommand.TheVariants as readers
 use Rattle.mdb_bus.specs.declared.act.Act.TheVariants as acts
 use Rattle.mdb_machine.specs.Known.{Is}
 use Rattle.mdb_cashless.specs.declared.approvals.sale.Sale.{Sale}
-use Rattle.mdb_cashless.specs.declared.approvals.sale.Sale.TheVariants.{Unknown, Unawaited, Approved, Sold}
 use Rattle.mdb_cashless.specs.declared.approvals.state.ApprovalState.{ApprovalState}
 use Rattle.mdb_cashless.specs.ExtendedFacts.{Facts, facts_of}
-use Rattle.mdb_cashless.specs.ExtendedReader.{AskStep, IsSale, MayAsk, MaySell, ReaderStep, ReplyStep, VmcAckStep, machine}
+use Rattle.mdb_cashless.specs.ExtendedReader.{AskStep, IsSale, MayAsk, ReaderStep, ReplyStep, VmcAckStep, machine}
 use Rattle.mdb_cashless.specs.shared.ApprovalWays as ways
 use Rattle.mdb_cashless.specs.shared.ApprovalWays.{IsSure}
-use Rattle.mdb_explained_runs.proofs.OneKind.{IsOneStep, own_one, some_one}
+use Rattle.mdb_explained_runs.proofs.OneKind.{IsOneStep, own_one}
 
 -- what a VEND SUCCESS is worth, where the sale is known and none was requested before
-one_worth : (facts : Facts) (item : ℕ) (sale : Sale) (one other : ℕ) → facts.earlier ≡ false
-    → IsSure sale → MaySell facts item sale one → MaySell facts item sale other → one ≡ other
-one_worth facts item (Approved amount) one other none known p q = p ∙ sym q
-one_worth facts item (Sold last) one other none known (inl p) (inl q) = p.1 ∙ sym q.1
-one_worth facts item (Sold last) one other none known (inr p) q = absurd (cc (p.1.0, none))
-one_worth facts item (Sold last) one other none known (inl p) (inr q) = absurd (cc (q.1.0, none))
-one_worth facts item Unknown one other none known p q = absurd known
-one_worth facts item Unawaited one other none known p q = absurd known
-one_worth facts item sale one other none known p q = absurd (cc (p.0, none))
-
 one_ask : (facts : Facts) (command : ReaderCommand) (one other : ℕ) → facts.earlier ≡ false
     → IsSure facts.sale → MayAsk facts command one → MayAsk facts command other → one ≡ other
-one_ask facts (readers.VendSuccess item) one other none known p q =
-    one_worth facts item facts.sale one other none known p q
-one_ask facts command one other none known p q = p ∙ sym q
+one_ask facts command one other none sure p q = grind arith
 
 -- the sale that counts for an ACK
 one_sale : (known one other : Sale) → IsSure known → IsSale known one → IsSale known other
     → one ≡ other
-one_sale Unknown one other sure p q = absurd sure
-one_sale known one other sure p q = p ∙ sym q
+one_sale known one other sure p q = grind arith
 
 -- where all is known, there is one step
 module _ (facts : Facts) (last : List ℕ) (sure : IsSure facts.sale)
@@ -43,8 +28,8 @@ module _ (facts : Facts) (last : List ℕ) (sure : IsSure facts.sale)
       → IsOneStep (ReplyStep facts command reply choice before)
   replies command reply choice before one other gains more p q =
       let its : p.last ≡ q.last = (rw told at p.may_be_last) ∙ sym (rw told at q.may_be_last) in
-      let new : p.new ≡ q.new = some_one _ p.new q.new (rw its at p.is_new) q.is_new in
-      (some_one _ one other (rw new at p.to) q.to, (rw new at p.gained) ∙ sym q.gained)
+      let new : p.new ≡ q.new = cc in
+      (cc, cc)
 
   vmc_acks : (reply : Reply) (choice : Choice) (before : ApprovalState)
       → IsOneStep (VmcAckStep facts reply choice before)
@@ -62,13 +47,12 @@ module _ (facts : Facts) (last : List ℕ) (sure : IsSure facts.sale)
       own_one (own unit command) _ before (λ c. asks c before)
   reader_one unit (acts.Ack command) choice before =
       own_one (own unit command) _ before
-      (λ c one other gains more p q. (p.0 ∙ sym q.0, p.1 ∙ sym q.1))
+      (λ c one other gains more p q. search rules)
   reader_one unit (acts.Reply command reply) choice before =
       own_one (own unit command) _ before (λ c. replies c reply choice before)
   reader_one unit (acts.VmcAck command reply) choice before =
       own_one (own unit command) _ before (λ c. vmc_acks reply choice before)
-  reader_one unit act choice before =
-      λ one other gains more p q. (p.0 ∙ sym q.0, p.1 ∙ sym q.1)
+  reader_one unit act choice before = λ one other gains more p q. search rules
 
 -- so it is after acts from power-on
 pub approval_one : (profile : Profile) (unit : ReaderUnit) (so_far : List Act) (act : Act)

@@ -1,5 +1,5 @@
 -- Steps of which there is one at most.
-use Rattle.mdb_explained_runs.proofs.Words.{◌≡◌, Option, Some, None, sym, ◌∙◌, Gains, Stays}
+use Rattle.mdb_explained_runs.proofs.Words.{◌≡◌, Option, Some, None, Gains, rules}
 use Rattle.mdb_machine.specs.Steps.{ForOwn}
 
 -- two steps of a kind from one state are the same
@@ -8,18 +8,9 @@ IsOneStep {State} Step =
     (one other : State) (gains more : Gains) → Step one gains → Step other more
     → (one ≡ other) × (gains ≡ more)
 
--- where nothing changes
-pub stays_one : {State : Type 0} (before : State) → IsOneStep (Stays before)
-stays_one before one other gains more p q = (p.0 ∙ sym q.0, p.1 ∙ sym q.1)
-
 -- by a command of the device, or of another one
 pub own_one : {Own State : Type 0} (own : Option Own) (Step : Own → State → State → Gains → Type 0)
     (before : State) → ((command : Own) → IsOneStep (Step command before))
     → IsOneStep (ForOwn own Step before)
-own_one None Step before each = stays_one before
+own_one None Step before each = λ one other gains more p q. search rules
 own_one (Some command) Step before each = each command
-
--- what is there is one
-pub some_one : {X : Type 0} (told : Option X) (one other : X) → told ≡ Some one → told ≡ Some other
-    → one ≡ other
-some_one told one other p q = cc (p, q)

@@ -1,11 +1,5 @@
 -- A row has one fault with given marks.
-use Rattle.mdb_explained_runs.proofs.Words
-use Words.{refl, sym, ap, subst, ◌∙◌, ◌≡◌, ◌⊎◌, inl, inr, ℕ, List, [], ◌∷◌, ◌++◌, Option, Event}
-use Words.{Device, Act, Blame, Rule, Profile, Scope, profile_of, IsActList, Piece, Whole, acts_of}
-use Words.{Choice, no_gains, Machine, IsMachineOf, Mark, Offence, ReplayFault, machine_of}
-use Words.{BreaksLink, act_fault, rule_of, LinkFault, BreaksMarkedMachine, HasMarkedRun}
-use Words.{HasNoMarkedStep, IsMarkFault, IsReplayFault, IsReplayOffence, MayStandOnNewest}
-use Words.{HasNoStepFrom, is_machine_of, of_or_not, whose, whose_is, BusLaws}
+use Rattle.mdb_explained_runs.proofs.Words.{refl, sym, ap, subst, ◌∙◌, ◌≡◌, ◌⊎◌, inl, inr, ℕ, List, [], ◌∷◌, ◌++◌, Option, Event, Device, Act, Blame, Rule, Profile, Scope, profile_of, IsActList, Piece, Whole, acts_of, Choice, no_gains, Machine, IsMachineOf, Mark, Offence, ReplayFault, machine_of, BreaksLink, act_fault, rule_of, LinkFault, BreaksMarkedMachine, HasMarkedRun, HasNoMarkedStep, IsMarkFault, IsReplayFault, IsReplayOffence, MayStandOnNewest, HasNoStepFrom, is_machine_of, of_or_not, whose, whose_is, BusLaws}
 use Rattle.mdb_explained_runs.specs.declared.replay.ReplayFault.TheVariants as faults
 
 -- an act by which a machine has no step from some state is of its device alone

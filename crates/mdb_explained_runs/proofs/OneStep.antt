@@ -1,23 +1,14 @@
 -- From power-on a machine has one step at most by an act under a choice, from a state: so it has
 -- one way through acts with given choices.
-use Rattle.mdb_explained_runs.proofs.Words
-use Words.{sym, ap, refl, ◌∙◌, ◌≡◌, ◌↔◌, inl, inr, Bool, true, false, List, [], ◌∷◌, ◌++◌, Option}
-use Words.{Some, None, IsSomeAnd, append_cancel_left, Device, ReaderCommand, ReaderUnit, Reply, Act}
-use Words.{PowerOn, Profile, Choice, Gains, Stays, IsNew, Machine, StateByProfile, own, Choices}
-use Words.{Follows, machine_of, Sums, added}
-use Rattle.mdb_msgs.specs.declared.command.ChangerCommand.{ChangerCommand}
+use Rattle.mdb_explained_runs.proofs.Words.{arith, rules, sym, ap, refl, ◌∙◌, ◌≡◌, ◌↔◌, Bool, true, false, List, [], ◌∷◌, Option, Some, IsSomeAnd, append_cancel_left, Device, ReaderCommand, ReaderUnit, Reply, Act, PowerOn, Profile, Choice, Gains, Stays, IsNew, Machine, StateByProfile, own, Choices, Follows, machine_of, Sums, StepOf, base_state, extended_state, machine_in, strayed}
 use Rattle.mdb_msgs.specs.declared.command.ChangerCommand.TheVariants as changer_commands
-use Rattle.mdb_msgs.specs.declared.command.BillCommand.{BillCommand}
 use Rattle.mdb_msgs.specs.declared.command.BillCommand.TheVariants as bill_commands
 use Rattle.mdb_msgs.specs.declared.command.Device.TheVariants as devices
 use Rattle.mdb_bus.specs.declared.act.Act.TheVariants as acts
 use Rattle.mdb_bus.specs.declared.scope.Profile.TheVariants as profiles
 use Rattle.mdb_cash.specs.declared.bill.activity.BillActivity.{BillActivity}
 use Rattle.mdb_cash.specs.declared.bill.activity.BillActivity.TheVariants as activity
-use Rattle.mdb_cash.specs.declared.bill.state.BillState.{BillState}
 use Rattle.mdb_cash.specs.declared.bill.state.Escrow.{Escrow}
-use Rattle.mdb_cash.specs.declared.bill.state.Escrow.TheVariants.{Waiting}
-use Rattle.mdb_cash.specs.declared.changer.state.ChangerState.{ChangerState}
 use Rattle.mdb_machine.specs.declared.kept.Part.{Part}
 use Rattle.mdb_cash.specs.Bill as bill
 use Rattle.mdb_cash.specs.BillValues as bill_values
@@ -31,31 +22,20 @@ use Rattle.mdb_cash.specs.shared.BillCodes.{same_type}
 use Rattle.mdb_cashless.specs.declared.reader.state.ReaderState.{ReaderState}
 use Rattle.mdb_cashless.specs.declared.by_profile.state.StateByProfile.TheVariants.{Base, Extended}
 use Rattle.mdb_cashless.specs.ByProfile as by_profile
-use Rattle.mdb_cashless.specs.ByProfile.{StepOf, base_state, extended_state, machine_in, strayed}
 use Rattle.mdb_cashless.specs.ExtendedReader as extended
 use Rattle.mdb_cashless.specs.shared.ByProfileWays.{IsPart, base_part, extended_part}
 use Rattle.mdb_cashless.specs.Reader as reader
 use Rattle.mdb_cashless.specs.ReaderFacts as reader_facts
 use Rattle.mdb_cashless.specs.ReaderValues as reader_values
 use Rattle.mdb_explained_runs.proofs.OneApproval.{approval_one}
-use Rattle.mdb_explained_runs.proofs.OneKind.{IsOneStep, own_one, some_one, stays_one}
-
--- Messages that are new.
-
--- where nothing is there, nothing is new
-none_after : {X : Type 0} (xs ys : List X) → [] ≡ xs ++ ys → ys ≡ []
-none_after [] ys is = sym is
-none_after (x ∷ xs) ys is = absurd (cc is)
+use Rattle.mdb_explained_runs.proofs.OneKind.{IsOneStep, own_one}
 
 -- what is new in a kept list is one
 one_new : {M : Type 0} (poll : Bool) (held kept one other : List M) → IsNew poll held kept one
     → IsNew poll held kept other → one ≡ other
-one_new poll held kept one other (inl p) (inl q) = append_cancel_left held one other (sym p ∙ q)
-one_new poll held kept one other (inl p) (inr q) =
-    none_after held one (sym q.1 ∙ p) ∙ sym q.2
-one_new poll held kept one other (inr p) (inl q) =
-    p.2 ∙ sym (none_after held other (sym p.1 ∙ q))
-one_new poll held kept one other (inr p) (inr q) = p.2 ∙ sym q.2
+one_new poll [] kept one other p q = grind arith
+one_new poll (message ∷ held) kept one other p q =
+    grind (arith, append_cancel_left (message ∷ held) one other)
 
 -- Facts that are known.
 
@@ -108,19 +88,15 @@ module _ {Own Setup Asked M State : Type 0} (tables : Tables Own Setup Asked M)
     (facts : Facts Setup Asked M) where
   acks_one : (poll : Bool) (command : Own) (choice : Choice) (before : State)
       → IsOneStep (AckStep conduct facts poll command choice before)
-  acks_one true command choice before one other gains more p q =
-      stays_one before one other gains more p.1 q.1
-  acks_one false command choice before one other gains more p q =
-      is.acks facts command choice before one other gains more p q
+  acks_one true command choice before = λ one other gains more p q. search rules
+  acks_one false command choice before = is.acks facts command choice before
 
   replies_one : (poll : Bool) (parts : List (Part M)) (choice : Choice) (before : State)
       → IsOneStep (ReplyStep conduct facts poll parts choice before)
   replies_one poll parts choice before one other gains more p q =
       let news : p.news ≡ q.news =
-      one_new poll _ _ p.news q.news p.has_news.new q.has_news.new in (
-        is.tells facts choice q.news _ one other (rw news at p.tells_news) q.tells_news,
-        (rw news at p.gained) ∙ sym q.gained,
-      )
+      one_new poll _ _ p.news q.news p.has_news.new q.has_news.new in
+      (is.tells facts choice q.news _ one other (rw news at p.tells_news) q.tells_news, cc)
 
   keeper_one : (act : Act) (choice : Choice) (before : State)
       → IsOneStep (KeeperStep tables conduct facts act choice before)
@@ -130,48 +106,27 @@ module _ {Own Setup Asked M State : Type 0} (tables : Tables Own Setup Asked M)
       own_one (tables.own command) _ before (λ c. acks_one (tables.is_poll c) c choice before)
   keeper_one (acts.Reply command reply) choice before = own_one (tables.own command) _ before
       (λ c. replies_one (tables.is_poll c) (tables.parts_of reply) choice before)
-  keeper_one (acts.VmcAck command reply) choice before = own_one (tables.own command) _ before
-      (λ c one other gains more p q. (p.to ∙ sym q.to, p.gained ∙ sym q.gained))
-  keeper_one act choice before = λ one other gains more p q. (p.0 ∙ sym q.0, p.1 ∙ sym q.1)
+  keeper_one (acts.VmcAck command reply) choice before =
+      own_one (tables.own command) _ before (λ c one other gains more p q. (cc, cc))
+  keeper_one act choice before = λ one other gains more p q. search rules
 
 -- The changer.
-
-changer_asks : (facts : changer_facts.Facts) (command : ChangerCommand) (before : ChangerState)
-    → IsOneStep (changer.AskStep facts command before)
-changer_asks facts changer_commands.Reset before one other gains more p q =
-    (p.0 ∙ sym q.0, p.1 ∙ sym q.1)
-changer_asks facts command before one other gains more p q = (p.0 ∙ sym q.0, p.1 ∙ sym q.1)
-
-changer_acks : (facts : changer_facts.Facts) (command : ChangerCommand) (choice : Choice)
-    (before : ChangerState) → IsOneStep (changer.TakeStep facts command choice before)
-changer_acks facts changer_commands.Reset choice before one other gains more p q =
-    (p.0 ∙ sym q.0, p.1 ∙ sym q.1)
-changer_acks facts command choice before one other gains more p q =
-    (p.0 ∙ sym q.0, p.1 ∙ sym q.1)
-
 changer_is_one : IsOneConduct changer.conduct
 changer_is_one = record {
-  asks = changer_asks;
-  acks = changer_acks;
+  asks = λ facts command before one other gains more p q. grind arith;
+  acks = λ facts command choice before one other gains more p q. grind arith;
   tells = λ facts choice news before one other p q. p.1 ∙ sym q.1;
 }
 
 -- The validator.
 
-bill_acks : (command : BillCommand) (before : BillState)
-    → IsOneStep (bill.TakeStep command before)
-bill_acks bill_commands.Reset before one other gains more p q = (p.0 ∙ sym q.0, p.1 ∙ sym q.1)
-bill_acks command before one other gains more p q = (p.0 ∙ sym q.0, p.1 ∙ sym q.1)
-
 -- what a message leaves in escrow is one
 moves_bill : (facts : bill_facts.Facts) (message : BillActivity) (before one other : Escrow)
     → bill.MovesBill facts message before one → bill.MovesBill facts message before other
     → one ≡ other
-moves_bill facts (activity.Stacked number) before one other p q = p.4 ∙ sym q.4
-moves_bill facts (activity.Recycled number) before one other p q = p.4 ∙ sym q.4
 moves_bill facts (activity.Escrow number) before one other p q =
-    p.4 ∙ (ap Waiting (same_type p.0 q.0 (p.1 ∙ sym q.1)) ∙ sym q.4)
-moves_bill facts (activity.Returned number) before one other p q = p.3 ∙ sym q.3
+    grind (arith, same_type p.0 q.0)
+moves_bill facts message before one other p q = search rules
 
 moves_bills : (facts : bill_facts.Facts) (messages : List BillActivity) (before one other : Escrow)
     → bill.MovesBills facts messages before one → bill.MovesBills facts messages before other
@@ -181,17 +136,15 @@ moves_bills facts (message ∷ messages) before one other p q =
     let between : p.0 ≡ q.0 = moves_bill facts message before p.0 q.0 p.1 q.1 in
     moves_bills facts messages q.0 one other (rw between at p.2) q.2
 
-bill_alike : (one other : BillState) → one.escrow ≡ other.escrow → one.holds ≡ other.holds
-    → one ≡ other
-bill_alike one other escrow holds i = record { escrow = escrow i; holds = holds i }
-
 bill_is_one : IsOneConduct bill.conduct
 bill_is_one = record {
-  asks = λ facts command before. stays_one before;
-  acks = λ facts command choice before. bill_acks command before;
+  asks = λ facts command before one other gains more p q. search rules;
+  acks = λ facts command choice before one other gains more p q. grind arith;
   tells = λ facts choice news before one other p q.
-      bill_alike one other (moves_bills facts news _ one.escrow other.escrow p.0 q.0)
-      (p.1 ∙ sym q.1);
+      λ i. record {
+        escrow = moves_bills facts news _ one.escrow other.escrow p.0 q.0 i;
+        holds = (p.1 ∙ sym q.1) i;
+      };
 }
 
 -- A reader.
@@ -203,38 +156,27 @@ reader_alike one other device view holds i =
 
 reader_asks : (facts : reader_facts.Facts) (command : ReaderCommand) (before : ReaderState)
     → IsOneStep (reader.AskStep facts command before)
-reader_asks facts command before one other gains more p q = (
-  reader_alike one other (p.device ∙ sym q.device)
-      (some_one (reader.asked facts command before.view) one.view other.view p.view q.view)
-      (p.holds ∙ sym q.holds),
-  p.gained ∙ sym q.gained,
-)
+reader_asks facts command before one other gains more p q =
+    (reader_alike one other (cc) (cc) (cc), cc)
 
 reader_replies : (facts : reader_facts.Facts) (command : ReaderCommand) (reply : Reply)
     (choice : Choice) (before : ReaderState)
     → IsOneStep (reader.ReplyStep facts command reply choice before)
 reader_replies facts command reply choice before one other gains more p q =
-    let news : p.news ≡ q.news = one_new _ _ _ p.news q.news p.has_news.new q.has_news.new in (
-      reader_alike one other
-          (some_one _ one.device other.device (rw news at p.told) q.told)
-          (p.view ∙ sym q.view) (p.holds ∙ sym q.holds),
-      (rw news at p.gained) ∙ sym q.gained,
-    )
+    let news : p.news ≡ q.news = one_new _ _ _ p.news q.news p.has_news.new q.has_news.new in
+    (reader_alike one other (cc) (cc) (cc), cc)
 
 reader_one : (unit : ReaderUnit) (facts : reader_facts.Facts) (act : Act) (choice : Choice)
     (before : ReaderState) → IsOneStep (reader.ReaderStep unit facts act choice before)
 reader_one unit facts (acts.Ask command) choice before =
     own_one (own unit command) _ before (λ c. reader_asks facts c before)
 reader_one unit facts (acts.Ack command) choice before =
-    own_one (own unit command) _ before
-    (λ c one other gains more p q. (p.to ∙ sym q.to, p.gained ∙ sym q.gained))
+    own_one (own unit command) _ before (λ c one other gains more p q. (cc, cc))
 reader_one unit facts (acts.Reply command reply) choice before =
     own_one (own unit command) _ before (λ c. reader_replies facts c reply choice before)
 reader_one unit facts (acts.VmcAck command reply) choice before =
-    own_one (own unit command) _ before
-    (λ c one other gains more p q. (p.to ∙ sym q.to, p.gained ∙ sym q.gained))
-reader_one unit facts act choice before =
-    λ one other gains more p q. (p.0 ∙ sym q.0, p.1 ∙ sym q.1)
+    own_one (own unit command) _ before (λ c one other gains more p q. (cc, cc))
+reader_one unit facts act choice before = λ one other gains more p q. search rules
 
 -- Each machine.
 
@@ -251,8 +193,7 @@ module _ {State : Type 0} (its_state : StateByProfile → Option State) (part : 
       → its_state other ≡ y → IsSomeAnd x machine.Starts → IsSomeAnd y machine.Starts → one ≡ other
   one_start one other (Some x) (Some y) p q s t =
       part.only one x p ∙ ap part.into (is.starts x y s t) ∙ sym (part.only other y q)
-  one_start one other None y p q s t = absurd s
-  one_start one other (Some x) None p q s t = absurd t
+  one_start one other _ _ p q s t = grind arith
 
   one_step : (so_far : List Act) (act : Act) (choice : Choice) (place : StateByProfile)
       (from to more : Option State) (one other : StateByProfile) (gains further : Gains)
@@ -263,10 +204,7 @@ module _ {State : Type 0} (its_state : StateByProfile → Option State) (part : 
   one_step so_far act choice place (Some x) (Some y) (Some z) one other gains further p q s t =
       let same = is.steps so_far act choice x y z gains further s t in
       (part.only one y p ∙ ap part.into same.0 ∙ sym (part.only other z q), same.1)
-  one_step so_far act choice place (Some x) None more one other gains further p q s t = absurd s
-  one_step so_far act choice place (Some x) (Some y) None one other gains further p q s t = absurd t
-  one_step so_far act choice place None to more one other gains further p q s t =
-      (s.0 ∙ sym t.0, s.1 ∙ sym t.1)
+  one_step so_far act choice place from to more one other gains further p q s t = grind arith
 
   is_one_in : (power_on : StateByProfile) → IsOneMachine (machine_in its_state power_on machine)
   is_one_in power_on = record {
@@ -319,8 +257,5 @@ module _ {State : Type 0} (machine : Machine State) (is : IsOneMachine machine) 
       let was = one_way so_far chosen.before p.before q.before p.sums_before q.sums_before p.way
       q.way in
       let step = is.steps so_far act chosen.choice q.before one other p.gains q.gains
-      (rw was.0 at p.step) q.step in (
-        step.0,
-        p.adds ∙ (ap (λ before. added before p.gains) was.1
-            ∙ (ap (added q.sums_before) step.1 ∙ sym q.adds)),
-      )
+      (rw was.0 at p.step) q.step in
+      (step.0, cc (was.1, step.1))

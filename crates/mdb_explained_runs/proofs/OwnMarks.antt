@@ -1,14 +1,5 @@
 -- The marks of a run by devices: each is of one device.
-use Rattle.mdb_explained_runs.proofs.Words
-use Words.{arith, refl, sym, ap, ◌∙◌, ◌≡◌, ◌↔◌, ◌⊎◌, inl, inr, ℕ, ◌+◌, ◌<◌, ◌≤◌, Bool, true, false}
-use Words.{if◌then◌else◌, List, [], ◌∷◌, ◌++◌, get_or, length, length-append, All, Contains}
-use Words.{All-contains, Contains-get_or, Contains-append_left, same_Some, Event, device_of}
-use Words.{same_device, Device, First, Second, Act, Scope, ArePieces, Piece, Whole, acts_of}
-use Words.{events_of, has_part, Choice, Plain, Lost, Again, CanStand, IsActOf, Mark, Choices, Rise}
-use Words.{marks_at, marks_of, own_marks, AgreeFor, merged, merged_agrees, contains-none}
-use Rattle.std.proofs.lemmas.List.{append-nil}
-use Rattle.std.proofs.lemmas.List.Elements.{Contains-append_cases}
-use Rattle.std.proofs.lemmas.List.Elements.{Contains-append_right}
+use Rattle.mdb_explained_runs.proofs.Words.{is_one, itself, arith, refl, sym, ap, ◌∙◌, ◌≡◌, ◌↔◌, ◌⊎◌, inl, inr, ℕ, ◌+◌, ◌<◌, ◌≤◌, Bool, true, false, if◌then◌else◌, List, [], ◌∷◌, ◌++◌, get_or, length, length-append, All, Contains, All-contains, Contains-get_or, Contains-append_left, Event, device_of, same_device, Device, First, Second, Act, Scope, ArePieces, Piece, Whole, acts_of, events_of, has_part, Choice, Plain, Lost, Again, CanStand, IsActOf, Mark, Choices, Rise, marks_at, marks_of, own_marks, AgreeFor, merged, merged_agrees, contains-none, append-nil, Contains-append_cases, Contains-append_right}
 use Rattle.mdb_msgs.specs.declared.command.Device.TheVariants as devices
 use Rattle.mdb_bus.specs.declared.act.Act.TheVariants as kinds
 use Rattle.mdb_explained_runs.proofs.MarkedRuns.{IsAt, IsBefore, all_before, at_row, rise-more}
@@ -34,16 +25,12 @@ kept_in true here mark is = (refl, is)
 kept_in false here mark is = absurd (contains-none mark is)
 
 -- an act that has a mark is of one device
-act_of_one : (act : Act) (choice : Choice) → CanStand act choice
-    → (choice ≡ Plain) ⊎ ((device : Device) × IsActOf device act
-    × ((other : Device) → IsActOf other act → other ≡ device))
+act_of_one : (act : Act) (choice : Choice) → CanStand act choice → (choice ≡ Plain)
+    ⊎ ((of : Device) × ((device : Device) → has_part device act ≡ same_device device of))
 act_of_one act Plain stands = inl refl
-act_of_one (kinds.Ack command) Lost stands =
-    inr (device_of command, refl, λ other of. sym (same_Some _ other of))
-act_of_one (kinds.VmcAck command reply) Lost stands =
-    inr (device_of command, refl, λ other of. sym (same_Some _ other of))
-act_of_one (kinds.Reply command reply) choice stands =
-    inr (device_of command, refl, λ other of. sym (same_Some _ other of))
+act_of_one (kinds.Ack command) Lost stands = inr (device_of command, λ device. refl)
+act_of_one (kinds.VmcAck command reply) Lost stands = inr (device_of command, λ device. refl)
+act_of_one (kinds.Reply command reply) choice stands = inr (device_of command, λ device. refl)
 act_of_one act Again stands = absurd cc
 act_of_one _ _ stands = absurd stands
 
@@ -76,15 +63,10 @@ kept_none false = refl
 here_together : (act : Act) (choice : Choice) (row : ℕ) → CanStand act choice
     → length (marks_at row choice)
     ≡ together (λ device. kept_if (has_part device act) (marks_at row choice))
-here_together act Plain row stands = omega (arith, kept_none)
-here_together (kinds.Ack command) Lost row stands =
-    of_one (device_of command) (marks_at row Lost)
-here_together (kinds.VmcAck command reply) Lost row stands =
-    of_one (device_of command) (marks_at row Lost)
-here_together (kinds.Reply command reply) choice row stands =
-    of_one (device_of command) (marks_at row choice)
-here_together act Again row stands = absurd cc
-here_together _ _ row stands = absurd stands
+here_together act choice row stands = elim (act_of_one act choice stands) [
+  | inl plain ↦ rw plain (omega (arith, kept_none))
+  | inr (of, told) ↦ simp told (of_one of (marks_at row choice))
+]
 
 -- the marks of a run are as many as those of the devices together
 pub all_together : (pieces : List Piece) (chosen : Choices (acts_of pieces))
@@ -105,14 +87,16 @@ pub own_in : (device : Device) (pieces : List Piece) (chosen : Choices (acts_of 
     → Contains (marks_of pieces chosen) mark
 own_in device [] chosen mark is = is
 own_in device (Whole act events ∷ pieces) chosen mark is =
+    let before = marks_of pieces chosen.before in
     let here : List (ℕ × Mark) = marks_at (length (events_of pieces ++ events)) chosen.choice in
-    elim (Contains-append_cases (own_marks device pieces chosen.before)
-    (kept_if (has_part device act) here) mark is) [
-      | inl earlier ↦ Contains-append_left (marks_of pieces chosen.before) here mark
-          (own_in device pieces chosen.before mark earlier)
-      | inr last ↦ Contains-append_right (marks_of pieces chosen.before) here mark
-          (kept_in (has_part device act) here mark last).1
-    ]
+    grind (
+      arith,
+      Contains-append_cases (own_marks device pieces chosen.before) _ mark is,
+      own_in device pieces chosen.before mark,
+      kept_in (has_part device act) here mark,
+      Contains-append_left before here mark,
+      Contains-append_right before here mark,
+    )
 own_in device (tail ∷ pieces) chosen mark is = own_in device pieces chosen mark is
 
 -- the marks of a device, too, stand before the row of one that comes after them
@@ -190,63 +174,56 @@ module _ (told : PartsAreTold) where
       sym (own_alike device pieces (all device) (merged (acts_of pieces) all)
       (merged_agrees (acts_of pieces) all device))
 
-  -- a mark of an act is of the device that has a part in it
-  kept_of : (act : Act) (choice : Choice) (row : ℕ) → CanStand act choice → (mark : ℕ × Mark)
-      → Contains (marks_at row choice) mark
-      → (device : Device) × Contains (kept_if (has_part device act) (marks_at row choice)) mark
-  kept_of act choice row stands mark is = elim (act_of_one act choice stands) [
-    | inl plain ↦ absurd (contains-none mark (rw plain at is))
-    | inr (device, of, only) ↦ (device, rw ((told device act).1 of) is)
-  ]
+-- a mark of an act is of the device that has a part in it
+kept_of : (act : Act) (choice : Choice) (row : ℕ) → CanStand act choice → (mark : ℕ × Mark)
+    → Contains (marks_at row choice) mark
+    → (device : Device) × Contains (kept_if (has_part device act) (marks_at row choice)) mark
+kept_of act choice row stands mark is = elim (act_of_one act choice stands) [
+  | inl plain ↦ absurd (contains-none mark (rw plain at is))
+  | inr (of, told) ↦ (of, rw (told of, itself of) is)
+]
 
-  -- each mark of a run is of some device
-  pub in_own : (pieces : List Piece) (chosen : Choices (acts_of pieces)) (mark : ℕ × Mark)
-      → Contains (marks_of pieces chosen) mark
-      → (device : Device) × Contains (own_marks device pieces chosen) mark
-  in_own [] chosen mark is = absurd (contains-none mark is)
-  in_own (Whole act events ∷ pieces) chosen mark is =
-      let row : ℕ = length (events_of pieces ++ events) in
-      elim (Contains-append_cases (marks_of pieces chosen.before) (marks_at row chosen.choice) mark
-      is) [
-        | inl earlier ↦
-            let found = in_own pieces chosen.before mark earlier in
-            (found.0, Contains-append_left (own_marks found.0 pieces chosen.before) _ mark found.1)
-        | inr last ↦
-            let found = kept_of act chosen.choice row chosen.stands mark last in
-            (found.0, Contains-append_right (own_marks found.0 pieces chosen.before) _ mark found.1)
-      ]
-  in_own (tail ∷ pieces) chosen mark is = in_own pieces chosen mark is
+-- each mark of a run is of some device
+pub in_own : (pieces : List Piece) (chosen : Choices (acts_of pieces)) (mark : ℕ × Mark)
+    → Contains (marks_of pieces chosen) mark
+    → (device : Device) × Contains (own_marks device pieces chosen) mark
+in_own [] chosen mark is = absurd (contains-none mark is)
+in_own (Whole act events ∷ pieces) chosen mark is =
+    elim (Contains-append_cases (marks_of pieces chosen.before) _ mark is) [
+      | inl earlier ↦
+          let found = in_own pieces chosen.before mark earlier in
+          (found.0, Contains-append_left (own_marks found.0 pieces chosen.before) _ mark found.1)
+      | inr last ↦
+          let found = kept_of act chosen.choice _ chosen.stands mark last in
+          (found.0, Contains-append_right (own_marks found.0 pieces chosen.before) _ mark found.1)
+    ]
+in_own (tail ∷ pieces) chosen mark is = in_own pieces chosen mark is
 
-  -- an act that has a mark is of no two devices
-  part_of_one : (act : Act) (choice : Choice) (row : ℕ) → CanStand act choice → (mark : ℕ × Mark)
-      → Contains (marks_at row choice) mark → (one other : Device) → has_part one act ≡ true
-      → has_part other act ≡ true → one ≡ other
-  part_of_one act choice row stands mark is one other has also =
-      elim (act_of_one act choice stands) [
-        | inl plain ↦ absurd (contains-none mark (rw plain at is))
-        | inr (device, of, only) ↦
-            only one ((told one act).0 has) ∙ sym (only other ((told other act).0 also))
-      ]
+-- an act that has a mark is of no two devices
+part_of_one : (act : Act) (choice : Choice) (row : ℕ) → CanStand act choice → (one other : Device)
+    (mark : ℕ × Mark) → Contains (marks_at row choice) mark → has_part one act ≡ true
+    → has_part other act ≡ true → one ≡ other
+part_of_one act choice row stands one other mark is has also =
+    elim (act_of_one act choice stands) [
+      | inl plain ↦ absurd (contains-none mark (rw plain at is))
+      | inr (of, told) ↦ is_one one of (sym (told one) ∙ has)
+          ∙ sym (is_one other of (sym (told other) ∙ also))
+    ]
 
-  -- no two devices have a mark at one row
-  pub own_apart : (scope : Scope) (pieces : List Piece) (chosen : Choices (acts_of pieces))
-      → ArePieces scope pieces → (one other : Device) (mark next : ℕ × Mark)
-      → Contains (own_marks one pieces chosen) mark
-      → Contains (own_marks other pieces chosen) next → mark.0 ≡ next.0 → one ≡ other
-  own_apart scope [] chosen are one other mark next has also same =
-      absurd (contains-none mark has)
-  own_apart scope (Whole act events ∷ pieces) chosen are one other mark next has also same =
-      elim (own_cases scope act events pieces chosen are one mark has) [
-        | inl before ↦ elim (own_cases scope act events pieces chosen are other next also) [
-          | inl too ↦
-              own_apart scope pieces chosen.before are.2 one other mark next before.0 too.0 same
-          | inr last ↦ absurd (omega (arith, same, before, last))
-        ]
-        | inr last ↦ elim (own_cases scope act events pieces chosen are other next also) [
-          | inl before ↦ absurd (omega (arith, same, before, last))
-          | inr too ↦ part_of_one act chosen.choice _ chosen.stands mark last.1 one other last.0
-              too.0
-        ]
-      ]
-  own_apart scope (tail ∷ pieces) chosen are one other mark next has also same =
-      own_apart scope pieces chosen are.2 one other mark next has also same
+-- no two devices have a mark at one row
+pub own_apart : (scope : Scope) (pieces : List Piece) (chosen : Choices (acts_of pieces))
+    → ArePieces scope pieces → (one other : Device) (mark next : ℕ × Mark)
+    → Contains (own_marks one pieces chosen) mark → Contains (own_marks other pieces chosen) next
+    → mark.0 ≡ next.0 → one ≡ other
+own_apart scope [] chosen are one other mark next has also same = absurd (contains-none mark has)
+own_apart scope (Whole act events ∷ pieces) chosen are one other mark next has also same =
+    grind (
+      arith,
+      own_cases scope act events pieces chosen are one mark has,
+      own_cases scope act events pieces chosen are other next also,
+      own_apart scope pieces chosen.before are.2 one other mark next,
+      part_of_one act chosen.choice (length (events_of pieces ++ events)) chosen.stands one other
+          mark,
+    )
+own_apart scope (tail ∷ pieces) chosen are one other mark next has also same =
+    own_apart scope pieces chosen are.2 one other mark next has also same

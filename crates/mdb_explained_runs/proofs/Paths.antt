@@ -1,18 +1,39 @@
 -- The best ways of one device: through no act, and through one act more.
-use Rattle.mdb_explained_runs.proofs.Words
-use Words.{arith, refl, sym, subst, ap, ◌∙◌, ◌≡◌, ◌↔◌, ◌+◌, ◌<◌, ℕ, List, [], ◌∷◌, ◌++◌, length}
-use Words.{get_or, Contains, Bool, true, false, if◌then◌else◌, length-append, take, ints, take_more}
-use Words.{All-append, All-cons, All-contains, All-nil, Contains-get_or, Event, Device, Act, Piece}
-use Words.{Whole, acts_of, events_of, IsTail, has_part, Choice, Plain, Gains, CanStand, Stays}
-use Words.{no_gains, Machine, Best, Weight, Link, Mark, Choices, Follows, marks_at, own_marks, Sums}
-use Words.{added, no_sums, Denotes, KeepChains, AllRest, AreEntriesWithin, AreLed, AreStarts}
-use Words.{HasAsGood, IsLed, IsPath, IsPaths, RestsAt, no_path, weigh, weight_of, contains-none}
-use Rattle.std.proofs.lemmas.List.{append-nil}
+use Rattle.mdb_explained_runs.proofs.Words.{arith, refl, sym, subst, ap, ◌∙◌, ◌≡◌, ◌↔◌, ◌+◌, ◌<◌, ℕ, List, [], ◌∷◌, ◌++◌, length, get_or, Contains, Bool, true, false, if◌then◌else◌, length-append, take, ints, take_more, All-append, All-cons, All-contains, All-nil, Contains-get_or, Event, Device, Act, Piece, Whole, acts_of, events_of, has_part, Choice, Plain, Gains, CanStand, Stays, no_gains, Machine, Best, Weight, Link, Mark, Choices, Follows, marks_at, own_marks, Sums, added, no_sums, Denotes, KeepChains, AllRest, AreEntriesWithin, AreLed, AreStarts, HasAsGood, IsPaths, RestsAt, no_path, weigh, weight_of, contains-none, append-nil, inl, inr, cases_eq, Contains-append_left, Contains-push, Contains-push_cases, ◌^◌, ◌≤◌, IsEntryWithin}
 use Rattle.mdb_explained_runs.specs.inner.Chains.{nothing}
-use Rattle.mdb_explained_runs.proofs.Bests.{as_good-more, has-weaker}
-use Rattle.mdb_explained_runs.proofs.Weights.{weigh-adds, weigh-none, weight-none}
+use Rattle.mdb_explained_runs.proofs.Bests.{as_good-more, has-weaker, marks-few}
+use Rattle.mdb_explained_runs.proofs.Weights.{weigh-adds, weigh-none, weight-none, weight-near}
 
--- through no act
+-- through no act: one entry for each state in which a machine may start
+
+module _ {State : Type 0} {number code : ℕ} {code_of : State → ℕ} {machine : Machine State}
+    {entries : List (ℕ × Best)} (state : State)
+    (apart : (one other : State) → code_of one ≡ code_of other → one ≡ other)
+    (is : code_of state ≡ code) (are : AreStarts number code_of machine code entries) where
+  -- a state in which it may start has its entry
+  pub more-starts : code < number → machine.Starts state
+      → AreStarts number code_of machine (code + 1) (entries ++ (code, no_path) ∷ [])
+  more-starts below starts = record {
+    sound = λ entry has. elim (Contains-push_cases entries (code, no_path) entry has) [
+      | inl old ↦ are.sound entry old
+      | inr same ↦ rw (← same) (state, starts, is, below, refl)
+    ];
+    whole = λ one may within. elim (cases_eq (code_of one) code) [
+      | inl same ↦ rw same (Contains-push entries (code, no_path))
+      | inr other ↦ Contains-append_left entries ((code, no_path) ∷ []) (code_of one, no_path)
+          (are.whole one may (omega (arith, within, other)))
+    ];
+  }
+
+  -- and another has none
+  pub same-starts : (machine.Starts state → ⊥) → AreStarts number code_of machine (code + 1) entries
+  same-starts not = record {
+    sound = are.sound;
+    whole = λ one may within. elim (cases_eq (code_of one) code) [
+      | inl same ↦ absurd (not (rw (apart one state (same ∙ sym is)) at may))
+      | inr other ↦ are.whole one may (omega (arith, within, other))
+    ];
+  }
 
 module _ {State : Type 0} {number : ℕ} {code_of : State → ℕ} {machine : Machine State}
     {entries : List (ℕ × Best)} (links : List Link)
@@ -52,14 +73,6 @@ module _ {State : Type 0} {number : ℕ} {code_of : State → ℕ} {machine : Ma
         chain = ([], rw one.4 nothing);
       }
 
--- what is of the marks of an act in which the device has a part
-own-more : (device : Device) (act : Act) (events : List Event) (pieces : List Piece) (row : ℕ)
-    (chosen : Choices (act ∷ acts_of pieces)) → has_part device act ≡ true
-    → row ≡ length (events_of pieces ++ events)
-    → own_marks device (Whole act events ∷ pieces) chosen
-    ≡ own_marks device pieces chosen.before ++ marks_at row chosen.choice
-own-more device act events pieces row chosen has at = rw (has, at)
-
 module _ {State : Type 0} {code_of : State → ℕ} {device : Device} {machine : Machine State}
     {weight : Weight} {old links : List Link} {pieces : List Piece} where
   -- with more links
@@ -74,37 +87,6 @@ module _ {State : Type 0} {code_of : State → ℕ} {device : Device} {machine :
         search (chain, path));
     whole = are.whole;
   }
-
-  -- through an act in which the device has a part
-  led-path : {number row : ℕ} {act : Act} {before entry : ℕ × Best} (events : List Event)
-      → ((one other : State) → code_of one ≡ code_of other → one ≡ other)
-      → has_part device act ≡ true → row ≡ length (events_of pieces ++ events)
-      → IsPath code_of device machine weight old pieces before
-      → IsLed number (CanStand act) code_of (machine.Step (acts_of pieces) act) weight row old links
-      before entry
-      → IsPath code_of device machine weight links (Whole act events ∷ pieces) entry
-  led-path {row = row} {act} events apart has at path led =
-      let chosen : Choices (act ∷ acts_of pieces) =
-      record { choice = led.choice; stands = led.can; before = path.choices } in
-      let own = own-more device act events pieces row chosen has at in
-      let step = led.step in
-      record {
-        state = step.after;
-        is = step.ends;
-        sums = added path.sums led.gains;
-        choices = chosen;
-        way = record {
-          before = path.state;
-          sums_before = path.sums;
-          gains = led.gains;
-          way = path.way;
-          step = rw (apart step.before path.state (step.starts ∙ sym path.is)) at step.step;
-          adds = refl;
-        };
-        value = omega (arith, ints, weigh-adds weight path.sums led.gains);
-        chain = rw own (led.goes.chain _ path.chain);
-        marks = rw (own, length-append) (omega arith);
-      }
 
 module _ {State : Type 0} {number row : ℕ} {code_of : State → ℕ} {device : Device}
     {machine : Machine State} {weight : Weight} {old links : List Link} {pieces : List Piece}
@@ -136,6 +118,7 @@ module _ {State : Type 0} {number row : ℕ} {code_of : State → ℕ} {device :
         step = way.step;
       }))
 
+  -- so they are the ways through an act more, in which the device has a part
   pub paths-led : (events : List Event)
       → ((one other : State) → code_of one ≡ code_of other → one ≡ other)
       → has_part device act ≡ true → row ≡ length (events_of pieces ++ events)
@@ -143,10 +126,30 @@ module _ {State : Type 0} {number row : ℕ} {code_of : State → ℕ} {device :
   paths-led events apart has at = record {
     sound = λ entry in'.
         (let by = led.sound entry in' in
-        led-path events apart has at (are.sound by.0 by.1) by.2);
+        let path = are.sound by.0 by.1 in
+        let goes = by.2 in
+        let step = goes.step in
+        let chosen : Choices (act ∷ acts_of pieces) =
+        record { choice = goes.choice; stands = goes.can; before = path.choices } in
+        record {
+          state = step.after;
+          is = step.ends;
+          sums = added path.sums goes.gains;
+          choices = chosen;
+          way = record {
+            before = path.state;
+            sums_before = path.sums;
+            gains = goes.gains;
+            way = path.way;
+            step = rw (apart step.before path.state (step.starts ∙ sym path.is)) at step.step;
+            adds = refl;
+          };
+          value = omega (arith, ints, weigh-adds weight path.sums goes.gains);
+          chain = rw (has, ← at) (goes.goes.chain _ path.chain);
+          marks = rw (has, ← at, length-append) (omega arith);
+        });
     whole = λ state sums chosen way.
-        rw (own-more device act events pieces row chosen has at, length-append)
-        (has-led state sums chosen way);
+        rw (has, ← at, length-append) (has-led state sums chosen way);
   }
 
   -- where there is no entry, no way leads over the act
@@ -164,14 +167,8 @@ module _ {State : Type 0} {number row : ℕ} {code_of : State → ℕ} {device :
 weigh-same : (weight : Weight) (sums : Sums) (gains : Gains) → gains ≡ no_gains
     → weigh weight (added sums gains) ≡ weigh weight sums
 weigh-same weight sums gains same =
-    omega (
-      arith,
-      ints,
-      weigh-adds weight sums gains,
-      ap (weight_of weight) same,
-      weight-none
-          weight,
-    )
+    let none = weight-none weight in
+    omega (arith, ints, weigh-adds weight sums gains, ap (weight_of weight) same)
 
 no-more : (b : Bool) (own : List (ℕ × Mark)) → own ++ (if b then [] else []) ≡ own
 no-more true own = append-nil own
@@ -241,12 +238,40 @@ module _ {State : Type 0} {code_of : State → ℕ} {device : Device} {machine :
             )) had));
       }
 
-  -- A path is said of pieces, though it depends on their acts: a tail changes nothing.
-  pub paths-tail : (tail : Piece) → IsTail tail
-      → IsPaths code_of device machine weight links pieces entries
-      ↔ IsPaths code_of device machine weight links (tail ∷ pieces) entries
-  paths-tail (Whole act events) is = absurd is
-  paths-tail tail is = (
-    λ are. record { sound = λ entry has. search (are.sound entry has); whole = are.whole },
-    λ are. record { sound = λ entry has. search (are.sound entry has); whole = are.whole },
-  )
+-- with more links, and farther from 0, an entry is within what it was
+pub entry-within-kept : {number limit more : ℕ} {old new : List Link} {entry : ℕ × Best}
+    → limit ≤ more → KeepChains old new → IsEntryWithin number limit old entry
+    → IsEntryWithin number more new entry
+entry-within-kept le keep is = record {
+  code = is.code;
+  low = omega (arith, ints);
+  high = omega (arith, ints);
+  marks = omega arith;
+  chain = (is.chain.0, keep _ _ is.chain.1);
+}
+
+pub entries-within-kept : {number limit more : ℕ} {old new : List Link}
+    (entries : List (ℕ × Best)) → limit ≤ more → KeepChains old new
+    → AreEntriesWithin number limit old entries → AreEntriesWithin number more new entries
+entries-within-kept entries le keep all k d within =
+    entry-within-kept le keep (all k d within)
+
+-- an entry that a step leads to is little farther from 0
+pub all-led-within : {State : Type 0} {number limit : ℕ} {Can : Choice → Type 0}
+    {code_of : State → ℕ} {Step : Choice → State → State → Gains → Type 0} {weight : Weight}
+    {row : ℕ} {old new : List Link} {from entries : List (ℕ × Best)}
+    → AreLed number Can code_of Step weight row old new from entries
+    → AreEntriesWithin number limit old from
+    → AreEntriesWithin number (limit + 2 ^ 32) new entries
+all-led-within {number = number} {limit} {weight = weight} {row} {old} {from = from} {entries} all
+    within k d inside =
+    let by = all.sound (get_or entries k d) (Contains-get_or entries k d inside) in
+    let led = by.2 in
+    let is = All-contains (IsEntryWithin number limit old) from by.0 within by.1 in
+    record {
+      code = led.below;
+      low = omega (arith, ints, weight-near weight led.gains led.small);
+      high = omega (arith, ints, weight-near weight led.gains led.small);
+      marks = omega (arith, marks-few row led.choice);
+      chain = (_, led.goes.chain _ is.chain.1);
+    }

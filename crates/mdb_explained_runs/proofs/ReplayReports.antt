@@ -1,12 +1,5 @@
 -- What a replay reports: it is one, and where the marks explain a goal, it comes to its end.
-use Rattle.mdb_explained_runs.proofs.Words
-use Words.{arith, refl, sym, ap, subst, ◌∙◌, ◌≡◌, ℕ, ℤ, ◌-ℤ◌, pos, List, length, ints, Event}
-use Words.{Device, PowerOn, profile_of, Scope, acts_of, Account, AccountName, AccountSide, Bound}
-use Words.{Least, Greatest, Goal, Mark, Range, Report, account_device, account_of, account_slot}
-use Words.{sums_of, AllFollow, Choices, side_range, side_value, IsAsFar, end_of, goal_value}
-use Words.{Explains, machine_of, MarkedRun, choices_in, IsRange, IsAccount, HasMarkedRun}
-use Words.{IsReplayReport, IsReport, report_of, AllSums, Run, AccountSums, OneActList, named}
-use Words.{named-account, one-end, one-list, with_accounts, split_with_choices}
+use Rattle.mdb_explained_runs.proofs.Words.{arith, refl, sym, ap, subst, ◌∙◌, ◌≡◌, ℕ, ℤ, ◌-ℤ◌, pos, List, length, ints, Event, Device, PowerOn, profile_of, Scope, acts_of, Account, AccountName, AccountSide, Bound, Least, Greatest, Goal, Mark, Range, Report, account_device, account_of, account_slot, sums_of, AllFollow, Choices, side_range, side_value, IsAsFar, end_of, goal_value, Explains, machine_of, MarkedRun, choices_in, IsRange, IsAccount, HasMarkedRun, IsReplayReport, IsReport, report_of, AllSums, Run, AccountSums, OneActList, named, named-account, one-end, one-list, with_accounts, split_with_choices}
 use Rattle.mdb_follow.specs.declared.goal.AccountSide.TheVariants as sides
 use Rattle.mdb_explained_runs.proofs.OneStep.{AllIsKnown, machine_is_one, one_way}
 use Rattle.mdb_explained_runs.proofs.MarkedRuns.{followed}

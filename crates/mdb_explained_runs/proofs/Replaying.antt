@@ -1,31 +1,20 @@
 -- What a replay that stands for events and marks goes on to, and what it answers.
-use Rattle.mdb_explained_runs.proofs.Words
-use Words.{refl, sym, ap, subst, ◌∙◌, ◌≡◌, inl, inr, ℕ, ◌+◌, List, [], ◌∷◌, ◌++◌, ◌↔◌, length}
-use Words.{length-append, Option, Some, None, Event, Device, First, Second, Act, Bus, LinkFault}
-use Words.{PowerOn, Profile, Scope, profile_of, IsActList, Piece, Whole, acts_of, events_of, IsTail}
-use Words.{GoesOn, Grown, IsLinkFault, Choice, CanStand, Mark, Offence, ReplayFault, Report, Tracks}
-use Words.{account_by, AllFollow, Choices, MarkedRun, choice_by, marks_of, with_mark, machine_of}
-use Words.{IsMarkFault, IsReplayFault, IsReplayOffence, MayStandAt, MayStandOnNewest}
-use Words.{IsReplayReport, report_of, AllSums, HasNoStepFrom, track_in, OneActList, whole-piece}
+use Rattle.mdb_explained_runs.proofs.Words.{refl, sym, ap, subst, ◌∙◌, ◌≡◌, inl, inr, ℕ, ◌+◌, List, [], ◌∷◌, ◌++◌, ◌↔◌, length, length-append, Option, Some, None, Event, Device, First, Second, Act, Bus, LinkFault, PowerOn, Profile, Scope, profile_of, IsActList, Piece, Whole, acts_of, events_of, IsTail, GoesOn, Grown, IsLinkFault, Choice, CanStand, Mark, Offence, ReplayFault, Report, Tracks, account_by, AllFollow, Choices, MarkedRun, choice_by, marks_of, with_mark, machine_of, IsMarkFault, IsReplayFault, IsReplayOffence, MayStandAt, MayStandOnNewest, IsReplayReport, report_of, AllSums, HasNoStepFrom, track_in, OneActList, whole-piece, AreFew, times_of, HasActList, act_in, StandsFor, AreTracks, chosen_more, TracksLead, accounts-of-cells, cell-of-runs, list-on}
 use Rattle.mdb_msgs.specs.declared.command.Device.TheVariants as devices
 use Rattle.mdb_bus.specs.declared.act.Act.TheVariants as acts
 use Rattle.mdb_bus.specs.declared.scope.Profile.TheVariants.{Extended}
-use Rattle.mdb_bus.specs.Pieces.{HasActList, act_in}
 use Rattle.mdb_bus.specs.Bus as link
-use Rattle.mdb_bus.specs.ExtendedTimes.{AreFew, times_of}
 use Rattle.mdb_bus.specs.declared.untimely.Untimely.{Untimely}
 use Rattle.mdb_follow.specs.declared.cell.Cell.{Cell}
 use Rattle.mdb_explained_runs.specs.declared.mark.Mark.TheVariants as mark_kinds
 use Rattle.mdb_explained_runs.specs.declared.replay.Replay.{Replay}
-use Rattle.mdb_explained_runs.specs.Replays.{StandsFor, scope_of}
+use Rattle.mdb_explained_runs.specs.Replays.{scope_of}
 use Rattle.mdb_follow.specs.Silences.{asks_of}
-use Rattle.mdb_explained_runs.specs.Tracks.{AreTracks, chosen_more}
+use Rattle.mdb_follow.specs.SilencesKept.{AllStandForAsks}
 use Rattle.mdb_explained_runs.specs.inner.ReplaySteps.{HasReplayed, HasStopped}
-use Rattle.mdb_explained_runs.specs.inner.TrackSteps.{TracksLead}
 use Rattle.mdb_follow.proofs.Asks.{asks-go-on, asks-stay, no-act}
 use Rattle.mdb_explained_runs.proofs.LastMark.{last-stands}
 use Rattle.mdb_explained_runs.proofs.MarkedRuns.{JoinWithChoices, at-mark, followed, marked-run, ways-of}
-use Rattle.mdb_follow.proofs.Following.{accounts-of-cells, cell-of-runs, list-on}
 
 -- What is known of pieces: which choices have the marks, and that tracks stand for their acts with
 -- them.
@@ -112,34 +101,43 @@ module _ {replay : Replay} {events : List Event} {marks : List (ℕ × Mark)}
   list-of : IsActList (scope_of replay) on.pieces events
   list-of = record { in_order = on.on_bus.in_order; whole = on.whole }
 
+-- a replay stands for one row more, with what is known of its pieces
+stands-next : {old new : Replay} {events : List Event} {marks more : List (ℕ × Mark)}
+    {row : Event} {act : Option Act} {bus : Bus} (on : StandsFor old events marks)
+    (goes : GoesOn bus on.pieces row act) → new.bus ≡ bus → scope_of new ≡ scope_of old
+    → new.rows ≡ old.rows + 1 → new.fault ≡ old.fault
+    → Known on.profile new.tracks more goes.longer
+    → AllStandForAsks new.silences (λ device. asks_of (PowerOn on.profile) device goes.longer)
+    → new.untimely ≡ times_of (scope_of new) goes.longer → StandsFor new (events ++ row ∷ []) more
+stands-next {events = events} {row = row} on goes same scope rows fault known silences times =
+    record {
+      begins = ap (λ (s : Scope). s.begins) scope ∙ on.begins;
+      profile = on.profile;
+      pieces = goes.longer;
+      on_bus = rw same goes.stands;
+      whole = rw on.whole at goes.rows;
+      rows = rows ∙ ap (λ n. n + 1) on.rows ∙ sym (length-append events (row ∷ []));
+      going = fault ∙ on.going;
+      chosen = known.chosen;
+      marked = known.marked;
+      tracks = known.stand;
+      silences = silences;
+      untimely = times;
+    }
+
 -- no act ended
 pub stands-still : {old new : Replay} {events : List Event} {marks : List (ℕ × Mark)}
     {row : Event} (on : StandsFor old events marks) (goes : GoesOn new.bus on.pieces row None)
     → scope_of new ≡ scope_of old → new.tracks ≡ old.tracks → new.silences ≡ old.silences
     → new.rows ≡ old.rows + 1 → new.fault ≡ old.fault
     → new.untimely ≡ times_of (scope_of new) goes.longer → StandsFor new (events ++ row ∷ []) marks
-stands-still {old} {events = events} {marks} {row} on goes same_scope same_tracks same_silences more
-    same
-    times =
-    let known = after-none (Known on.profile old.tracks marks) tail-known goes.grown
-    (known-of on) in
-    record {
-      begins = ap (λ (s : Scope). s.begins) same_scope ∙ on.begins;
-      profile = on.profile;
-      pieces = goes.longer;
-      on_bus = goes.stands;
-      whole = rw on.whole at goes.rows;
-      rows = more ∙ ap (λ n. n + 1) on.rows ∙ sym (length-append events (row ∷ []));
-      going = same ∙ on.going;
-      chosen = known.chosen;
-      marked = known.marked;
-      tracks = rw same_tracks known.stand;
-      silences = λ device. rw (
-        same_silences,
-        asks-stay (PowerOn on.profile) device on.pieces row goes.longer goes.grown,
-      ) (on.silences device);
-      untimely = times;
-    }
+stands-still {marks = marks} {row} on goes scope tracks silences rows fault =
+    stands-next on goes refl scope rows fault
+    (after-none (Known on.profile _ marks) tail-known goes.grown (rw tracks (known-of on)))
+    (λ device. rw (
+      silences,
+      asks-stay (PowerOn on.profile) device on.pieces row goes.longer goes.grown,
+    ) (on.silences device))
 
 -- an act was followed
 pub stands-on : {old mid new : Replay} {events : List Event} {marks : List (ℕ × Mark)}
@@ -153,35 +151,23 @@ pub stands-on : {old mid new : Replay} {events : List Event} {marks : List (ℕ 
     → counts ≡ times_of (scope_of new) goes.longer
     → StandsFor (record new { untimely = counts; few_untimely = few }) (events ++ row ∷ [])
     (with_mark (old.rows + 1) mark marks)
-stands-on {old} {new = new} {events} {row = row} {act} mark on goes old_scope same_tracks
-    same_silences same_rows same profile may same_choice had counts few times =
+stands-on {old} {new = new} {events} {row = row} {act} mark on goes scope tracks silences rows
+    fault profile may same_choice had counts few =
     let can = can-stand profile mark act may in
     let has = rw same_choice at had in
-    let led = rw same_tracks at has.tracks in
-    let rows : length (events ++ row ∷ []) ≡ old.rows + 1 =
-    length-append events (row ∷ []) ∙ ap (λ n. n + 1) (sym on.rows) in
-    let whole = rw on.whole at goes.rows in
-    let known = more-known mark goes.grown (ap length whole ∙ rows) can led (known-of on) in
+    let led = rw tracks at has.tracks in
+    let count = ap length (rw on.whole at goes.rows) ∙ length-append events (row ∷ [])
+    ∙ ap (λ n. n + 1) (sym on.rows) in
     let stand = λ (device : Device). (led device on.profile).stands (acts_of on.pieces) on.chosen
     can (on.tracks device) in
-    record {
-      begins = ap (λ (s : Scope). s.begins) (ap link.scope_of has.on_bus ∙ old_scope) ∙ on.begins;
-      profile = on.profile;
-      pieces = goes.longer;
-      on_bus = rw has.on_bus goes.stands;
-      whole = whole;
-      rows = has.rows ∙ ap (λ n. n + 1) same_rows ∙ sym rows;
-      going = has.going ∙ same ∙ on.going;
-      chosen = known.chosen;
-      marked = known.marked;
-      tracks = known.stand;
-      silences = λ device. rw (asks-go-on (PowerOn on.profile) device on.pieces row act goes.longer
-          new.tracks.first_reader.facts new.tracks.second_reader.facts goes.grown
-          (stand (devices.Reader First)).facts (stand (devices.Reader Second)).facts)
-          at ((has.silences device).stands (asks_of (PowerOn on.profile) device on.pieces)
-          (rw same_silences (on.silences device)));
-      untimely = times;
-    }
+    stands-next on goes has.on_bus (ap link.scope_of has.on_bus ∙ scope)
+    (has.rows ∙ ap (λ n. n + 1) rows) (has.going ∙ fault)
+    (more-known mark goes.grown count can led (known-of on))
+    (λ device. rw (asks-go-on (PowerOn on.profile) device on.pieces row act goes.longer
+    new.tracks.first_reader.facts new.tracks.second_reader.facts goes.grown
+    (stand (devices.Reader First)).facts (stand (devices.Reader Second)).facts)
+    at ((has.silences device).stands (asks_of (PowerOn on.profile) device on.pieces)
+    (rw silences (on.silences device))))
 
 -- where no act ended, a mark that may stand is none
 pub no-mark : (row : ℕ) (profile : Profile) (mark : Option Mark) (marks : List (ℕ × Mark))

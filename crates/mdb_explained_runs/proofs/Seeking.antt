@@ -1,16 +1,9 @@
 -- A seeker goes on row by row.
-use Rattle.mdb_explained_runs.proofs.Words
-use Words.{arith, sym, subst, ap, ◌∙◌, ◌≡◌, ◌↔◌, ◌+◌, ◌*◌, ◌^◌, ◌≤◌, ◌<◌, ℕ, List, [], ◌∷◌, ◌++◌}
-use Words.{length, length-append, Option, Some, None, Bool, true, false, add-one, append_assoc}
-use Words.{drop, get_or, take, split_at, OnFalse, OnTrue, Event, Device, Act, Bus, PowerOn, Profile}
-use Words.{Scope, IsActList, Piece, Whole, IsTail, acts_of, events_of, GoesOn, Grown, AllPaths}
-use Words.{Goal, Seeker, IsSeeker, EachArrives, machine_of, IsReached, AreAllPaths, AreAllWithin}
-use Words.{HasNoWay, chosen, OneActList, split}
+use Rattle.mdb_explained_runs.proofs.Words.{choices_in, split_with_choices, HasWay, list-on, arith, sym, subst, ap, ◌∙◌, ◌≡◌, ◌↔◌, ◌+◌, ◌*◌, ◌^◌, ◌≤◌, ◌<◌, ℕ, List, [], ◌∷◌, ◌++◌, length, length-append, Option, Some, None, add-one, append_assoc, drop, get_or, take, split_at, Event, Device, Act, Bus, PowerOn, Profile, Scope, IsActList, Piece, Whole, IsTail, events_of, GoesOn, Grown, AllPaths, Goal, Seeker, IsSeeker, IsReached, AreAllPaths, AreAllWithin, HasNoWay, OneActList}
 use Rattle.mdb_bus.specs.Bus as link
 use Rattle.mdb_explained_runs.proofs.Chains.{keep-same}
 use Rattle.mdb_explained_runs.proofs.Replaying.{after-none, before-newest, newest-whole}
-use Rattle.mdb_explained_runs.proofs.EntryLimits.{entries-within-kept}
-use Rattle.mdb_explained_runs.proofs.Paths.{paths-tail}
+use Rattle.mdb_explained_runs.proofs.Paths.{entries-within-kept}
 
 -- a tail has the paths of what comes before it
 tail-paths : (profile : Profile) (goal : Goal) (all : AllPaths) (tail : Piece) (pieces : List Piece)
@@ -20,11 +13,17 @@ tail-paths profile goal all (Whole act events) pieces is = absurd is
 tail-paths profile goal all tail pieces is = (
   λ are device. record {
     facts = (are device).facts;
-    best = (paths-tail tail is).0 (are device).best;
+    best = record {
+      sound = λ entry has. search ((are device).best.sound entry has);
+      whole = (are device).best.whole;
+    };
   },
   λ are device. record {
     facts = (are device).facts;
-    best = (paths-tail tail is).1 (are device).best;
+    best = record {
+      sound = λ entry has. search ((are device).best.sound entry has);
+      whole = (are device).best.whole;
+    };
   },
 )
 
@@ -41,16 +40,6 @@ module _ (profile : Profile) (goal : Goal) (all : AllPaths) {pieces longer : Lis
       → AreAllPaths profile goal longer all
   still-paths = after-none (λ ps. AreAllPaths profile goal ps all) (tail-paths profile goal all)
 
--- the number of the row that ends the newest
-row-is : {pieces longer : List Piece} {row : Event} {act : Act} {rows : ℕ} {events : List Event}
-    (grown : Grown pieces row (Some act) longer) → events_of longer ≡ events_of pieces ++ row ∷ []
-    → events_of pieces ≡ events → rows ≡ length events
-    → rows + 1 ≡ length (events_of grown.earlier ++ (grown.begun ++ row ∷ []))
-row-is {pieces} {row = row} grown more whole counted =
-    ap (λ n. n + 1) (counted ∙ ap length (sym whole))
-    ∙ sym (length-append (events_of pieces) (row ∷ []))
-    ∙ ap length (sym more ∙ ap events_of (newest-whole grown))
-
 -- limits
 
 pub within-more : {limit more : ℕ} (all : AllPaths) → limit ≤ more → AreAllWithin limit all
@@ -60,48 +49,54 @@ within-more all le are device = entries-within-kept _ le keep-same (are device)
 -- an act was followed
 
 pub went-paths : (profile : Profile) (goal : Goal) (old new : AllPaths) (act : Act) (rows : ℕ)
-    (goes : Bool) → OnTrue goes ((profile : Profile) (pieces : List Piece) (events : List Event)
+    → ((profile : Profile) (pieces : List Piece) (events : List Event)
     → rows + 1 ≡ length (events_of pieces ++ events) → AreAllPaths profile goal pieces old
     → AreAllPaths profile goal (Whole act events ∷ pieces) new)
-    → goes ≡ true → {bus : Bus} {pieces : List Piece} {row : Event} {events : List Event}
+    → {bus : Bus} {pieces : List Piece} {row : Event} {events : List Event}
     (on : GoesOn bus pieces row (Some act)) → events_of pieces ≡ events → rows ≡ length events
     → AreAllPaths profile goal pieces old → AreAllPaths profile goal on.longer new
-went-paths profile goal old new act rows goes led so on whole counted are =
-    rw (newest-whole on.grown) ((rw so at led) profile on.grown.earlier _
-    (row-is on.grown on.rows whole counted) (earlier-paths profile goal old on.grown are))
+went-paths profile goal old new act rows led {pieces = pieces} {row} on whole counted are =
+    let list = newest-whole on.grown in
+    rw list (led profile on.grown.earlier (on.grown.begun ++ row ∷ []) (omega (
+      arith,
+      counted,
+      ap length whole,
+      ap length on.rows,
+      ap (λ ps. length (events_of ps)) list,
+      length-append (events_of pieces) (row ∷ []),
+    )) (earlier-paths profile goal old on.grown are))
 
-pub went-within : (old new : AllPaths) (rows : ℕ) (goes : Bool)
-    → OnTrue goes ((limit : ℕ) → AreAllWithin limit old → AreAllWithin (limit + 2 ^ 32) new)
-    → goes ≡ true → AreAllWithin (rows * 2 ^ 32) old → AreAllWithin ((rows + 1) * 2 ^ 32) new
-went-within old new rows goes within so are =
-    within-more new (omega arith) ((rw so at within) (rows * 2 ^ 32) are)
+-- in reached rows each device has a way through the acts of their act list
+pub has-way : {scope : Scope} (profile : Profile) → scope.begins ≡ PowerOn profile
+    → OneActList scope → {events : List Event} {pieces : List Piece}
+    → IsActList scope pieces events → IsReached scope events → (device : Device)
+    → HasWay profile pieces device
+has-way {scope} profile begins one {events} {pieces} list reached device =
+    let run = reached.1 in
+    rw (← begins, ← one events run.pieces pieces run.act_list list) (
+      run.states device,
+      reached.0 device,
+      choices_in run,
+      split_with_choices scope.begins run.loss run.pieces run.states reached.0 run.way device,
+    )
 
--- an act that ends reached rows was followed, since each device has a way through their acts
-pub stuck : (profile : Profile) (goal : Goal) (old : AllPaths) (act : Act) (goes : Bool)
-    → OnFalse goes ((profile : Profile) (pieces : List Piece) → AreAllPaths profile goal pieces old
+-- so an act that ends reached rows was followed
+pub stuck : (profile : Profile) (goal : Goal) (old : AllPaths) (act : Act)
+    → ((profile : Profile) (pieces : List Piece) → AreAllPaths profile goal pieces old
     → (device : Device) × HasNoWay profile pieces act device)
-    → goes ≡ false → {bus : Bus} (scope : Scope) → link.scope_of bus ≡ scope → OneActList scope
+    → {bus : Bus} (scope : Scope) → link.scope_of bus ≡ scope → OneActList scope
     → scope.begins ≡ PowerOn profile → {pieces : List Piece} {row : Event} {events : List Event}
     → GoesOn bus pieces row (Some act) → events_of pieces ≡ events
     → AreAllPaths profile goal pieces old → IsReached scope (events ++ row ∷ []) → ⊥
-stuck profile goal old act goes none so {bus} scope same one begins {row = row} {events} on whole
-    are reached =
+stuck profile goal old act none {bus} scope same one begins {pieces} {row} {events} on whole are
+    reached =
     let grown = on.grown in
-    let run = reached.1 in
-    let found = (rw so at none) profile grown.earlier (earlier-paths profile goal old grown are) in
-    let device = found.0 in
-    let list : IsActList (link.scope_of bus) on.longer (events ++ row ∷ []) = record {
-      in_order = on.stands.in_order;
-      whole = on.rows ∙ ap (λ rows. rows ++ row ∷ []) whole;
-    } in
-    let ways : EachArrives (PowerOn profile) (act ∷ acts_of grown.earlier) run.states reached.0 =
-    subst (λ b. EachArrives b (act ∷ acts_of grown.earlier) run.states reached.0) begins
-    (subst (λ ps. EachArrives scope.begins (acts_of ps) run.states reached.0)
-    (one (events ++ row ∷ []) run.pieces _ run.act_list (rw (newest-whole grown, same) at list))
-    (split scope.begins run.loss run.pieces run.states reached.0 run.way)) in
-    let way = chosen (machine_of (PowerOn profile) device) (act ∷ acts_of grown.earlier)
-    (run.states device) (reached.0 device) (ways device) in
-    found.1 way.0 (run.states device) (reached.0 device) way.1
+    let found = none profile grown.earlier (earlier-paths profile goal old grown are) in
+    let list : IsActList scope (Whole act (grown.begun ++ row ∷ []) ∷ grown.earlier)
+    (events ++ row ∷ []) =
+    rw (newest-whole grown, same) at (list-on bus events row pieces (Some act) whole on) in
+    let way = has-way profile begins one list reached found.0 in
+    found.1 way.2 way.0 way.1 way.3
 
 -- reached rows are reached as far as each of them
 pub reached-next : (scope : Scope)

@@ -1,11 +1,5 @@
 -- What steps from entries lead to, as it is taken in.
-use Rattle.mdb_explained_runs.proofs.Words
-use Words.{arith, inl, inr, refl, sym, subst, ◌∙◌, ◌≡◌, ◌≢◌, ◌+◌, ◌<◌, ℕ, ℤ, ◌+ℤ◌, List, [], ◌∷◌}
-use Words.{◌++◌, length, take, get_or, ints, take_more, Contains-append_left, Contains-push}
-use Words.{Contains-push_cases, Choice, Plain, Gains, IsSmall, IsStep, Best, Weight, Link, marks_at}
-use Words.{KeepChains, AreLed, HasAsGood, IsLed, HasSteps, TakesSteps, weight_of}
-use Rattle.mdb_machine.proofs.Ways.{plain_or_not, step_as}
-use Rattle.mdb_explained_runs.specs.inner.Paths.{LinksGoOnFrom, TakesIn}
+use Rattle.mdb_explained_runs.proofs.Words.{arith, inl, inr, refl, subst, ◌∙◌, ◌≡◌, ◌≢◌, ◌+◌, ◌<◌, ℕ, ℤ, ◌+ℤ◌, List, [], ◌∷◌, ◌++◌, length, ints, Contains-append_left, Contains-push, Contains-push_cases, Choice, Plain, Gains, IsSmall, IsStep, Best, Weight, Link, marks_at, KeepChains, AreLed, HasAsGood, IsLed, HasSteps, TakesSteps, weight_of, LinksGoOnFrom, TakesIn, plain_or_not, step_as, Denotes, Mark}
 use Rattle.mdb_explained_runs.proofs.Bests.{has-weaker, marks-most, takes-same}
 use Rattle.mdb_explained_runs.proofs.Chains.{keep-same}
 
@@ -13,10 +7,7 @@ use Rattle.mdb_explained_runs.proofs.Chains.{keep-same}
 takes-as : {Is Other : ℕ × Best → Type 0} {old new : List (ℕ × Best)} → TakesIn Is old new
     → ((entry : ℕ × Best) → Is entry → Other entry) → TakesIn Other old new
 takes-as takes weaker = record {
-  from = λ entry in'. elim (takes.from entry in') [
-    | inl was ↦ inl was
-    | inr is ↦ inr (weaker entry is)
-  ];
+  from = λ entry in'. grind (arith, takes.from entry in', weaker);
   kept = takes.kept;
 }
 
@@ -24,10 +15,7 @@ takes-as takes weaker = record {
 takes-then : {Is : ℕ × Best → Type 0} {old mid new : List (ℕ × Best)} → TakesIn Is old mid
     → TakesIn Is mid new → TakesIn Is old new
 takes-then first last = record {
-  from = λ entry in'. elim (last.from entry in') [
-    | inl had ↦ first.from entry had
-    | inr is ↦ inr is
-  ];
+  from = λ entry in'. grind (arith, last.from entry in', first.from);
   kept = λ code value marks has. last.kept code value marks (first.kept code value marks has);
 }
 
@@ -81,20 +69,12 @@ module _ {State : Type 0} {number row : ℕ} {code_of : State → ℕ}
       → ((choice : Choice) → One choice → Other choice) → KeepChains oldest old
       → KeepChains new newest
       → IsLed number Other code_of Step weight row oldest newest before entry
-  led-relinked led can first last = record {
-    choice = led.choice;
-    can = can led.choice led.can;
-    gains = led.gains;
-    small = led.small;
-    below = led.below;
-    step = led.step;
-    goes = record {
-      code = led.goes.code;
-      value = led.goes.value;
-      marks = led.goes.marks;
-      chain = λ marks was. last _ _ (led.goes.chain marks (first _ marks was));
-    };
-  }
+  led-relinked {oldest = oldest} {newest = newest} {before} {entry} led can first last =
+      let may = can led.choice led.can in
+      let chain : (marks : List (ℕ × Mark)) → Denotes oldest before.1.chain marks
+      → Denotes newest entry.1.chain (marks ++ marks_at row led.choice) =
+      λ marks was. last _ _ (led.goes.chain marks (first _ marks was)) in
+      search (chain, may, led)
 
   -- what the plain step leads to is taken in, and then what that by a second choice does: each
   -- other choice leads nowhere else than this one
@@ -124,45 +104,26 @@ module _ {State : Type 0} {number row : ℕ} {code_of : State → ℕ}
     ];
   }
 
-  -- where the other lot is of no step
-  pub takes-alone : {One Can : Choice → Type 0} {old_links links : List Link} {before : ℕ × Best}
-      {old new : List (ℕ × Best)} → ((choice : Choice) → One choice → Can choice)
-      → ((choice : Choice) → Can choice → One choice)
-      → TakesSteps number One code_of Step weight row old_links links before old new
-      → TakesSteps number Can code_of Step weight row old_links links before old new
-  takes-alone there back takes = record {
-    takes = takes-as takes.takes (λ entry led. led-relinked led there keep-same keep-same);
-    has = λ choice can. takes.has choice (back choice can);
-  }
-
-  -- where it is of no matter what is chosen: a step leads nowhere else than the plain one
-  pub takes-unheeded : {Can : Choice → Type 0} {old_links links : List Link} {before : ℕ × Best}
-      {old new : List (ℕ × Best)} (state : State)
-      → ((one other : State) → code_of one ≡ code_of other → one ≡ other)
-      → code_of state ≡ before.0 → Can Plain
-      → ((choice : Choice) (after : State) (gains : Gains) → Can choice
-      → Step choice state after gains → Step Plain state after gains)
+  -- what the plain step leads to is all, where no choice leads elsewhere
+  pub takes-plain : {Can : Choice → Type 0} {old_links links : List Link} {before : ℕ × Best}
+      {old new : List (ℕ × Best)} → Can Plain
+      → ((choice : Choice) → Can choice → (next : ℕ) (gains : Gains)
+      → IsStep code_of (Step choice) before.0 next gains
+      → IsStep code_of (Step Plain) before.0 next gains)
       → TakesSteps number (λ one. one ≡ Plain) code_of Step weight row old_links links before old
       new
       → TakesSteps number Can code_of Step weight row old_links links before old new
-  takes-unheeded state apart its can matters_not takes = record {
+  takes-plain can leads takes = record {
     takes = takes-as takes.takes
         (λ entry led. led-relinked led (λ choice same. rw same can) keep-same keep-same);
-    has = λ choice stands next gains step.
-        has-weaker (omega (arith, ints)) (takes.has Plain refl next gains (record {
-          before = state;
-          after = step.after;
-          starts = its;
-          ends = step.ends;
-          step = matters_not choice step.after gains stands
-              (rw (apart step.before state (step.starts ∙ sym its)) at step.step);
-        }));
+    has = λ choice stands next gains step. has-weaker (omega (arith, ints))
+        (takes.has Plain refl next gains (leads choice stands next gains step));
   }
 
   module _ {Can : Choice → Type 0} {old_links mid_links links : List Link}
       {old new : List (ℕ × Best)} where
     -- one entry more is led
-    led-push : (from : List (ℕ × Best)) (before : ℕ × Best) → KeepChains old_links mid_links
+    pub led-push : (from : List (ℕ × Best)) (before : ℕ × Best) → KeepChains old_links mid_links
         → KeepChains mid_links links
         → AreLed number Can code_of Step weight row old_links mid_links from old
         → TakesSteps number Can code_of Step weight row mid_links links before old new
@@ -188,13 +149,3 @@ module _ {State : Type 0} {number row : ℕ} {code_of : State → ℕ}
             takes.has
       ];
     }
-
-    -- the same, of an entry as it is read
-    pub led-read : (from : List (ℕ × Best)) (i : ℕ) (d : ℕ × Best) → i < length from
-        → KeepChains old_links mid_links → KeepChains mid_links links
-        → AreLed number Can code_of Step weight row old_links mid_links (take i from) old
-        → TakesSteps number Can code_of Step weight row mid_links links (get_or from i d) old new
-        → AreLed number Can code_of Step weight row old_links links (take (i + 1) from) new
-    led-read from i d within first last led takes =
-        rw (take_more from i d within)
-        (led-push (take i from) (get_or from i d) first last led takes)

@@ -1,16 +1,8 @@
 -- Tracks go on by the only step of their machine: that of one device, those of all, and those that
 -- have no part in an act.
-use Rattle.mdb_explained_runs.proofs.Words
-use Words.{arith, refl, sym, ap, ◌∙◌, ◌≡◌, ◌≤◌, ◌+◌, ◌*◌, ◌^◌, ℕ, List, ◌∷◌, Some, ◌<◌, get_or, inl}
-use Words.{inr, Ok, Err, Result, IfErr, IfOk, OnErr, Device, Act, Rule, PowerOn, Profile, Choice}
-use Words.{Gains, no_gains, IsSmall, Machine, IsActOf, IsOnlyStep, Tracks, moved_cell, added}
-use Words.{DEVICES, Choices, machine_of, rule_of, HasNoStepFrom, IsTrackOf, TrackOf, track_in}
-use Words.{Front, front-next, same_or_not, is_machine_of, unmoved, untold}
+use Rattle.mdb_explained_runs.proofs.Words.{arith, refl, sym, ap, ◌∙◌, ◌≡◌, ◌≤◌, ◌+◌, ◌*◌, ◌^◌, ℕ, List, ◌∷◌, Some, ◌<◌, get_or, inl, inr, Ok, Err, Result, IfErr, IfOk, OnErr, Device, Act, Rule, PowerOn, Profile, Choice, Gains, no_gains, IsSmall, Machine, IsActOf, IsOnlyStep, Tracks, moved_cell, added, DEVICES, Choices, machine_of, rule_of, HasNoStepFrom, IsTrackOf, TrackOf, track_in, Front, front-next, same_or_not, is_machine_of, unmoved, untold, AreTracksWithin, IsTrackWithin, Leads, LeadsOf, OneLeads, TrackStops, TracksLead, TracksStop}
 use Rattle.mdb_bus.specs.declared.scope.Profile.TheVariants.{Base}
 use Rattle.mdb_explained_runs.specs.declared.track.Track.{Track}
-use Rattle.mdb_explained_runs.specs.inner.TrackSteps.{AreTracksWithin, IsTrackWithin, Leads}
-use Rattle.mdb_explained_runs.specs.inner.TrackSteps.{LeadsOf, OneLeads, TrackStops, TracksLead}
-use Rattle.mdb_explained_runs.specs.inner.TrackSteps.{TracksStop}
 use Rattle.mdb_follow.proofs.Ways.{no-gains}
 use Rattle.mdb_follow.proofs.Ends.{Moved, cell-moved, cell-moved-within, cell-same, cell-within-weaker}
 
@@ -46,11 +38,8 @@ leads {machine = machine} {old = old} {act = act} {choice} {gains} by only learn
             };
             only = λ state other way.
                 let was = on.only way.before way.sums_before way.way in
-                let same = one.1 state way.gains (rw was.0 at way.step) in (
-                  same.0,
-                  way.adds ∙ ap (λ sums. added sums way.gains) was.1
-                      ∙ ap (added on.sums) same.1,
-                );
+                let same = one.1 state way.gains (rw was.0 at way.step) in
+                (same.0, cc (was.1, same.1));
             cell = rw moved (cell-same (Moved (λ other. other ≡ on.sums) gains)
                 (λ other. other ≡ added on.sums gains) (moved_cell old.cell gains)
                 (λ sums m. m.adds ∙ ap (λ before. added before gains) m.kind)
@@ -92,38 +81,33 @@ still device track act choice other profile =
         only = λ state sums way.
             let was = on.only way.before way.sums_before way.way in
             let stays = (is.elsewhere acts act choice way.before state way.gains other).0 way.step
-            in (
-              stays.0 ∙ was.0,
-              way.adds ∙ ap (added way.sums_before) stays.1
-                  ∙ sym (no-gains way.sums_before) ∙ was.1,
-            );
+            in
+            (stays.0 ∙ was.0, cc (was.1, stays.1, no-gains way.sums_before));
         cell = on.cell;
         counted = on.counted ∙ sym (untold (PowerOn profile) device acts act other);
       };
       within = λ limit. track-within-weaker (omega arith);
     }
 
--- The track of the device that an arm is of goes on.
-pub one-leads : {T E : Type 0} (r : Result T E) (device which : Device) (old new : Tracks)
-    (act : Act) (choice : Choice) → device ≡ which
-    → IfOk r (λ _. LeadsOf act choice which (track_in old which) (track_in new which))
-    → ((other : Device) → (other ≡ which → ⊥) → track_in new other ≡ track_in old other)
-    → IfOk r (λ _. OneLeads device old act choice new)
-one-leads (Ok x) device which old new act choice is goes others =
-    rw is (record { own = goes; others = others })
-one-leads (Err e) device which old new act choice is goes others = tt
+module _ {T : Type 0} {device which : Device} (old : Tracks) (act : Act) (choice : Choice)
+    (is : device ≡ which) where
+  -- The track of the device that an arm is of goes on.
+  pub one-leads : {E : Type 0} (r : Result T E) (new : Tracks)
+      → IfOk r (λ _. LeadsOf act choice which (track_in old which) (track_in new which))
+      → ((other : Device) → (other ≡ which → ⊥) → track_in new other ≡ track_in old other)
+      → IfOk r (λ _. OneLeads device old act choice new)
+  one-leads (Ok x) new goes others = rw is (record { own = goes; others = others })
+  one-leads (Err e) new goes others = tt
 
--- It has no step.
-pub one-stops : {T : Type 0} (r : Result T Rule) (device which : Device) (tracks : Tracks)
-    (act : Act) (choice : Choice) → device ≡ which
-    → OnErr r ((profile : Profile) (acts : List Act) (chosen : Choices acts)
-    → IsTrackOf profile which (track_in tracks which) acts chosen
-    → HasNoStepFrom (machine_of (PowerOn profile) which) acts act choice
-    (track_in tracks which).state) → IfErr r (λ broken. broken ≡ rule_of which)
-    → IfErr r (TrackStops device tracks act choice)
-one-stops (Ok x) device which tracks act choice is none its = tt
-one-stops (Err broken) device which tracks act choice is none its =
-    rw is (record { rule = its; none = none })
+  -- It has no step.
+  pub one-stops : (r : Result T Rule)
+      → OnErr r ((profile : Profile) (acts : List Act) (chosen : Choices acts)
+      → IsTrackOf profile which (track_in old which) acts chosen
+      → HasNoStepFrom (machine_of (PowerOn profile) which) acts act choice
+      (track_in old which).state)
+      → IfErr r (λ broken. broken ≡ rule_of which) → IfErr r (TrackStops device old act choice)
+  one-stops (Ok x) none its = tt
+  one-stops (Err broken) none its = rw is (record { rule = its; none = none })
 
 -- All go on by an act that is of no other device than one that goes on.
 pub all-lead : (device : Device) (old new : Tracks) (act : Act) (choice : Choice)

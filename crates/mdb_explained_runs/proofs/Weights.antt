@@ -1,9 +1,5 @@
 -- What sums and gains count for a goal.
-use Rattle.mdb_explained_runs.proofs.Words
-use Words.{ap, arith, refl, ◌∙◌, ◌≡◌, ◌+◌, ◌<◌, ◌^◌, ℤ, pos, negsuc, neg_ℤ, ◌+ℤ◌, ◌≤ℤ◌, SFits, of_z}
-use Words.{to_z, w64, ints, to_z-of_z, Gains, no_gains, IsSmall, Weight, AccountSide, Bound, Least}
-use Words.{Greatest, side_value, AccountSums, Sums, added, no_sums, gained, towards, weigh}
-use Words.{weight_of}
+use Rattle.mdb_explained_runs.proofs.Words.{ap, arith, refl, ◌∙◌, ◌≡◌, ◌+◌, ◌<◌, ◌^◌, ℤ, pos, negsuc, neg_ℤ, ◌+ℤ◌, ◌≤ℤ◌, SFits, of_z, to_z, w64, ints, to_z-of_z, Gains, no_gains, IsSmall, Weight, AccountSide, Bound, Least, Greatest, side_value, AccountSums, Sums, added, no_sums, gained, towards, weigh, weight_of}
 use Rattle.mdb_machine.proofs.Slots.{none_at, small_at}
 use Rattle.mdb_explained_runs.specs.declared.explain.best.Weight.TheVariants as weights
 use Rattle.mdb_follow.specs.declared.goal.AccountSide.TheVariants as sides

@@ -1,20 +1,13 @@
 -- The names of std, of the crates below and of this crate's specs that its proofs share.
-pub use Rattle.std.proofs.Common.{All, Bool, Contains, Err, List, None, Ok, Option, Result, SFits}
-pub use Rattle.std.proofs.Common.{Some, add-one, ap, append_assoc, arith, drop, false, get_or}
-pub use Rattle.std.proofs.Common.{if◌then◌else◌, inl, inr, length, length-append, neg_ℤ, negsuc}
-pub use Rattle.std.proofs.Common.{of_z, pos, refl, reverse, rules, set, slice_get, subst, sym, take}
-pub use Rattle.std.proofs.Common.{to_z, true, w64, ℕ, ℤ, [], ◌&&◌, ◌*◌, ◌++◌, ◌+ℤ◌, ◌+◌, ◌-◌, ◌<◌}
-pub use Rattle.std.proofs.Common.{◌==◌, ◌^◌, ◌↔◌, ◌∙◌, ◌∷◌, ◌≡◌, ◌≢◌, ◌≤ℤ◌, ◌≤◌, ◌⊎◌}
+pub use Rattle.std.proofs.Common.{All, Bool, Contains, Err, List, None, Ok, Option, Result, SFits, Some, add-one, ap, append_assoc, arith, drop, false, get_or, if◌then◌else◌, inl, inr, length, length-append, neg_ℤ, negsuc, of_z, pos, refl, reverse, rules, set, slice_get, subst, sym, take, to_z, true, w64, ℕ, ℤ, [], ◌&&◌, ◌*◌, ◌++◌, ◌+ℤ◌, ◌+◌, ◌-◌, ◌<◌, ◌^◌, ◌↔◌, ◌∙◌, ◌∷◌, ◌≡◌, ◌≢◌, ◌≤ℤ◌, ◌≤◌, ◌⊎◌}
 pub use Rattle.std.proofs.Math.Bool.{Bool-set}
 pub use Rattle.std.proofs.Math.Seq.{get_or-append_seam, split_at}
 pub use Rattle.std.proofs.lemmas.Bool.{cases_eq, false_from_ne_true, false≢true}
+pub use Rattle.std.proofs.lemmas.Bool.Decides.{nat_tests}
 pub use Rattle.std.proofs.lemmas.Int.{ints, to_z-of_z}
-pub use Rattle.std.proofs.lemmas.List.{append_cancel_left, same_from_push, take_all, take_more}
-pub use Rattle.std.proofs.lemmas.List.Elements.{All-append, All-cons, All-contains}
-pub use Rattle.std.proofs.lemmas.List.Elements.{All-from_recursion, All-nil, All-push, All-tail}
-pub use Rattle.std.proofs.lemmas.List.Elements.{Contains-append_left, Contains-get_or}
-pub use Rattle.std.proofs.lemmas.List.Elements.{Contains-push, Contains-push_cases}
-pub use Rattle.std.proofs.lemmas.Option.{get_or_from_slice_get, same_Some, slice_get_read}
+pub use Rattle.std.proofs.lemmas.List.{append_cancel_left, same_from_push, take_all, take_more, append-nil, nil_from_length, get_or-set_other, get_or-set_same, get_or_append_left, get_or_default, length-set, reverse-append}
+pub use Rattle.std.proofs.lemmas.List.Elements.{All-append, All-cons, All-contains, All-from_recursion, All-nil, All-push, All-tail, Contains-append_left, Contains-get_or, Contains-push, Contains-push_cases, Contains-append_cases, Contains-append_right}
+pub use Rattle.std.proofs.lemmas.Option.{get_or_from_slice_get, same_Some, slice_get_read, none-some, slice_get_within}
 pub use Rattle.std.specs.Bool.{OnFalse, OnTrue}
 pub use Rattle.std.specs.Prelude.{IfErr, IfOk, IsSomeAnd, OnErr, map, ◌-ℤ◌}
 pub use Rattle.mdb_words.specs.declared.event.Event.{Event}
@@ -25,14 +18,13 @@ pub use Rattle.mdb_msgs.specs.declared.command.ReaderCommand.{ReaderCommand}
 pub use Rattle.mdb_msgs.specs.declared.command.ReaderUnit.{ReaderUnit}
 pub use Rattle.mdb_msgs.specs.declared.command.ReaderUnit.TheVariants.{First, Second}
 pub use Rattle.mdb_msgs.specs.declared.reply.Reply.{Reply}
-pub use Rattle.mdb_bus.specs.ActLists.{ArePieces, IsActList, Piece, Whole, acts_of, events_of}
-pub use Rattle.mdb_bus.specs.ActLists.{piece_events}
+pub use Rattle.mdb_bus.specs.ActLists.{ArePieces, IsActList, Piece, Whole, acts_of, events_of, piece_events}
 pub use Rattle.mdb_bus.specs.Bus.{GoesOn, Grown}
 pub use Rattle.mdb_bus.specs.ExtendedHaste.{haste_of, is_excused}
 pub use Rattle.mdb_bus.specs.LeavingOut.{IsLeftOut, acts_with, breaks_among, has_part}
 pub use Rattle.mdb_bus.specs.LinkFaults.{IsLinkFault, blame_on}
 pub use Rattle.mdb_bus.specs.Loss.{Loss, LossFits}
-pub use Rattle.mdb_bus.specs.Pieces.{IsTail}
+pub use Rattle.mdb_bus.specs.Pieces.{IsTail, HasActList, act_in}
 pub use Rattle.mdb_bus.specs.Scopes.{IsFollowed, from_power_on, profile_of}
 pub use Rattle.mdb_bus.specs.declared.act.Act.{Act}
 pub use Rattle.mdb_bus.specs.declared.bus.Bus.{Bus}
@@ -54,16 +46,13 @@ pub use Rattle.mdb_machine.specs.declared.choice.Choice.TheVariants.{Again, Lost
 pub use Rattle.mdb_machine.specs.declared.gains.Gains.{Gains}
 pub use Rattle.mdb_cashless.specs.Units.{own}
 pub use Rattle.mdb_cashless.specs.declared.by_profile.state.StateByProfile.{StateByProfile}
-pub use Rattle.mdb_follow.proofs.ByDevice.{Front, below, each, earlier, front-all, front-more}
-pub use Rattle.mdb_follow.proofs.ByDevice.{front-next, placed, same_or_not}
-pub use Rattle.mdb_follow.proofs.Choosing.{AgreeFor, chosen, follows_as, merged, merged_agrees}
-pub use Rattle.mdb_follow.proofs.Following.{OneActList, if-err-is, if-ok, whole-piece}
-pub use Rattle.mdb_follow.proofs.Joining.{split, split_with_choices}
-pub use Rattle.mdb_follow.proofs.Listed.{contains-cases, contains-here, contains-none}
-pub use Rattle.mdb_follow.proofs.Listed.{contains-there, nil-told}
+pub use Rattle.mdb_follow.proofs.ByDevice.{Front, below, each, earlier, front-all, front-more, front-next, placed, same_or_not}
+pub use Rattle.mdb_follow.proofs.Choosing.{AgreeFor, follows_as, merged, merged_agrees}
+pub use Rattle.mdb_follow.proofs.Following.{OneActList, if-err-is, if-ok, whole-piece, accounts-of-cells, cell-of-runs, is-some-weaker, list-on, on-true, times-on}
+pub use Rattle.mdb_follow.proofs.Joining.{split_with_choices}
+pub use Rattle.mdb_follow.proofs.Listed.{contains-cases, contains-here, contains-none, contains-there, nil-told}
 pub use Rattle.mdb_follow.proofs.Machines.{is_machine_of, of_or_not, whose, whose_is}
-pub use Rattle.mdb_follow.proofs.OneAnswer.{BusLaws, named, named-account, one-end, one-list}
-pub use Rattle.mdb_follow.proofs.OneAnswer.{with_accounts}
+pub use Rattle.mdb_follow.proofs.OneAnswer.{BusLaws, named, named-account, one-end, one-list, with_accounts}
 pub use Rattle.mdb_follow.proofs.OwnWays.{are_breaks}
 pub use Rattle.mdb_follow.proofs.ReportsWithout.{BreaksTellNothing, blamed_in, not_early}
 pub use Rattle.mdb_follow.proofs.Sided.{decimals-are, unmoved, untold}
@@ -76,7 +65,7 @@ pub use Rattle.mdb_follow.specs.Choosing.{AllFollow, Choices, ChoicesBy, Follows
 pub use Rattle.mdb_follow.specs.Ends.{side_range, side_value}
 pub use Rattle.mdb_follow.specs.GoalEnds.{IsAsFar, end_of, goal_value}
 pub use Rattle.mdb_follow.specs.LeavingOut.{HasNothingLeftOut}
-pub use Rattle.mdb_follow.specs.Machines.{StateOf, machine_of}
+pub use Rattle.mdb_follow.specs.Machines.{machine_of}
 pub use Rattle.mdb_follow.specs.Offences.{BreaksLink, act_fault, rule_of}
 pub use Rattle.mdb_follow.specs.Ranges.{IsRange, no_account, no_range}
 pub use Rattle.mdb_follow.specs.Report.{IsReport, device_report, device_report_of, report_of}
@@ -84,7 +73,6 @@ pub use Rattle.mdb_follow.specs.ReportedDevices.{device_place}
 pub use Rattle.mdb_follow.specs.Runs.{AllSums, IsReached, IsWay, Run, States}
 pub use Rattle.mdb_follow.specs.Senders.{sender_of}
 pub use Rattle.mdb_follow.specs.Sums.{AccountSums, Sums, added, no_sums}
-pub use Rattle.mdb_follow.specs.Tables.{EachArrives}
 pub use Rattle.mdb_follow.specs.declared.account.Account.{Account}
 pub use Rattle.mdb_follow.specs.declared.account_name.AccountName.{AccountName}
 pub use Rattle.mdb_follow.specs.declared.goal.AccountSide.{AccountSide}
@@ -96,13 +84,10 @@ pub use Rattle.mdb_follow.specs.declared.range.Range.{Range}
 pub use Rattle.mdb_follow.specs.declared.report.Report.{Report}
 pub use Rattle.mdb_follow.specs.declared.report.TheConstants.Report.{DEVICES}
 pub use Rattle.mdb_explained_runs.specs.Goals.{Explains}
-pub use Rattle.mdb_explained_runs.specs.Marks.{MarkedRun, Rise, StandsWithin, choice_by, choices_in}
-pub use Rattle.mdb_explained_runs.specs.Marks.{marks_at, marks_of, own_marks, with_mark}
-pub use Rattle.mdb_explained_runs.specs.ReplayFaults.{BreaksMarkedMachine, HasMarkedRun}
-pub use Rattle.mdb_explained_runs.specs.ReplayFaults.{HasNoMarkedStep, IsMarkFault, IsReplayFault}
-pub use Rattle.mdb_explained_runs.specs.ReplayFaults.{IsReplayOffence, MayStandAt, MayStandOnNewest}
-pub use Rattle.mdb_explained_runs.specs.Replays.{IsReplayReport}
-pub use Rattle.mdb_explained_runs.specs.Tracks.{HasNoStepFrom, IsTrackOf, TrackOf, track_in}
+pub use Rattle.mdb_explained_runs.specs.Marks.{MarkedRun, Rise, StandsWithin, choice_by, choices_in, marks_at, marks_of, own_marks, with_mark, MayStandOn}
+pub use Rattle.mdb_explained_runs.specs.ReplayFaults.{BreaksMarkedMachine, HasMarkedRun, HasNoMarkedStep, IsMarkFault, IsReplayFault, IsReplayOffence, MayStandAt, MayStandOnNewest, SplitAt}
+pub use Rattle.mdb_explained_runs.specs.Replays.{IsReplayReport, StandsFor}
+pub use Rattle.mdb_explained_runs.specs.Tracks.{HasNoStepFrom, IsTrackOf, TrackOf, track_in, AreTracks, chosen_more}
 pub use Rattle.mdb_explained_runs.specs.declared.explain.all_paths.AllPaths.{AllPaths}
 pub use Rattle.mdb_explained_runs.specs.declared.explain.best.Best.{Best}
 pub use Rattle.mdb_explained_runs.specs.declared.explain.best.Weight.{Weight}
@@ -111,12 +96,14 @@ pub use Rattle.mdb_explained_runs.specs.declared.explain.seeker.Seeker.{Seeker}
 pub use Rattle.mdb_explained_runs.specs.declared.mark.Mark.{Mark}
 pub use Rattle.mdb_explained_runs.specs.declared.replay.ReplayFault.{ReplayFault}
 pub use Rattle.mdb_explained_runs.specs.declared.tracks.Tracks.{Tracks}
-pub use Rattle.mdb_explained_runs.specs.inner.AllPaths.{AreAllFacts, AreAllPaths, AreAllWithin}
-pub use Rattle.mdb_explained_runs.specs.inner.AllPaths.{AreBestMarks, HasNoWay, weight_for}
-pub use Rattle.mdb_explained_runs.specs.inner.Chains.{Denotes, DenotesAt, IsChain, KeepChains}
-pub use Rattle.mdb_explained_runs.specs.inner.Merges.{IsMergeOf, IsOfBoth, Merges, of_one, of_other}
-pub use Rattle.mdb_explained_runs.specs.inner.Paths.{AllRest, AreEntriesWithin, AreLed, AreStarts}
-pub use Rattle.mdb_explained_runs.specs.inner.Paths.{HasAsGood, HasSteps, IsEntryWithin, IsLed}
-pub use Rattle.mdb_explained_runs.specs.inner.Paths.{IsPath, IsPaths, RestsAt, TakesSteps, no_path}
+pub use Rattle.mdb_explained_runs.specs.inner.AllPaths.{AreAllFacts, AreAllPaths, AreAllWithin, AreBestMarks, HasNoWay, weight_for, AreBestBelow, AreFactsOf, ArePathsOf, AreWithinOf, HasWay, LeadsPathsOf, OneLeadsPaths, paths_in}
+pub use Rattle.mdb_explained_runs.specs.inner.Chains.{Denotes, DenotesAt, IsChain, KeepChains, linked}
+pub use Rattle.mdb_explained_runs.specs.inner.Merges.{IsMergeOf, IsOfBoth, Merges, of_one, of_other, AreApart, IsFront, IsMergeBelow}
+pub use Rattle.mdb_explained_runs.specs.inner.Paths.{AllRest, AreEntriesWithin, AreLed, AreStarts, HasAsGood, HasSteps, IsEntryWithin, IsLed, IsPaths, RestsAt, TakesSteps, no_path, ArePaths, HasCodeAt, IsAsGood, IsBestOf, LinksGoOnFrom, TakesIn}
 pub use Rattle.mdb_explained_runs.specs.inner.Seekers.{IsSeeker}
 pub use Rattle.mdb_explained_runs.specs.inner.Weights.{gained, towards, weigh, weight_of}
+pub use Rattle.mdb_bus.specs.ExtendedTimes.{AreFew, times_of, untimely_of}
+pub use Rattle.mdb_cashless.specs.ByProfile.{StepOf, base_state, by_profile, extended_state, machine_in, strayed}
+pub use Rattle.mdb_explained_runs.specs.inner.TrackSteps.{AreTracksWithin, IsTrackWithin, Leads, LeadsOf, OneLeads, TrackStops, TracksLead, TracksStop}
+pub use Rattle.mdb_machine.proofs.Ways.{by_second, plain_only, plain_or_not, step_as}
+pub use Rattle.mdb_msgs.specs.shared.SameDevices.{is_one, itself, says}

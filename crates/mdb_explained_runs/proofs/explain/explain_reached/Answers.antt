@@ -1,7 +1,7 @@
 -- The marks of the best ways of all devices explain the goal.
-use Rattle.mdb_explained_runs.proofs.Words.{◌∙◌, if-ok}
-use Rattle.mdb_explained_runs.proofs.Explained.{explained_all, has-way, list-of-seeker}
-use Rattle.mdb_explained_runs.proofs.Explained.{paths-of-seeker}
+use Rattle.mdb_explained_runs.proofs.Words.{refl, ◌∙◌, if-ok}
+use Rattle.mdb_explained_runs.proofs.Seeking.{has-way}
+use Rattle.mdb_explained_runs.proofs.Explained.{explained_all, list-of-seeker, paths-of-seeker}
 use Rattle.mdb_explained_runs.proofs.explain.explain_reached.Goals as goal
 
 pub marks_of_all-requires : goal.marks_of_all-requires
@@ -14,7 +14,7 @@ marks_of_all-requires c =
       c.args.goal.now,
       on.pieces,
       paths-of-seeker on profile without same,
-      has-way profile without (c.transcripts_have_one_act_list.ensures _) (list-of-seeker on same)
+      has-way profile refl (c.transcripts_have_one_act_list.ensures _) (list-of-seeker on same)
           c.requires.reached,
     )
 
@@ -33,5 +33,5 @@ returns c =
       told = c.own_acts_are_those_that_a_device_has_a_part_in.ensures.test;
     }) profile without c.args.events.now on.pieces list c.args.goal.now all.items
     (are profile c.args.goal.now on.pieces (paths-of-seeker on profile without same)
-    (has-way profile without (one _) list c.requires.reached)))
+    (has-way profile refl (one _) list c.requires.reached)))
     c.marks_of_all.ensures

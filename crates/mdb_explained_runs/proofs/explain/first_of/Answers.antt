@@ -1,22 +1,25 @@
 -- The first mark of both lists is that of the least row.
-use Rattle.mdb_explained_runs.proofs.Words.{arith, ◌∷◌, of_one, of_other}
-use Rattle.mdb_explained_runs.proofs.Merging.{before_none, none_left}
+use Rattle.mdb_explained_runs.proofs.Words.{arith, ◌∷◌, nil_from_length, of_one, of_other}
+use Rattle.mdb_explained_runs.specs.inner.Merges.{nothing}
 use Rattle.mdb_explained_runs.proofs.explain.first_of.Goals as goal
 
 pub returns-in_err-next-clause-none : goal.returns-in_err-next-clause-none
 returns-in_err-next-clause-none c =
-    rw c.from_residual.ensures (none_left c.args.one.now c.args.other.now
-    c.in_default.ensures.cases c.in_err-next.ensures.cases)
+    rw (
+      c.from_residual.ensures,
+      nil_from_length c.args.one.now c.in_default.ensures.cases,
+      nil_from_length c.args.other.now c.in_err-next.ensures.cases,
+    ) nothing
 
 pub returns-in_default-clause-goes : goal.returns-in_default-clause-goes
 returns-in_default-clause-goes c =
-    rw c.in_ok-next.ensures.cases.0 (λ rest. of_other _ _ _ rest
-    (before_none c.in_ok-next.next.now c.args.one.now c.in_default.ensures.cases))
+    rw (c.in_ok-next.ensures.cases.0, nil_from_length c.args.one.now c.in_default.ensures.cases)
+    (λ rest. of_other _ _ _ rest tt)
 
 pub returns-in-None-clause-goes : goal.returns-in-None-clause-goes
 returns-in-None-clause-goes c =
-    rw c.in-Some.ensures.cases.0 (λ rest. of_one _ _ _ rest
-    (before_none c.in-Some.mark.now c.args.other.now c.in-None.ensures.cases))
+    rw (c.in-Some.ensures.cases.0, nil_from_length c.args.other.now c.in-None.ensures.cases)
+    (λ rest. of_one _ _ _ rest tt)
 
 pub returns-then-next-mark-clause-goes : goal.returns-then-next-mark-clause-goes
 returns-then-next-mark-clause-goes c =

@@ -1,5 +1,4 @@
-use Rattle.mdb_explained_runs.proofs.Words.{List, Device, Profile, Piece, Goal, AreAllPaths}
-use Rattle.mdb_explained_runs.specs.inner.AllPaths.{AreBestBelow, HasWay}
+use Rattle.mdb_explained_runs.proofs.Words.{List, Device, Profile, Piece, Goal, AreAllPaths, AreBestBelow, HasWay}
 use Rattle.mdb_explained_runs.proofs.explain.marks_of_all.Given as goal
 
 -- the marks so far are those of the devices before this one

@@ -1,6 +1,5 @@
 -- Two lists of marks become one that is of both.
-use Rattle.std.proofs.Common.{[]}
-use Rattle.std.proofs.lemmas.List.{append-nil}
+use Rattle.mdb_explained_runs.proofs.Words.{[], append-nil}
 use Rattle.mdb_explained_runs.proofs.Merging.{of_both}
 use Rattle.mdb_explained_runs.proofs.explain.merge.Goals as goal
 

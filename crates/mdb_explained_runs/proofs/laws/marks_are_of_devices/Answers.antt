@@ -8,10 +8,10 @@ pub returns-clause-own : goal.returns-clause-own
 returns-clause-own c = own_in
 
 pub returns-clause-some : goal.returns-clause-some
-returns-clause-some c = in_own c.own_acts_are_those_that_a_device_has_a_part_in.ensures.test
+returns-clause-some c = in_own
 
 pub returns-clause-rise : goal.returns-clause-rise
 returns-clause-rise c = own_rise
 
 pub returns-clause-apart : goal.returns-clause-apart
-returns-clause-apart c = own_apart c.own_acts_are_those_that_a_device_has_a_part_in.ensures.test
+returns-clause-apart c = own_apart

@@ -1,5 +1,5 @@
 -- Each entry rests, up to the last.
-use Rattle.mdb_bus.specs.declared.scope.Beginning.TheVariants.{PowerOn}
+use Rattle.mdb_explained_runs.proofs.Words.{PowerOn}
 use Rattle.mdb_explained_runs.proofs.Paths.{rests-more}
 use Rattle.mdb_explained_runs.proofs.explain.paths.all_rest.Goals as goal
 

@@ -1,8 +1,8 @@
 -- The entries after an act are what the steps from each entry lead to.
-use Rattle.mdb_explained_runs.proofs.Words.{arith, rules, take_all}
+use Rattle.mdb_explained_runs.proofs.Words.{arith, rules, no_path, take_all, take_more}
 use Rattle.mdb_explained_runs.proofs.Chains.{keep-then}
-use Rattle.mdb_explained_runs.proofs.EntryLimits.{entry-within-kept}
-use Rattle.mdb_explained_runs.proofs.Steps.{led-read}
+use Rattle.mdb_explained_runs.proofs.Paths.{entry-within-kept}
+use Rattle.mdb_explained_runs.proofs.Steps.{led-push}
 use Rattle.mdb_explained_runs.proofs.explain.paths.fill.Goals as goal
 
 pub take_steps-requires : goal.take_steps-requires
@@ -22,10 +22,10 @@ pub loop-entry-preserved : goal.loop-entry-preserved
 loop-entry-preserved g c = record {
   kept = keep-then c.loop-entry.invariant.kept c.take_steps.ensures.kept;
   led = λ profile acts stands.
-      led-read c.args.from.now c.loop-entry.entry-index _ c.loop-entry-test.true
-      c.loop-entry.invariant.kept c.take_steps.ensures.kept
+      rw (take_more c.args.from.now c.loop-entry.entry-index (0, no_path) c.loop-entry-test.true)
+      (led-push _ _ c.loop-entry.invariant.kept c.take_steps.ensures.kept
       (c.loop-entry.invariant.led profile acts stands)
-      (c.in_ok-take_steps.ensures.takes profile acts stands);
+      (c.in_ok-take_steps.ensures.takes profile acts stands));
 }
 
 pub returns-clause-led : goal.returns-clause-led

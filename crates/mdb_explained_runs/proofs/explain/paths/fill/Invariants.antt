@@ -1,5 +1,4 @@
-use Rattle.mdb_explained_runs.proofs.Words.{List, take, Act, PowerOn, Profile, CanStand, KeepChains}
-use Rattle.mdb_explained_runs.proofs.Words.{AreLed}
+use Rattle.mdb_explained_runs.proofs.Words.{List, take, Act, PowerOn, Profile, CanStand, KeepChains, AreLed}
 use Rattle.mdb_explained_runs.proofs.explain.paths.fill.Given as goal
 
 abbrev pub invariant-loop-entry : goal.invariant-loop-entry

@@ -1,17 +1,10 @@
 -- Paths are led over an act: by steps from their entries, or by resting.
-use Rattle.mdb_explained_runs.proofs.Words.{arith, rules, ap, ◌∙◌, ◌≡◌, ◌==◌, ℕ, List, [], length}
-use Rattle.mdb_explained_runs.proofs.Words.{Bool, true, PowerOn, acts_of, nil-told}
+use Rattle.mdb_explained_runs.proofs.Words.{nil_from_length, nat_tests, arith, rules, ap, ◌≡◌, true, PowerOn, acts_of}
 use Rattle.mdb_machine.specs.shared.OwnWays.{decides}
-use Rattle.mdb_explained_runs.proofs.EntryLimits.{all-led-within, entries-within-kept}
+use Rattle.mdb_explained_runs.proofs.Paths.{all-led-within, entries-within-kept, no-way, paths-led, paths-still}
 use Rattle.mdb_explained_runs.proofs.Chains.{keep-same}
-use Rattle.mdb_explained_runs.proofs.Paths.{no-way, paths-led, paths-still}
 use Rattle.mdb_explained_runs.proofs.explain.paths.lead.Goals as goal
 use Rattle.mdb_explained_runs.proofs.explain.paths.lead.Goals.{then-matters+in_ok-fill+else-is_empty, else-matters}
-
--- a list whose length is told to be 0
-empty-told : {X : Type 0} (xs : List X) (count : ℕ) (told : Bool) → count ≡ length xs
-    → told ≡ (count == 0) → told ≡ true → xs ≡ []
-empty-told xs count told same is = nil-told xs told (is ∙ ap (λ n. n == 0) same)
 
 pub fill-requires : goal.fill-requires
 fill-requires g c = (
@@ -30,8 +23,13 @@ pub returns-then-is_empty-clause-none : goal.returns-then-is_empty-clause-none
 returns-then-is_empty-clause-none g c profile pieces are =
     no-way (rw (← c.deref.ensures.value) at are.best)
     (c.in_ok-fill.ensures.led profile (acts_of pieces) are.facts)
-    (empty-told c.fill.new.room.entries.items _ c.is_empty.result
-    (omega (arith, c.fill.new.room.entries.ok)) c.is_empty.ensures c.if-is_empty.true)
+    (nil_from_length c.fill.new.room.entries.items (grind (
+      arith,
+      nat_tests,
+      c.fill.new.room.entries.ok,
+      c.is_empty.ensures,
+      c.if-is_empty.true,
+    )))
 
 pub returns-then-is_empty-clause-within : goal.returns-then-is_empty-clause-within
 returns-then-is_empty-clause-within g c limit within =

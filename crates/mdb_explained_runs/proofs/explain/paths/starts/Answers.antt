@@ -1,6 +1,6 @@
 -- Each state in which the machine may start has its entry.
 use Rattle.mdb_explained_runs.proofs.Words.{arith, rules, ◌∙◌, sym, false≢true}
-use Rattle.mdb_explained_runs.proofs.PathStarts.{more-starts, same-starts}
+use Rattle.mdb_explained_runs.proofs.Paths.{more-starts, same-starts}
 use Rattle.mdb_explained_runs.proofs.explain.paths.starts.Goals as goal
 use Rattle.mdb_explained_runs.proofs.explain.paths.starts.Goals.{then-may_start+in_ok-push, else-may_start}
 

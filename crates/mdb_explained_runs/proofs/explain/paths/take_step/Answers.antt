@@ -1,6 +1,5 @@
 -- What the step under a choice leads to is taken in.
-use Rattle.mdb_explained_runs.proofs.Words.{inl, ap, refl, sym, ◌∙◌, ◌+ℤ◌, same_Some, PowerOn}
-use Rattle.std.proofs.lemmas.Option.{none-some}
+use Rattle.mdb_explained_runs.proofs.Words.{inl, ap, refl, sym, ◌∙◌, ◌+ℤ◌, same_Some, PowerOn, none-some}
 use Rattle.mdb_explained_runs.proofs.Steps.{takes-nothing, takes-one}
 use Rattle.mdb_explained_runs.proofs.Weights.{small-sum}
 use Rattle.mdb_explained_runs.proofs.explain.paths.take_step.Goals as goal

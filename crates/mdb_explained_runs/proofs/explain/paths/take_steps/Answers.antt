@@ -1,13 +1,16 @@
 -- What the steps under all choices lead to is taken in.
-use Rattle.mdb_explained_runs.proofs.Words.{Some, refl, subst, sym, PowerOn, CanStand}
-use Rattle.mdb_machine.proofs.Ways.{by_second, plain_only}
-use Rattle.mdb_explained_runs.proofs.Steps.{takes-alone, takes-both, takes-unheeded}
+use Rattle.mdb_explained_runs.proofs.Words.{Some, refl, PowerOn, by_second, plain_only}
+use Rattle.mdb_follow.proofs.TwoSteps.{unheeded}
+use Rattle.mdb_explained_runs.proofs.Steps.{takes-both, takes-plain}
 use Rattle.mdb_explained_runs.proofs.explain.paths.take_steps.Goals as goal
 
 pub returns-then-not-heeds_choice-clause-takes : goal.returns-then-not-heeds_choice-clause-takes
 returns-then-not-heeds_choice-clause-takes g c profile acts stands =
-    takes-unheeded c.state.result g.met.P.Pair.apart c.state.ensures tt
-    (c.if-not-heeds_choice.ensures (PowerOn profile) acts)
+    takes-plain tt (λ choice can next gains step. unheeded c.args.act.now
+    g.P.Pair.code_of ((g.P.Pair.machine (PowerOn profile)).Step acts c.args.act.now)
+    c.args.entry.now.0 c.state.result
+    g.met.P.Pair.apart c.state.ensures (c.if-not-heeds_choice.ensures (PowerOn profile) acts) next
+    gains (choice, can, step))
     (c.in_ok-take_step.ensures.takes profile acts stands)
 
 pub returns-in_ok-take_step-2-clause-takes : goal.returns-in_ok-take_step-2-clause-takes
@@ -22,7 +25,6 @@ returns-in_ok-take_step-2-clause-takes g c profile acts stands =
 
 pub returns-in_default-clause-takes : goal.returns-in_default-clause-takes
 returns-in_default-clause-takes g c profile acts stands =
-    let act = c.args.act.now in
-    takes-alone (λ choice same. subst (CanStand act) (sym same) tt)
-    (plain_only act c.other_choice.result c.in_default.is c.other_choice.ensures.only)
+    takes-plain tt (λ choice can next gains step. rw (plain_only c.args.act.now
+    c.other_choice.result c.in_default.is c.other_choice.ensures.only choice can) at step)
     (c.in_ok-take_step.ensures.takes profile acts stands)

@@ -1,5 +1,5 @@
 -- Tracks and silences stay within the limits of one row more.
-use Rattle.std.proofs.Common.{arith}
+use Rattle.mdb_explained_runs.proofs.Words.{arith}
 use Rattle.mdb_explained_runs.proofs.Tracked.{tracks-within-next, tracks-within-weaker}
 use Rattle.mdb_explained_runs.proofs.replay.Replay.follow.Goals as goal
 

@@ -1,13 +1,8 @@
 -- A replay stands for one row more, or tells the fault of that row.
-use Rattle.mdb_explained_runs.proofs.Words.{List, ◌+◌, ℕ, Some, None, ap, arith, refl, sym, ◌∙◌}
-use Rattle.mdb_explained_runs.proofs.Words.{Event, GoesOn, profile_of, Mark, IsReplayFault}
-use Rattle.mdb_explained_runs.proofs.Words.{false≢true}
-use Rattle.mdb_bus.specs.ExtendedTimes.{untimely_of}
-use Rattle.mdb_explained_runs.specs.Replays.{StandsFor, scope_of}
+use Rattle.mdb_explained_runs.proofs.Words.{List, ◌+◌, ℕ, Some, None, ap, arith, refl, sym, ◌∙◌, Event, GoesOn, profile_of, Mark, IsReplayFault, false≢true, untimely_of, StandsFor, is-some-weaker, times-on}
+use Rattle.mdb_explained_runs.specs.Replays.{scope_of}
 use Rattle.mdb_follow.specs.Counted.{counted_with}
-use Rattle.mdb_follow.proofs.Following.{is-some-weaker, times-on}
-use Rattle.mdb_explained_runs.proofs.Replaying.{link-offence, machine-offence, mark-fault, no-mark}
-use Rattle.mdb_explained_runs.proofs.Replaying.{stands-on, stands-still}
+use Rattle.mdb_explained_runs.proofs.Replaying.{link-offence, machine-offence, mark-fault, no-mark, stands-on, stands-still}
 use Rattle.mdb_explained_runs.proofs.Tracked.{tracks-within-weaker}
 use Rattle.mdb_explained_runs.proofs.replay.Replay.take.Goals as goal
 

@@ -1,5 +1,4 @@
-use Rattle.mdb_explained_runs.proofs.Words.{refl, ◌∙◌, Device, First, Second, PowerOn, track_in}
-use Rattle.mdb_explained_runs.proofs.Words.{decimals-are}
+use Rattle.mdb_explained_runs.proofs.Words.{refl, ◌∙◌, Device, First, Second, PowerOn, track_in, decimals-are}
 use Rattle.mdb_msgs.specs.declared.command.Device.TheVariants as devices
 use Rattle.mdb_explained_runs.proofs.tracks.Tracks.facts.Goals as goal
 

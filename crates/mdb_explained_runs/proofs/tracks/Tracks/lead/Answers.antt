@@ -1,4 +1,4 @@
-use Rattle.mdb_follow.proofs.Following.{if-ok}
+use Rattle.mdb_explained_runs.proofs.Words.{if-ok}
 use Rattle.mdb_explained_runs.proofs.Tracked.{all-lead, none-leads}
 use Rattle.mdb_explained_runs.proofs.tracks.Tracks.lead.Goals as goal
 

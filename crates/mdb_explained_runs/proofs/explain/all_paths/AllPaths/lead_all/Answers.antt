@@ -1,8 +1,7 @@
 -- A break leads the paths of each device, one after the other.
-use Rattle.std.proofs.Common.{◌^◌}
+use Rattle.mdb_explained_runs.proofs.Words.{◌^◌}
 use Rattle.mdb_msgs.specs.declared.command.Device.TheVariants.{Changer}
-use Rattle.mdb_explained_runs.proofs.AllPaths.{front-all, front-fits, front-more, front-none}
-use Rattle.mdb_explained_runs.proofs.AllPaths.{front-stands, front-starts}
+use Rattle.mdb_explained_runs.proofs.AllPaths.{all-led, all-within, front-all, front-fits, front-more, front-none, front-stands, front-starts}
 use Rattle.mdb_explained_runs.proofs.Chains.{keep-then}
 use Rattle.mdb_explained_runs.proofs.explain.all_paths.AllPaths.lead_all.Goals as goal
 
@@ -29,8 +28,8 @@ returns-in_err-lead_one-clause-kept c =
 
 pub returns-then-not-branch-clause-none : goal.returns-then-not-branch-clause-none
 returns-then-not-branch-clause-none c =
-    front-none Changer c.loop-device-test.true c.loop-device.invariant c.in_ok-lead_one.field-0
-    c.if-not-branch.true c.in_ok-lead_one.ensures.none
+    front-none Changer c.loop-device-test.true c.loop-device.invariant
+    (rw c.if-not-branch.true at c.in_ok-lead_one.ensures.none)
 
 pub returns-then-not-branch-clause-kept : goal.returns-then-not-branch-clause-kept
 returns-then-not-branch-clause-kept c =
@@ -39,14 +38,10 @@ returns-then-not-branch-clause-kept c =
 pub loop-device-preserved : goal.loop-device-preserved
 loop-device-preserved c =
     front-more Changer c.loop-device-test.true c.loop-device.invariant c.lead_one.new.self
-    c.in_ok-lead_one.field-0 c.if-not-branch.false c.in_ok-lead_one.ensures.led
-    c.lead_one.ensures.kept
+    (rw c.if-not-branch.false at c.in_ok-lead_one.ensures.led) c.lead_one.ensures.kept
 
 pub returns-clause-led : goal.returns-clause-led
-returns-clause-led c profile pieces events at are device =
-    (front-all c.loop-device-test.false c.loop-device.invariant device).led profile pieces events at
-    (are device)
+returns-clause-led c = all-led (front-all c.loop-device-test.false c.loop-device.invariant)
 
 pub returns-clause-within : goal.returns-clause-within
-returns-clause-within c limit are device =
-    (front-all c.loop-device-test.false c.loop-device.invariant device).within limit (are device)
+returns-clause-within c = all-within (front-all c.loop-device-test.false c.loop-device.invariant)

@@ -1,5 +1,5 @@
 -- The paths of each device begin with the ways through no act.
-use Rattle.mdb_follow.proofs.ByDevice.{each}
+use Rattle.mdb_explained_runs.proofs.Words.{each}
 use Rattle.mdb_explained_runs.proofs.explain.all_paths.AllPaths.start.Goals as goal
 
 pub returns-clause-stands : goal.returns-clause-stands

@@ -1,6 +1,6 @@
 -- A chain is read from its last mark to its first.
 use Rattle.mdb_explained_runs.proofs.Words.{arith, refl, ◌-◌, slice_get_read}
-use Rattle.mdb_explained_runs.proofs.Chains.{begins, is_read, read-within, reads_on}
+use Rattle.mdb_explained_runs.proofs.Chains.{begins, is_read, reads_on, within-at}
 use Rattle.mdb_explained_runs.proofs.explain.chains.Chains.read.Goals as goal
 
 pub loop-at-init : goal.loop-at-init
@@ -9,7 +9,7 @@ loop-at-init c = rw c.new-marks.ensures.items (begins c.args.chain c.requires)
 pub index-link-requires : goal.index-link-requires
 index-link-requires c = omega (
   arith,
-  read-within c.loop-at.invariant,
+  within-at c.loop-at.invariant.left,
   c.loop-at-test.true,
   c.args.self.now.links.ok,
 )
@@ -17,7 +17,7 @@ index-link-requires c = omega (
 pub loop-at-smaller : goal.loop-at-smaller
 loop-at-smaller c =
     let there = slice_get_read c.args.self.now.links.items _ _ c.index-link.result.now refl
-    (omega (arith, c.loop-at-test.true, read-within c.loop-at.invariant))
+    (omega (arith, c.loop-at-test.true, within-at c.loop-at.invariant.left))
     c.index-link.ensures in
     omega (
       arith,
@@ -28,7 +28,7 @@ loop-at-smaller c =
 pub loop-at-preserved : goal.loop-at-preserved
 loop-at-preserved c =
     let there = slice_get_read c.args.self.now.links.items _ _ c.index-link.result.now refl
-    (omega (arith, c.loop-at-test.true, read-within c.loop-at.invariant))
+    (omega (arith, c.loop-at-test.true, within-at c.loop-at.invariant.left))
     c.index-link.ensures in
     rw c.in_ok-push.ensures.items (reads_on (c.loop-at.at - 1) c.loop-at.at c.index-link.result.now
     (omega (arith, c.loop-at-test.true)) there c.loop-at.invariant)

@@ -1,7 +1,7 @@
 -- A seeker stands for one row more.
 use Rattle.mdb_explained_runs.proofs.Words.{arith, refl, acts_of}
 use Rattle.mdb_bus.specs.Bus.{scope_of}
-use Rattle.mdb_explained_runs.proofs.Seeking.{seeks-on, still-paths, stuck, went-paths, went-within, within-more}
+use Rattle.mdb_explained_runs.proofs.Seeking.{seeks-on, still-paths, stuck, went-paths, within-more}
 use Rattle.mdb_explained_runs.proofs.explain.seeker.Seeker.take.Goals as goal
 
 pub lead-requires-clause-stands : goal.lead-requires-clause-stands
@@ -18,7 +18,7 @@ unreachable-requires c =
     let on = c.requires.reached.1 in
     let scope = scope_of c.args.self.now.bus in
     stuck on.profile c.args.goal.now c.args.self.now.all c.feed_into.new.act
-    c.in_ok-lead-in-Ok-true.field-0 c.in_ok-lead-in-Ok-true.ensures.none c.if-not-branch.true scope
+    (rw c.if-not-branch.true at c.in_ok-lead-in-Ok-true.ensures.none) scope
     c.feed_into.ensures.scope (c.transcripts_have_one_act_list.ensures scope) on.begins
     (rw c.in-Ok-true.field-0-test at (c.in-Ok-true.ensures.goes_on on.pieces on.on_bus)) on.whole
     on.paths c.requires.reached.2
@@ -30,10 +30,10 @@ returns-else-not-branch-clause-on c events on =
     let all = c.args.self.now.all in
     seeks-on on goes c.feed_into.ensures.scope refl
     (went-paths on.profile c.args.goal.now all c.lead.new.self c.feed_into.new.act
-    c.args.self.now.rows c.in_ok-lead-in-Ok-true.field-0 c.in_ok-lead-in-Ok-true.ensures.led
-    c.if-not-branch.false goes on.whole on.rows on.paths)
-    (went-within all c.lead.new.self c.args.self.now.rows c.in_ok-lead-in-Ok-true.field-0
-    c.in_ok-lead-in-Ok-true.ensures.within c.if-not-branch.false on.within)
+    c.args.self.now.rows (rw c.if-not-branch.false at c.in_ok-lead-in-Ok-true.ensures.led) goes
+    on.whole on.rows on.paths)
+    (within-more c.lead.new.self (omega arith)
+    ((rw c.if-not-branch.false at c.in_ok-lead-in-Ok-true.ensures.within) _ on.within))
 
 pub returns-in-Ok-false-clause-on : goal.returns-in-Ok-false-clause-on
 returns-in-Ok-false-clause-on c events on =
