@@ -1,5 +1,5 @@
 -- The table of what first bytes tell: each entry is what the first byte alone tells.
-use Rattle.mdb_msgs.proofs.Words.{◌≡◌, cases_eq, nat_tests, common_steps, Device, Need, More, Exactly, Foreign, Outside, device_at, need, need_for, ◌≢◌, ℕ, zero, suc, ◌+◌, ◌<◌, Bool, true, ◌&&◌, nat_eq, get_or, refl, ap, Option, Some, None, inl, inr, arith}
+use Rattle.mdb_msgs.proofs.Words.{◌≡◌, cases_eq, nat_tests, common_steps, Device, Need, More, Exactly, Foreign, Outside, device_at, need, need_for, ◌≢◌, ℕ, zero, suc, ◌+◌, ◌<◌, Bool, true, ◌&&◌, nat_eq, get_or, refl, Option, Some, None, inl, inr, arith}
 use Rattle.mdb_msgs.specs.declared.command.Device.TheVariants.{Changer}
 use Rattle.mdb_msgs.specs.declared.first_needs.TheConstants.{FIRST}
 

@@ -1,5 +1,5 @@
 -- Lists of messages that are given: whether they are another list, and whether they fit a block.
-use Rattle.mdb_msgs.proofs.Words.{◌≡◌, length, take, flat_map, result_ok, length-flat_map-take, Reading, ReaderMsg, nat_tests, MsgFault, ◌<◌, ◌+◌, false, true, ℕ, List, Some, None, Result, Ok, Err, IfOk, IfErr, [], refl, sym, ap, ◌∙◌, arith, subst, get_or, JustReset, Config, Display, BeginSession, BeginSessionLong, CancelRequest, VendApproved, VendDenied, EndSession, Cancelled, PeripheralId, PeripheralIdWithOptions, Malfunction, OutOfSequence, OutOfSequenceIn, TimeAsked, ReaderMessages, reader_msg_bytes, reader_list_bytes, reading_of, AreReaderMsgs, IsReaderList, ReaderStopsAt}
+use Rattle.mdb_msgs.proofs.Words.{◌≡◌, length, take, flat_map, result_ok, length-flat_map-take, Reading, ReaderMsg, nat_tests, MsgFault, ◌<◌, ◌+◌, true, ℕ, List, Some, None, Result, Ok, Err, IfOk, IfErr, [], refl, sym, ap, ◌∙◌, arith, subst, get_or, JustReset, ReaderMessages, reader_msg_bytes, reader_list_bytes, reading_of, AreReaderMsgs, IsReaderList, ReaderStopsAt}
 use Rattle.mdb_msgs.specs.contracts.reply.reader.ReaderMsgPartialEq.TheImpl.{eq-value}
 use Rattle.mdb_msgs.proofs.OneReader.{one_reader_list, reader_no_stop}
 

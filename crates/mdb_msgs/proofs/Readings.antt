@@ -1,5 +1,5 @@
 -- The readings of a reader's messages.
-use Rattle.mdb_msgs.proofs.Words.{◌≡◌, length, take, cases_Bool, list_any, Ids, Reading, ReaderMsg, Stand, own_ids, allows, takes_options, ℕ, ◌+◌, ◌/◌, ◌<◌, ◌==◌, inl, inr, if◌then◌else◌, Bool, true, false, ◌||◌, List, [], ◌∷◌, ◌++◌, refl, ap, ◌∙◌, get_or, take_more, JustReset, PeripheralId, PeripheralIdWithOptions, BeginSession, BeginSessionLong, OutOfSequence, OutOfSequenceIn, TimeAsked, ReaderMessages, has_long, ids_of, reader_msg_bytes, reading_of, session_bytes, wider, AreReaderMsgs, IsReaderMsg, IsTextOf, arith}
+use Rattle.mdb_msgs.proofs.Words.{◌≡◌, length, take, cases_Bool, list_any, Ids, Reading, ReaderMsg, Stand, own_ids, allows, takes_options, ℕ, ◌+◌, ◌/◌, ◌<◌, ◌==◌, inl, inr, if◌then◌else◌, Bool, true, false, ◌||◌, List, [], ◌∷◌, ◌++◌, refl, ap, ◌∙◌, get_or, take_more, JustReset, PeripheralId, PeripheralIdWithOptions, BeginSession, OutOfSequence, TimeAsked, ReaderMessages, has_long, ids_of, reader_msg_bytes, reading_of, session_bytes, wider, AreReaderMsgs, IsReaderMsg, IsTextOf, arith}
 use Rattle.mdb_msgs.specs.declared.reading.Ids.TheVariants.{Bare, ByNext, Full}
 
 pub or_parts : (a b : Bool) → (a || b) ≡ false → (a ≡ false) × (b ≡ false)

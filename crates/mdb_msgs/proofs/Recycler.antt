@@ -1,5 +1,5 @@
 -- The validator's messages of any profile are those of the extended profile.
-use Rattle.mdb_msgs.proofs.Words.{Bool, true, List, [], ◌∷◌, refl, AllByRecursion, BillMsg, IsBillMsg}
+use Rattle.mdb_msgs.proofs.Words.{Bool, true, List, [], ◌∷◌, AllByRecursion, BillMsg, IsBillMsg}
 
 one_extended : (r : Bool) (m : BillMsg) → IsBillMsg r m → IsBillMsg true m
 one_extended r BillMsg.Reset is = is

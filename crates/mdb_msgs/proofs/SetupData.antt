@@ -1,5 +1,5 @@
 -- Setup data, as they are read.
-use Rattle.mdb_msgs.proofs.Words.{◌≡◌, Command, Device, ReaderUnit, MsgFault, Length, Answer, Reply, ReaderMsg, base, early, early_long, SpellsReply, ap, refl, subst, sym, true, false, inl, inr, ◌∙◌, ℕ, Bool, List, [], ◌∷◌, ◌++◌, Option, Some, None, option_map, option_or, IsIn, IsReadFault, reply_bytes, last_level, level_in, IsSetup, IsSetupOf, config_in, known_with, last_config, leveled, or_else, IsToldAs, ReaderCommand}
+use Rattle.mdb_msgs.proofs.Words.{◌≡◌, Command, Device, ReaderUnit, MsgFault, Length, Answer, Reply, base, early, early_long, SpellsReply, ap, refl, subst, sym, true, false, inl, inr, ◌∙◌, ℕ, Bool, List, Option, Some, None, option_map, option_or, IsIn, IsReadFault, reply_bytes, IsSetup, IsSetupOf, known_with, leveled, IsToldAs, ReaderCommand}
 use Rattle.std.proofs.lemmas.Option.{same_Some}
 use Rattle.mdb_msgs.specs.declared.command.Device.TheVariants.{Changer, Bill, Reader}
 use Rattle.mdb_msgs.specs.declared.setups.Setups.{Setups}
@@ -118,30 +118,12 @@ module _ (extended : Bool) (device : Device) (bytes : List ℕ) (before : Setups
       → IsSetupOf extended device bytes before after → false ≡ true
   learns_none found after is = absurd (cc (found, reads after is))
 
--- one message more: the last that says something is it, or the last before it
-module _ {X : Type 0} (says : ReaderMsg → Option X) (last : List ReaderMsg → Option X)
-    (none : last [] ≡ None)
-    (more : (m : ReaderMsg) (ms : List ReaderMsg) → last (m ∷ ms) ≡ option_or (last ms) (says m))
-  where
-    or_none : (a : Option X) → option_or a None ≡ a
-    or_none None = refl
-    or_none (Some x) = refl
+-- of three the first goes before the second, and this before the third
+pub or_assoc : {X : Type 0} (a b c : Option X)
+    → option_or (option_or a b) c ≡ option_or a (option_or b c)
+or_assoc None b c = refl
+or_assoc (Some x) b c = refl
 
-    both : (a b c : Option X) → option_or a (option_or b c) ≡ option_or (option_or a b) c
-    both None b c = refl
-    both (Some x) b c = refl
-
-    one_more : (before : List ReaderMsg) (message : ReaderMsg)
-        → last (before ++ message ∷ []) ≡ option_or (says message) (last before)
-    one_more [] message = rw (more message [], none, or_none (says message)) refl
-    one_more (first ∷ before) message =
-        rw (more first (before ++ message ∷ []), more first before, one_more before message)
-        (sym (both (says message) (last before) (says first)))
-
-pub last_more : (before : List ReaderMsg) (message : ReaderMsg)
-    → last_config (before ++ message ∷ []) ≡ or_else (config_in message) (last_config before)
-last_more = one_more config_in last_config refl (λ m ms. refl)
-
-pub last_level_more : (before : List ReaderMsg) (message : ReaderMsg)
-    → last_level (before ++ message ∷ []) ≡ option_or (level_in message) (last_level before)
-last_level_more = one_more level_in last_level refl (λ m ms. refl)
+pub or_none : {X : Type 0} (a : Option X) → option_or a None ≡ a
+or_none None = refl
+or_none (Some x) = refl

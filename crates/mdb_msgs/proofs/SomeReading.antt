@@ -77,15 +77,15 @@ module _ {M : Type 0} (f : M → List ℕ) (Is : M → Type 0) where
         ]
 
     -- a message of these bytes stands in front
-    found : (message : M) (head rest : List ℕ) → 0 < length head → Is message → head ≡ f message
-        → Found (head ++ rest)
-    found message head rest some right is =
+    found : (message : M) (byte : ℕ) (more rest : List ℕ) → Is message × (byte ∷ more ≡ f message)
+        → Found (byte ∷ more ++ rest)
+    found message byte more rest is =
         inl (record {
           message = message;
           rest = rest;
-          right = right;
-          spelled = ap (λ l. l ++ rest) is;
-          shorter = omega (arith, length-append head rest);
+          right = is.0;
+          spelled = ap (λ l. l ++ rest) is.1;
+          shorter = omega (arith, length-append more rest);
         })
 
 -- whether something holds, as whether a number is within limits
@@ -121,22 +121,21 @@ changer_step : (first : ℕ) (further : List ℕ) → All IsByte (first ∷ furt
 changer_step first further low = by further (cases_lt first 64) (within first 27 32)
     (within first 96 112)
   where
-    put : (head rest : List ℕ) (m : ChangerMsg) → 0 < length head
-        → IsChangerMsg m × (head ≡ changer_msg_bytes m)
-        → Found changer_msg_bytes IsChangerMsg NoChangerMsg (head ++ rest)
-    put head rest m some is =
-        found changer_msg_bytes IsChangerMsg NoChangerMsg m head rest some is.0 is.1
+    put : (m : ChangerMsg) (more rest : List ℕ)
+        → IsChangerMsg m × (first ∷ more ≡ changer_msg_bytes m)
+        → Found changer_msg_bytes IsChangerMsg NoChangerMsg (first ∷ more ++ rest)
+    put m more rest = found changer_msg_bytes IsChangerMsg NoChangerMsg m first more rest
 
     by : (further : List ℕ) → (first < 64) ⊎ (64 ≤ first)
         → OrNot (Within first 27 32) → OrNot (Within first 96 112)
         → Found changer_msg_bytes IsChangerMsg NoChangerMsg (first ∷ further)
     by further (inl one) (inl file) other = inr (inr file)
     by further (inl one) (inr is) other =
-        put (first ∷ []) further (changer_front first 0) (omega arith) (changer_one first one is)
+        put (changer_front first 0) [] further (changer_one first one is)
     by [] (inr two) file other = inr (inl (inr (two, refl)))
     by (second ∷ rest) (inr two) file (inl none) = inr (inl (inl none))
     by (second ∷ rest) (inr two) file (inr is) =
-        put (first ∷ second ∷ []) rest (changer_front first second) (omega arith)
+        put (changer_front first second) (second ∷ []) rest
         (changer_two first second (low 0 0 (omega arith)) two is)
 
 -- the validator's
@@ -154,9 +153,8 @@ bill_step r first further low = by (within first 27 32) (within first 96 128) (c
     put : (IsOfRecycler first → r ≡ true) → (Within first 27 32 → ⊥) → (Within first 96 128 → ⊥)
         → Found bill_msg_bytes (IsBillMsg r) (NoBillMsg r) (first ∷ further)
     put recycled status other =
-        let is = bill_one r first status other recycled in
-        found bill_msg_bytes (IsBillMsg r) (NoBillMsg r) (bill_find (first ∷ [])) (first ∷ [])
-        further (omega arith) is.0 is.1
+        found bill_msg_bytes (IsBillMsg r) (NoBillMsg r) (bill_find (first ∷ [])) first [] further
+        (bill_one r first status other recycled)
 
     by : OrNot (Within first 27 32) → OrNot (Within first 96 128) → (r ≡ true) ⊎ (r ≡ false)
         → OrNot (Within first 176 192) → (first < 208) ⊎ (208 ≤ first)

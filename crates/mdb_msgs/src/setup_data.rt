@@ -163,6 +163,7 @@ fn add_config(setups: &mut Setups, unit: ReaderUnit, config: ReaderConfig)
 }
 
 /// What the last config message of a reader's answer says.
+#[tactic(auto, using(crate::proofs::SetupData::or_assoc, crate::proofs::SetupData::or_none))]
 fn config_of(list: &ReaderList) -> Option<ReaderConfig>
     ensures { result ≡ spec.last_config list.now.messages }
 {
@@ -175,6 +176,7 @@ fn config_of(list: &ReaderList) -> Option<ReaderConfig>
 
 /// The feature level of the last config message of a reader's answer (Z2; MDB/ICP 4.3, cashless
 /// device).
+#[tactic(auto, using(crate::proofs::SetupData::or_assoc, crate::proofs::SetupData::or_none))]
 pub fn last_level(list: &ReaderList) -> Option<u8>
     ensures { result ≡ last_level list.now.messages }
 {
