@@ -261,11 +261,10 @@ Goes start rows it earlier running place =
 module _ (start : StretchStart) (device : Device) (profile : Profile)
     (Came : List Event → List Ended → Type 0)
     (here : (rows : List Event) (it : Ended) (earlier : List Ended) (running : List Event)
-    (place : StretchStart) (goes : Goes start rows it earlier running place)
-    → has (left_out_by_profile profile (told_after goes.from.scope.begins goes.from.told
-    (acts_of goes.ends.pieces)) goes.ends.offence goes.ends.asked goes.from.scope.without) device
-    ≡ true
-    → (has goes.from.scope.without device ≡ true) ⊎ Came rows (it ∷ earlier))
+    (place : StretchStart) (goes : Goes start rows it earlier running place) (unit : ReaderUnit)
+    → device ≡ Reader unit
+    → Why profile goes.ends.offence.rule goes.ends.offence.blame goes.ends.asked unit
+    → Came rows (it ∷ earlier))
     (later : (rows : List Event) (it : Ended) (earlier : List Ended) (running : List Event)
     (place : StretchStart) (goes : Goes start rows it earlier running place)
     → Came goes.front earlier → Came rows (it ∷ earlier))
@@ -277,14 +276,14 @@ module _ (start : StretchStart) (device : Device) (profile : Profile)
   why rows (it ∷ earlier) running place goes out =
       let told = told_after goes.from.scope.begins goes.from.told (acts_of goes.ends.pieces) in
       let same = lead_profile start goes.front earlier goes.before goes.from goes.lead ∙ is in
-      elim (here rows it earlier running place goes (subst (λ p. has (left_out_by_profile p told
-      goes.ends.offence goes.ends.asked goes.from.scope.without) device ≡ true) same
-      (rw goes.ends.on at out))) [
+      elim (came_so told goes.ends.asked goes.from.scope.without device profile goes.ends.offence
+      (subst (λ p. has (left_out_by_profile p told goes.ends.offence goes.ends.asked
+      goes.from.scope.without) device ≡ true) same (rw goes.ends.on at out))) [
         | inl before ↦ elim (why goes.front earlier goes.before goes.from goes.lead before) [
           | inl first ↦ inl first
           | inr came ↦ inr (later rows it earlier running place goes came)
         ]
-        | inr came ↦ inr came
+        | inr (unit, its, reason) ↦ inr (here rows it earlier running place goes unit its reason)
       ]
 
 pub last_why : (scope : Scope) (rows : List Event) (ended : List Ended) (last : Stretch)
@@ -292,16 +291,11 @@ pub last_why : (scope : Scope) (rows : List Event) (ended : List Ended) (last : 
     → IsLeftOut last.scope device → IsLeftOut scope device ⊎ IsReaderBeyond ended device
 last_why scope rows ended last device base survey out =
     why (first_place scope) device Base (λ rows ended. IsReaderBeyond ended device)
-    (λ rows it earlier running place goes out. elim (came_so (told_after goes.from.scope.begins
-    goes.from.told (acts_of goes.ends.pieces)) goes.ends.asked goes.from.scope.without device Base
-    goes.ends.offence out) [
-      | inl before ↦ inl before
-      | inr (unit, is, why) ↦ inr (record {
-        unit = unit;
-        is = is;
-        fault = any_first _ _ _ (rw goes.ends.row_is why.0, rw (goes.ends.row_is, is) why.1);
-      })
-    ])
+    (λ rows it earlier running place goes unit is why. record {
+      unit = unit;
+      is = is;
+      fault = any_first _ _ _ (rw goes.ends.row_is why.0, rw (goes.ends.row_is, is) why.1);
+    })
     (λ rows it earlier running place goes beyond. record {
       unit = beyond.unit;
       is = beyond.is;
@@ -353,12 +347,7 @@ pub last_asked : (scope : Scope) (rows : List Event) (ended : List Ended) (last 
     → IsLeftOut last.scope device → IsLeftOut scope device ⊎ IsReaderAsked rows ended device
 last_asked scope rows ended last device extended survey out =
     why (first_place scope) device Extended (λ rows ended. IsReaderAsked rows ended device)
-    (λ rows it earlier running place goes out. elim (came_so (told_after goes.from.scope.begins
-    goes.from.told (acts_of goes.ends.pieces)) goes.ends.asked goes.from.scope.without device
-    Extended goes.ends.offence out) [
-      | inl before ↦ inl before
-      | inr (unit, is, asked) ↦ inr (asked_here (first_place scope) device refl goes unit is asked)
-    ])
+    (λ rows it earlier running place goes. asked_here (first_place scope) device refl goes)
     (λ rows it earlier running place goes by. record {
       unit = by.unit;
       is = by.is;
