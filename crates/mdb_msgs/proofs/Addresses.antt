@@ -15,11 +15,8 @@ address_of Changer = 0x08
 address_of Bill = 0x30
 address_of (Reader unit) = reader_address unit
 
-abbrev HasAddress : ℕ → Device → Type 0
-HasAddress first device = first ≡ address_of device + first % 8
-
 at_address : (first : ℕ) (device : Device) → device_at first ≡ Some device
-    → HasAddress first device
+    → first ≡ address_of device + first % 8
 at_address first (Reader First) at = grind (arith, nat_tests)
 at_address first device at = grind (arith, nat_tests)
 

@@ -72,9 +72,6 @@ found_reply command block content (Ok found) e is spelled =
     record { answers = is; bytes = e ∙ ap block_of spelled }
 found_reply command block content (Err a) e is spelled = spelled
 
-some_inj : {A : Type 0} {a b : A} → Some a ≡ Some b → a ≡ b
-some_inj e = cc
-
 module _ (r : Reading) where
   -- of one form, two replies with the same bytes are one
   same_reply : (a b : Reply) → form_of_reply a ≡ form_of_reply b → HasFields a → HasFields b
@@ -130,19 +127,19 @@ module _ (r : Reading) where
     pub one_answer : (a b : Reply) → IsReplyTo command a → IsReplyTo command b → HasMessages r a
         → HasMessages r b → reply_bytes a ≡ reply_bytes b → a ≡ b
     one_answer a b ha hb ia ib e =
-        same_reply a b (some_inj (sym ha.form ∙ hb.form)) ha.fields hb.fields ia ib e
+        same_reply a b (cc (ha.form, hb.form)) ha.fields hb.fields ia ib e
 
     answer_is_one : (a : Reply) (fault : MsgFault) → IsReplyTo command a → HasMessages r a
         → IsNoReplyTo r command (reply_bytes a) fault → ⊥
     answer_is_one a fault h is none =
-        let same : none.0 ≡ form_of_reply a = some_inj (sym none.1 ∙ h.form) in
+        let same : none.0 ≡ form_of_reply a = cc (none.1, h.form) in
         reply_is_one a fault h.fields is (rw same at none.3)
 
     -- what may answer a command can be read
     pub reply_has_no_fault : (a : Reply) (fault : MsgFault) → IsReplyTo command a
         → IsIn r command a → IsReadFault r command (reply_bytes a) fault → ⊥
     reply_has_no_fault a MsgFault.Length h is none =
-        let same : none.0 ≡ form_of_reply a = some_inj (sym none.1 ∙ h.form) in
+        let same : none.0 ≡ form_of_reply a = cc (none.1, h.form) in
         none.2 (rw same h.count)
     reply_has_no_fault a MsgFault.Answer h is (inl none) = let form = h.form in cc (none, form)
     reply_has_no_fault a MsgFault.Answer h is (inr kept) =
@@ -155,20 +152,20 @@ module _ (r : Reading) where
       one_no_reply : (a b : MsgFault) → IsNoReplyTo r command bytes a
           → IsNoReplyTo r command bytes b → a ≡ b
       one_no_reply a b h k =
-          let same : h.0 ≡ k.0 = some_inj (sym h.1 ∙ k.1) in
+          let same : h.0 ≡ k.0 = cc (h.1, k.1) in
           one_form_fault k.0 bytes a b (subst (λ f. NoReply r f bytes a) same h.3) k.3
 
       -- a wrong length is the one fault
       length_alone : (fault : MsgFault) → IsReadFault r command bytes MsgFault.Length
           → IsNoReplyTo r command bytes fault → ⊥
       length_alone fault h k =
-          let same : h.0 ≡ k.0 = some_inj (sym h.1 ∙ k.1) in h.2 (rw same k.2)
+          let same : h.0 ≡ k.0 = cc (h.1, k.1) in h.2 (rw same k.2)
 
       length_or_answer : IsReadFault r command bytes MsgFault.Length
           → IsReadFault r command bytes MsgFault.Answer → ⊥
       length_or_answer h (inl none) = let form = h.1 in cc (none, form)
       length_or_answer h (inr kept) =
-          let same : h.0 ≡ form_of_reply kept.0 = some_inj (sym h.1 ∙ kept.1.form) in
+          let same : h.0 ≡ form_of_reply kept.0 = cc (h.1, kept.1.form) in
           h.2 (rw (same, kept.3) kept.1.count)
 
       message_or_answer : (fault : MsgFault) → IsNoReplyTo r command bytes fault
