@@ -80,7 +80,7 @@ const REPLAY_HELP: &[u8] =
 < EXPLANATION; all: mdbcheck manual replay\n";
 
 /// What is told of one that asks for the version.
-const VERSION: &[u8] = b"mdbcheck 0.13.0\n";
+const VERSION: &[u8] = b"mdbcheck 0.13.1\n";
 
 /// A recording whose row isn't followed, its report, and what is told of it.
 const REVALUE: &[u8] = b"1000,M,115\n";

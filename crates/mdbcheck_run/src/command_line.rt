@@ -13,7 +13,7 @@ use mdb_text::Form;
 use std::alloc::Global;
 
 /// The program's version.
-const VERSION: &str = "0.13.0";
+const VERSION: &str = "0.13.1";
 
 /// The option that says that the recording begins in mid-session.
 const JOINED: &str = "joined";

@@ -4,7 +4,7 @@ use super::manual;
 use command_words::{CommandRow, Program};
 
 /// The program's version.
-pub(crate) const VERSION: &str = "0.13.0";
+pub(crate) const VERSION: &str = "0.13.1";
 
 /// The option that tells the unit of the times.
 pub(crate) const UNIT: &str = "unit";
