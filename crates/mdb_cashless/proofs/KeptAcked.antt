@@ -1,6 +1,6 @@
 -- What is held after an ACK, by whether a message of the reply is kept.
 use Rattle.mdb_cashless.proofs.Words.{common_steps, arith, ◌≡◌, ◌⊎◌, ◌&&◌, not, Bool, true, false, List, [], ◌∷◌, refl, map, ReaderMsg, Choice, Plain, Lost, Restart, Again, holds_acked, kept_of, part_of, keeps_some}
-use Rattle.mdb_msgs.specs.declared.reply.reader.ReaderMsg.TheVariants.{BeginSession, BeginSessionLong, VendApproved, VendDenied, EndSession}
+use Rattle.mdb_msgs.specs.declared.reply.reader.ReaderMsg.TheVariants.{VendDenied}
 
 -- what the reader holds, by that
 abbrev pub held_on : Choice → Bool → Bool → Bool
