@@ -1,6 +1,6 @@
 -- A break comes everywhere, and nothing else comes inside a block. So what is no break stands on
 -- pieces that are closed.
-use Rattle.std.proofs.Common.{◌≡◌, ◌×◌, List, [], ◌∷◌, length, refl, ap, inl, inr, Option, Some, None}
+use Rattle.std.proofs.Common.{◌≡◌, List, [], ◌∷◌, length, refl, ap, inl, inr, Option, Some, None}
 use Rattle.mdb_bus.proofs.Words
 use Words.{Event, Act, Scope, Profile, IsTail, act_in}
 use Rattle.mdb_bus.specs.ActLists.{Piece, Whole, AskTail, Position, InAsk, InReply, InRepeat, BlockMayCome, IsSaid, MayCome, MayStand, left_by, piece_events}
