@@ -1,5 +1,5 @@
 -- The first broken rule by its place is the first by the order.
-use Rattle.mdb_bus.proofs.Words.{[], All-from_recursion, AllByRecursion, arith, drop, Event, IsFirstBroken, IsFirstByPlace, List, order, place_of, refl, RowBreaks, Rule, Situation, suc, take, zero, ℕ, ◌++◌, ◌+◌, ◌-◌, ◌<◌, ◌∷◌, ◌≡◌, ◌≤◌}
+use Rattle.mdb_bus.proofs.Words.{[], All-from_recursion, AllByRecursion, arith, drop, Event, IsFirstBroken, IsFirstByPlace, List, order, place_of, refl, RowBreaks, Rule, Situation, suc, take, zero, ℕ, ◌++◌, ◌+◌, ◌-◌, ◌∷◌, ◌≡◌, ◌≤◌}
 use Rattle.mdb_bus.specs.declared.fault.Rule.TheVariants as rule
 
 -- rules that stand one after the other from a place on

@@ -1,5 +1,5 @@
 -- The bus after a row: what it stands for, and why a row is refused.
-use Rattle.mdb_bus.proofs.Words.{[], Act, act_after, act_in, ap, Asked, asked_after, Base, Bool, Break, Command, Controller, device_of, EachStep, ended_act, Err, Event, Extended, false, fault_at, fault_of, GoesOn, HasAdvanced, haste_after, haste_by, IfErr, IfOk, if◌then◌else◌, InAsk, is_untimely, IsAt, IsEnded, IsFirstBroken, IsFirstByPlace, IsJudged, IsLinkFault, IsReadAt, IsSound, Judged, known_by, known_if, known_of, KnownOptions, Leads, Levels, levels_after, levels_by, levels_if, LinkFault, List, None, Ok, OnOk, Option, Piece, pieces_after, Place, Position, position_at, position_of, Profile, profile_of, refl, Reply, Result, Rule, situation_of, Some, StandsFor, Step, subst, sym, true, untimely_sender, wide_at, with_act, Word, ◌∙◌, ◌≡◌}
+use Rattle.mdb_bus.proofs.Words.{[], Act, act_after, act_in, ap, Asked, asked_after, Base, Bool, Command, Controller, device_of, EachStep, ended_act, Err, Event, Extended, false, fault_at, fault_of, GoesOn, HasAdvanced, haste_after, haste_by, IfErr, IfOk, if◌then◌else◌, InAsk, is_untimely, IsAt, IsEnded, IsFirstBroken, IsFirstByPlace, IsJudged, IsLinkFault, IsReadAt, IsSound, Judged, known_by, known_if, known_of, KnownOptions, Leads, Levels, levels_after, levels_by, levels_if, LinkFault, List, None, Ok, OnOk, Option, Piece, pieces_after, Place, Position, position_at, position_of, Profile, profile_of, refl, Reply, Result, Rule, situation_of, Some, StandsFor, Step, subst, sym, true, untimely_sender, wide_at, with_act, Word, ◌∙◌, ◌≡◌}
 use Rattle.mdb_bus.specs.declared.bus.Bus.{Bus}
 use Rattle.mdb_bus.specs.inner.Gone.{HasGone, situation_at}
 use Rattle.mdb_bus.specs.declared.act.Act.TheVariants as acts

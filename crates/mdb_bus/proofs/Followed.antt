@@ -1,5 +1,5 @@
 -- What is said to a device that is followed: bytes need what they need of anybody.
-use Rattle.mdb_bus.proofs.Words.{[], ap, Asks, Command, device_of, DeviceSet, false, Foreign, has, HasCommand, if◌then◌else◌, is_to_one_of, IsAskFront, IsCommandFront, IsForeignOpening, IsUnknownExpansion, List, Need, needed_by, needed_in, profile_of, refl, Scope, slice_index, Spells, sym, ℕ, ◌++◌, ◌∙◌, ◌∷◌, ◌≡◌, ◌≢◌}
+use Rattle.mdb_bus.proofs.Words.{[], ap, Asks, Command, device_of, DeviceSet, false, Foreign, has, HasCommand, is_to_one_of, IsAskFront, IsCommandFront, IsForeignOpening, IsUnknownExpansion, List, Need, needed_by, needed_in, profile_of, refl, Scope, slice_index, Spells, sym, ℕ, ◌++◌, ◌∙◌, ◌∷◌, ◌≡◌, ◌≢◌}
 use Rattle.mdb_bus.proofs.Masked.{otherwise, one_need}
 
 -- a law of mdb_msgs: the first byte of a command's block is to its device

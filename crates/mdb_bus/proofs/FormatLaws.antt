@@ -1,5 +1,5 @@
 -- The laws of formats, by those of readings.
-use Rattle.mdb_bus.proofs.Words.{[], AllByRecursion, ap, AreAlike, AreReply, AreSome, arith, As, Bool, BytesHaveOneFault, Command, Err, false, Format, HasFault, HasMessages, HasOpenFault, HaveFaults, IfErr, IfOk, IfSome, inl, inr, is_extended, IsFirst, IsIn, IsInSome, IsOpenOr, IsPlainList, IsReadAs, IsReadFault, IsReadingIn, IsReadOpen, IsReplyTo, joint_fault, List, list_any, long, may_have_options, MsgFault, Ok, Option, Or, or_parts, Reading, readings, refl, Reply, reply_bytes, ReplyHasNoFault, Result, short, Some, subst, sym, true, varies, what_counts, ℕ, ◌||◌, ◌∙◌, ◌∷◌, ◌≡◌, ◌≢◌, ◌⊎◌}
+use Rattle.mdb_bus.proofs.Words.{[], AllByRecursion, ap, AreAlike, AreReply, AreSome, arith, As, Bool, BytesHaveOneFault, Command, Err, false, Format, HasFault, HasMessages, HasOpenFault, HaveFaults, IfErr, IfOk, IfSome, inl, inr, is_extended, IsFirst, IsIn, IsInSome, IsOpenOr, IsPlainList, IsReadAs, IsReadFault, IsReadingIn, IsReadOpen, IsReplyTo, joint_fault, List, list_any, long, may_have_options, MsgFault, Ok, Option, Or, or_parts, Reading, readings, refl, Reply, reply_bytes, ReplyHasNoFault, Result, short, Some, subst, sym, true, varies, what_counts, ℕ, ◌∙◌, ◌∷◌, ◌≡◌, ◌≢◌}
 use Rattle.mdb_msgs.specs.declared.fault.MsgFault.TheVariants.{Length, Message, Profile as Left, Answer}
 use Rattle.mdb_msgs.specs.declared.reading.Ids.{Ids}
 use Rattle.mdb_msgs.specs.declared.reading.Ids.TheVariants.{Bare, ByNext, Full}
@@ -238,11 +238,9 @@ pub same_plain : OneReply → (command : Command) (bytes : List ℕ) (reading : 
     → AreSome command bytes reply → AreReply reading command bytes other → other ≡ reply
 same_plain law command bytes reading reply other extended plain some is =
     let same : is_extended some.0.0 ≡ is_extended reading = some.0.1 ∙ sym extended in
-    let here : IsIn reading command reply = (
-      plain_too some.0.0 reading same reply plain some.0.2.0,
-      λ e. some.0.2.1 (same ∙ e),
-    ) in
-    law reading command other reply is.0 here is.1 some.1 (sym is.2 ∙ some.2)
+    let here = plain_too some.0.0 reading same reply plain some.0.2.0 in
+    law reading command other reply is.0 (here, λ e. some.0.2.1 (same ∙ e)) is.1 some.1
+    (sym is.2 ∙ some.2)
 
 -- ---- a list in which readings differ in no message
 module _ (one other : Reading) where
@@ -274,10 +272,9 @@ pub plain_open : OneReply → (reading : Reading) (command : Command) (bytes : L
 plain_open law reading command bytes reply plain is =
     let only : (other : Reply) → AreSome command (reply_bytes reply) other → other ≡ reply =
     λ other also. law also.0.0 command other reply also.0.2
-    (plain_in reading also.0.0 also.0.1 command reply plain is.0) also.1 is.1 (sym also.2) in (
-      inl (plain_in reading (long Full) refl command reply plain is.0),
-      λ one other first second. ap what_counts (only one first ∙ sym (only other second)),
-    )
+    (plain_in reading also.0.0 also.0.1 command reply plain is.0) also.1 is.1 (sym also.2) in
+    let first = plain_in reading (long Full) refl command reply plain is.0 in
+    (inl first, λ one other a b. ap what_counts (only one a ∙ sym (only other b)))
 
 -- ---- the replies that open bytes are
 module _ (command : Command) (bytes : List ℕ) where

@@ -1,6 +1,6 @@
 -- Haste, and the rows out of their time, after one row more.
 use Rattle.std.proofs.Math.Nat.{add-zero, add_assoc}
-use Rattle.mdb_bus.proofs.Words.{[], Act, ap, ArePieces, arith, asked_device, AskTail, Base, Blame, block_most, Bool, Break, came_early, Controller, controller_words, Device, Event, events_of, false, far_apart, Grown, haste_after, haste_with, if◌then◌else◌, InAsk, inl, inr, is_in_haste, is_past, is_untimely, IsSaid, IsTail, last_of, Leads, left_by, Line, List, lt-ltb, None, Option, Peripheral, Piece, piece_events, pieces_after, Position, position_of, refl, RepeatTail, ReplyTail, Say, Scope, sender_by, situation_of, Some, Step, subst, sym, true, untimely_of, untimely_sender, Whole, with_rows, with_sender, with_untimely, Word, ℕ, ◌++◌, ◌+◌, ◌<◌, ◌∙◌, ◌∷◌, ◌≡◌, ◌≢◌, ◌⊎◌}
+use Rattle.mdb_bus.proofs.Words.{[], Act, ap, ArePieces, arith, asked_device, AskTail, Base, Blame, block_most, Bool, Break, came_early, Controller, controller_words, Device, Event, events_of, false, far_apart, Grown, haste_after, haste_with, if◌then◌else◌, InAsk, inl, inr, is_in_haste, is_past, is_untimely, IsSaid, IsTail, last_of, Leads, left_by, Line, List, lt-ltb, None, Option, Peripheral, Piece, piece_events, pieces_after, Position, position_of, refl, RepeatTail, ReplyTail, Say, Scope, sender_by, situation_of, Some, Step, subst, sym, true, untimely_of, untimely_sender, Whole, with_rows, with_sender, with_untimely, Word, ℕ, ◌++◌, ◌+◌, ◌<◌, ◌∙◌, ◌∷◌, ◌≡◌, ◌≢◌}
 use Rattle.mdb_bus.specs.declared.untimely.Untimely.{Untimely}
 use Rattle.mdb_bus.specs.declared.act.Act.TheVariants as acts
 use Rattle.mdb_bus.specs.declared.fault.Blame.TheVariants as blame

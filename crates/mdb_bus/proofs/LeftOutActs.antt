@@ -1,6 +1,6 @@
 -- The acts in which a device has a part, where further devices are left out: those of a device that
 -- stays followed stay, and a device that is left out has a part in breaks alone.
-use Rattle.mdb_bus.proofs.Words.{[], Act, acts_of, acts_with, ArePieces, Bool, breaks_among, Device, device_in, DeviceSet, Event, false, filter, First, has, has_part, if◌then◌else◌, is_break, is_left_out, is_one_left_out, is_this, IsFollowed, IsLeftOut, List, None, Option, Piece, piece_events, refl, Scope, Second, Some, sym, true, Whole, with_foreign, ◌∙◌, ◌∷◌, ◌≡◌}
+use Rattle.mdb_bus.proofs.Words.{[], Act, acts_of, acts_with, ArePieces, Bool, breaks_among, Device, device_in, DeviceSet, Event, false, filter, First, has, has_part, is_break, is_left_out, is_one_left_out, is_this, IsFollowed, IsLeftOut, List, None, Option, Piece, piece_events, refl, Scope, Second, Some, sym, true, Whole, with_foreign, ◌∙◌, ◌∷◌, ◌≡◌}
 use Rattle.mdb_msgs.specs.Devices.{same_device}
 use Rattle.mdb_bus.specs.LeavingOut.{leave_out}
 use Rattle.mdb_msgs.specs.declared.command.Device.TheVariants as devices

@@ -1,6 +1,6 @@
 -- What is said where further devices are left out: the words of a piece that stays, and those of
 -- one that becomes foreign acts.
-use Rattle.mdb_bus.proofs.Words.{[], All, AllByRecursion, ap, arith, begin_left_out, BlockMayCome, Break, Controller, controller_words, Device, Event, false, false_from_ne_true, ForeignMayCome, has, if◌then◌else◌, InForeign, inl, inr, is_to_one_of, IsByte, IsForeign, IsForeignOpening, IsForeignWord, le-leb, LeavesOutMore, List, nat_le, needed_by, needed_in, None, NotBefore, Option, Peripheral, Position, profile_of, recursion_from_All, refl, rest_after, said_by, Say, Scope, slice_index, Some, subst, sym, true, Word, WORD_GAP_MIN, ℕ, ◌+◌, ◌-◌, ◌<◌, ◌∙◌, ◌∷◌, ◌≡◌}
+use Rattle.mdb_bus.proofs.Words.{[], All, AllByRecursion, ap, arith, begin_left_out, BlockMayCome, Break, Controller, controller_words, Device, Event, false, false_from_ne_true, ForeignMayCome, has, InForeign, inl, inr, is_to_one_of, IsByte, IsForeign, IsForeignOpening, IsForeignWord, le-leb, LeavesOutMore, List, nat_le, needed_by, needed_in, None, NotBefore, Option, Peripheral, Position, profile_of, recursion_from_All, refl, rest_after, said_by, Say, Scope, slice_index, Some, subst, sym, true, Word, WORD_GAP_MIN, ℕ, ◌+◌, ◌-◌, ◌<◌, ◌∙◌, ◌∷◌, ◌≡◌}
 use Rattle.mdb_msgs.specs.Needs.{device_at}
 use Rattle.mdb_bus.proofs.Followed.{AreFollowed, needed_followed}
 use Rattle.mdb_bus.proofs.Lists.{heard, begins_block}

@@ -1,6 +1,6 @@
 -- What the needs of one byte, of two and of more bytes have to do with each other.
 use Rattle.std.proofs.lemmas.Grind.{common_steps}
-use Rattle.mdb_bus.proofs.Words.{[], arith, Device, Exactly, length, List, More, Need, need, need_for, needed, None, Option, refl, Some, ℕ, ◌%◌, ◌++◌, ◌<◌, ◌∷◌, ◌≡◌, ◌≤◌}
+use Rattle.mdb_bus.proofs.Words.{[], arith, Device, Exactly, length, List, More, Need, need, need_for, needed, None, Option, refl, Some, ℕ, ◌++◌, ◌<◌, ◌∷◌, ◌≡◌, ◌≤◌}
 use Rattle.mdb_msgs.specs.Needs.{device_at}
 use Rattle.mdb_msgs.specs.declared.command.Device.TheVariants.{Changer}
 

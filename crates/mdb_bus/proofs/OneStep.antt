@@ -1,5 +1,5 @@
 -- A row leads to one step at most.
-use Rattle.mdb_bus.proofs.Words.{[], ap, arith, Asked, Asks, Break, Command, Controller, Event, Exactly, Foreign, GoesOnAsking, GoesOnForeign, Grammar, InAsk, InForeign, inl, inr, InRepeat, InReply, IsAskFront, IsForeignOpening, IsRepeatFront, Leads, length, Levels, Line, List, needed_in, Opens, Option, Peripheral, Position, Quiet, refl, Replied, Reply, reply_words, Returned, Scope, Situation, Step, sym, Word, WordLeads, ℕ, ◌++◌, ◌<◌, ◌∙◌, ◌∷◌, ◌≡◌, ◌≤◌, ◌⊎◌}
+use Rattle.mdb_bus.proofs.Words.{[], ap, arith, Asked, Asks, Break, Command, Controller, Event, Foreign, GoesOnAsking, GoesOnForeign, Grammar, InAsk, InForeign, inl, inr, InRepeat, InReply, IsAskFront, IsForeignOpening, IsRepeatFront, Leads, length, Levels, Line, List, needed_in, Opens, Option, Peripheral, Position, Quiet, refl, Replied, Reply, reply_words, Returned, Scope, Situation, Step, sym, Word, WordLeads, ℕ, ◌++◌, ◌∙◌, ◌∷◌, ◌≡◌, ◌≤◌}
 use Rattle.mdb_bus.specs.shared.Step as step
 use Rattle.mdb_bus.proofs.Lists.{nothing_after, some_length}
 use Rattle.mdb_bus.proofs.Stops.{front_short}
@@ -89,6 +89,10 @@ module _ (scope : Scope) (grammar : Grammar scope) where
         absurd (command_not_foreign (bytes ++ word ∷ []) command q.1 p.1)
     one_asking bytes one other p q = search arith
 
+    -- a command is answered with one step
+    one_answer : (command : Command) → LeadsOnce (Asked command) Peripheral
+    one_answer command one other p q = search arith
+
     -- a reply goes on with one step
     one_replying : (command : Command) (bytes : List ℕ)
         → LeadsOnce (InReply command bytes) Peripheral
@@ -131,7 +135,7 @@ module _ (scope : Scope) (grammar : Grammar scope) where
     one_word Quiet Controller = one_opening Quiet
     one_word (InAsk bytes) Controller = one_asking bytes
     one_word (Asked command) Controller = one_opening (Asked command)
-    one_word (Asked command) Peripheral = λ one other p q. search arith
+    one_word (Asked command) Peripheral = one_answer command
     one_word (InReply command bytes) Peripheral = one_replying command bytes
     one_word (Replied command reply) Controller = one_vmc_answer command reply
     one_word (Returned command reply) Controller = one_opening (Returned command reply)

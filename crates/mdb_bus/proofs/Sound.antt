@@ -1,6 +1,6 @@
 -- Where pieces in order leave the bus: a block there has begun well, and a last row that is a break
 -- is a long one.
-use Rattle.mdb_bus.proofs.Words.{[], Act, ArePieces, AskTail, Break, Controller, Event, events_of, inl, inr, InRepeat, IsReply, IsSaid, IsSound, last_of, Line, List, MayStand, NamesAReply, Peripheral, Piece, piece_events, Position, position_of, profile_of, refl, RepeatTail, Replied, ReplyTail, Returned, Say, Scope, sym, Whole, Word, ℕ, ◌++◌, ◌∙◌, ◌∷◌, ◌≡◌, ◌≢◌}
+use Rattle.mdb_bus.proofs.Words.{[], Act, ArePieces, AskTail, Break, Controller, Event, events_of, inl, inr, InRepeat, IsReply, IsSaid, IsSound, last_of, Line, List, MayStand, NamesAReply, Peripheral, Piece, piece_events, Position, position_of, profile_of, refl, RepeatTail, Replied, ReplyTail, Returned, Say, Scope, Whole, Word, ℕ, ◌++◌, ◌∷◌, ◌≡◌, ◌≢◌}
 use Rattle.mdb_bus.specs.declared.act.Act.TheVariants as acts
 use Rattle.mdb_bus.proofs.Stops.{LastIsLong, lasts}
 use Rattle.mdb_bus.proofs.Lists.{at_first}

@@ -1,4 +1,4 @@
-use Rattle.mdb_bus.proofs.Words.{arith, length, refl, rules, ◌≡◌}
+use Rattle.mdb_bus.proofs.Words.{arith, length, refl, rules}
 use Rattle.mdb_bus.proofs.Verdicts.{repeats}
 use Rattle.mdb_bus.proofs.judging.repeating.begin_repeat.Goals as goal
 

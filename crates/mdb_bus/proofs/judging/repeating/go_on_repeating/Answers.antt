@@ -1,5 +1,5 @@
 -- A word goes on with a repeat, or ends it.
-use Rattle.mdb_bus.proofs.Words.{ap, arith, length, refl, reply_words, rules, ◌≡◌}
+use Rattle.mdb_bus.proofs.Words.{ap, arith, length, refl, reply_words, rules}
 use Rattle.mdb_bus.proofs.Verdicts.{repeats, repeated}
 use Rattle.mdb_bus.proofs.judging.repeating.go_on_repeating.Goals as goal
 

@@ -1,7 +1,6 @@
 -- A block has one command, so an ask of a POLL's block is that POLL.
-use Rattle.mdb_bus.proofs.Words.{ap, Asked, block_of, Some, Spells, ℕ, ◌∙◌, ◌≡◌}
+use Rattle.mdb_bus.proofs.Words.{ap, Asked, block_of, Some, Spells, ◌∙◌}
 use Rattle.mdb_bus.specs.declared.act.Act.TheVariants as acts
-use Rattle.mdb_bus.specs.shared.Step as step
 use Rattle.mdb_bus.proofs.place.Place.end_ask.Goals as goal
 
 pub returns-in-Some-clause-advanced : goal.returns-in-Some-clause-advanced
