@@ -248,7 +248,7 @@ def scenes():
 
 def scenes_of_sales():
     """Requests without an answer, denied and cancelled ones, and sales that the reader doesn't take."""
-    card = lambda: Bus().changer().reader()
+    card, makers = lambda: Bus().changer().reader(), ("makers", "Send")
     asked = lambda: card().told([0x12], 3, 3, 0xE8).ack(0x13, 0, 0, 150, 0, 7)
     never, silent = ("No money was reported", "makers"), asked().polls(3, device=0x12)
     for _ in range(60):
@@ -267,6 +267,11 @@ def scenes_of_sales():
     yield Scene("a sale that is never taken, and another one", untaken.approved(item=8).ack(0x13, 2, 0, 8).over(), AMBER,
                 [("untaken", "1.50", "item 7", "2 times", "never took it", "before a RESET")], ("This is the reason", "card company", "controller 3.00"), ("makers", "controller 4.50"))
     yield Scene("a sale that is taken at the second time", card().approved().ask(0x13, 2, 0, 7).ack(0x13, 2, 0, 7).over(), GREEN, [])
+    twice = card().approved().ack(0x13, 2, 0, 7).ack(0x13, 0, 0, 150, 0, 7).told([0x12], 5, 0, 150).told([0x12], 5, 0, 150)
+    firm = "by card reader 1: 3.00, unless 4 or more acknowledgements were lost, restarts unseen or approvals told again."
+    yield Scene("the same sale again, and its approval told twice", twice.ack(0x13, 2, 0, 7).over(), GREEN, [],
+                (f"Approved {firm} Sold {firm}", "1.50 only if 2 acknowledgements were lost and 2 approvals were told again"), makers,
+                options=("--extended",))
     yield Scene("an approval without an amount", card().told([0x12], 3, 3, 0xE8).ack(0x13, 0, 0xFF, 0xFF, 0, 7).told([0x12], 5, 0xFF, 0xFF)
                 .ack(0x13, 2, 0, 7).over(), GREEN, [], ("amount not told (item 7)",), ("655.35", "earlier recording"))
     negative = card().told([0x12], 3, 3, 0xE8).ack(0x13, 6, 0, 25, 0, 1).told([0x12], 5, 0, 25)

@@ -75,8 +75,10 @@ function enoughFor(it, name) {
 /** @type {(it: Answer, name: string, a: Account) => boolean} */
 export const isEasilyOpen = (it, name, a) => isOpen(a) && enoughFor(it, name) <= FEW;
 
-// What an account comes to that is open, and not easily so.
+// What an account comes to that is open, and not easily so. What was lost for certain counts, too.
 /** @type {(it: Answer, name: string, d: number) => string} */
-export const firmWords = (it, name, d) =>
-    `${ACCOUNTS[name].title}: ${money(endsOf(it, name, "device").first.value, d)}, unless ${
-        enoughFor(it, name)} or more acknowledgements were lost, restarts unseen or approvals told again.`;
+export function firmWords(it, name, d) {
+  const {value, all} = endsOf(it, name, "device").first, most = number(all + enoughFor(it, name));
+  return `${ACCOUNTS[name].title}: ${money(value, d)}, unless ${
+      most} or more acknowledgements were lost, restarts unseen or approvals told again.`;
+}
