@@ -265,7 +265,8 @@ stands-on old mid new events row act on goes old_scope like has final is times =
           ∙ sym (length-append events (row ∷ []));
       going = is.2 ∙ has.going ∙ like.4 ∙ on.going;
       sides = rw (is.0, same_scope, goes.acts, is.3) sides;
-      silences = λ device. rw (is.0, same_scope, is.4) (rw (asks-go-on begins device on.pieces row act
+      silences = λ device. rw (is.0, same_scope, is.4)
+          (rw (asks-go-on begins device on.pieces row act
           goes.longer new.sides.first_reader.facts new.sides.second_reader.facts goes.grown
           (sides (devices.Reader First)).facts (sides (devices.Reader Second)).facts) at
           ((has.silences device).stands (asks_of begins device on.pieces)

@@ -2,13 +2,12 @@
 use Rattle.mdb_follow.proofs.Words.{refl, sym, ◌≡◌, Bool, true, false, List, Event, Device, has, Act, Beginning, Scope, ArePieces, IsActList, Piece, acts_of, LeavesOutMore, acts_with, breaks_among, leave_out, IsLeftOut, IsFollowed, Arrives, EachArrives, AreSumsWithout, StateOf, machine_of, AllSums, IsReached, Run, Sums, no_sums, Machine}
 use Rattle.mdb_follow.proofs.Joining.{split}
 use Rattle.mdb_follow.proofs.Machines.{is_machine_of}
-use Rattle.mdb_follow.proofs.OwnWays.{OwnActs, adds_nothing, first_of, some_way, ways_alike}
+use Rattle.mdb_follow.proofs.OwnWays.{own_laws, adds_nothing, first_of, some_way, ways_alike}
 use Rattle.mdb_follow.proofs.Reaching.{Joins, SomeWay, run_of, some_of}
 
 -- what the crates below say of leaving out further devices
 pub record WithoutLaws : Type 0 where
   pub joins : (scope : Scope) → Joins scope
-  pub own_acts : OwnActs
   pub stays : (less more : Scope) (rows : List Event) (pieces : List Piece)
       → LeavesOutMore less more → IsActList less pieces rows
       → IsActList more (leave_out more pieces) rows
@@ -49,14 +48,14 @@ module _ (laws : WithoutLaws) where
       record {
         state = state;
         sums = sums;
-        way = ways_alike laws.own_acts device machine (is_machine_of begins device)
+        way = ways_alike own_laws device machine (is_machine_of begins device)
             (acts_of pieces) rest (sym (laws.followed more pieces device followed)) state sums way;
       },
       refl,
     )
     one_without state sums way true left_out =
         let first = first_of machine (acts_of pieces) state sums way in
-        let over = some_way laws.own_acts device machine (is_machine_of begins device) rest
+        let over = some_way own_laws device machine (is_machine_of begins device) rest
         (acts_of pieces) (laws.left_out more pieces device left_out) first.0 first.1 in
         (record { state = over.0; sums = no_sums; way = over.1 }, refl)
 
@@ -68,14 +67,14 @@ module _ (laws : WithoutLaws) where
       record {
         state = other;
         sums = its;
-        way = ways_alike laws.own_acts device machine (is_machine_of begins device) rest
+        way = ways_alike own_laws device machine (is_machine_of begins device) rest
             (acts_of pieces) (laws.followed more pieces device followed) other its without;
       },
       refl,
     )
     one_with some other its without true left_out = (
       some,
-      adds_nothing laws.own_acts device machine (is_machine_of begins device) rest
+      adds_nothing own_laws device machine (is_machine_of begins device) rest
           (acts_of pieces) (laws.left_out more pieces device left_out) other its without,
     )
 
@@ -101,7 +100,8 @@ module _ (laws : WithoutLaws) where
   run_with less more rows other leaves reached run =
       let some = reached.1 in
       let is = laws.left less more rows some.pieces run.pieces leaves some.act_list run.act_list in
-      let without : EachArrives less.begins (acts_of (leave_out more some.pieces)) run.states other =
+      let rest = acts_of (leave_out more some.pieces) in
+      let without : EachArrives less.begins rest run.states other =
       rw leaves.begins (rw is at
       (split more.begins run.loss run.pieces run.states other run.way)) in
       let all = λ (device : Device). one_with less.begins more some.pieces device
@@ -113,14 +113,14 @@ module _ (laws : WithoutLaws) where
       )
 
 -- in a run the sums of a device that is left out are nothing
-pub run_leaves_nothing : OwnActs
-    → ((scope : Scope) (pieces : List Piece) (device : Device) → ArePieces scope pieces
-    → IsLeftOut scope device → acts_with device (acts_of pieces) ≡ breaks_among (acts_of pieces))
+pub run_leaves_nothing : ((scope : Scope) (pieces : List Piece) (device : Device)
+    → ArePieces scope pieces → IsLeftOut scope device
+    → acts_with device (acts_of pieces) ≡ breaks_among (acts_of pieces))
     → (scope : Scope) (rows : List Event) (sums : AllSums) → Run scope rows sums
     → (device : Device) → IsLeftOut scope device → sums device ≡ no_sums
-run_leaves_nothing own alone scope rows sums run device left_out =
-    adds_nothing own device (machine_of scope.begins device) (is_machine_of scope.begins device)
-    (acts_of run.pieces) (acts_of run.pieces)
+run_leaves_nothing alone scope rows sums run device left_out =
+    adds_nothing own_laws device (machine_of scope.begins device)
+    (is_machine_of scope.begins device) (acts_of run.pieces) (acts_of run.pieces)
     (alone scope run.pieces device run.act_list.in_order left_out)
     (run.states device) (sums device)
     (split scope.begins run.loss run.pieces run.states sums run.way device)

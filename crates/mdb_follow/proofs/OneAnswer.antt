@@ -1,5 +1,5 @@
 -- Rows have one report, and a row has one offence.
-use Rattle.mdb_follow.proofs.Words.{ap, arith, sym, subst, ◌∙◌, ◌≡◌, ◌⊎◌, inl, inr, ℕ, ℤ, ◌≤ℤ◌, List, [], ◌∷◌, ◌++◌, append_assoc, append-nil, length, map, Option, Some, None, ints, Event, Act, Blame, Rule, ArePieces, Piece, Whole, acts_of, HasActList, with_act, events_of, IsLinkFault, RowBreaks, situation_of, Beginning, AccountName, ALL, Account, Offence, Range, Report, IsRange, IsAccount, AccountSums, IsOffence, LinkFault, AreAccounts, IsReport, report_of, AllSums, IsReached, Run, machine_of, NoStep, rule_of, Scope, account_of, sums_of, BreaksLink, BreaksMachine, act_fault}
+use Rattle.mdb_follow.proofs.Words.{ap, arith, sym, subst, ◌∙◌, ◌≡◌, ◌⊎◌, inl, inr, ℕ, ℤ, ◌≤ℤ◌, List, [], ◌∷◌, ◌++◌, append_assoc, append-nil, length, map, Option, Some, None, ints, Event, Act, Blame, Rule, ArePieces, Piece, Whole, acts_of, HasActList, with_act, events_of, IsLinkFault, RowBreaks, situation_of, Beginning, AccountName, ALL, Account, Offence, Range, Report, IsRange, IsAccount, AccountSums, IsOffence, LinkFault, AreAccounts, IsReport, report_of, AllSums, IsReached, Run, machine_of, rule_of, Scope, account_of, sums_of, BreaksLink, BreaksMachine, act_fault}
 use Rattle.mdb_follow.proofs.Accounts.{listed}
 use Rattle.mdb_follow.proofs.Following.{OneActList}
 use Rattle.mdb_follow.proofs.Machines.{is_machine_of, whose, whose_none}
@@ -83,15 +83,6 @@ cut begins None acts act before same some = before_last begins act before (rw sa
 cut begins (Some last) acts act before same some =
     let rest : acts ≡ before = cc same in rw rest at some
 
--- a machine without a step by an act is that of the one device that has a part in it
-whose_rule : (begins : Beginning) (broken : Rule) (act : Act) (before : List Act)
-    → NoStep begins broken act before → SomeArrive begins before → rule_of (whose act) ≡ broken
-whose_rule begins broken act before stops some =
-    let way = some stops.device in
-    ap rule_of (whose_none stops.device (machine_of begins stops.device)
-    (is_machine_of begins stops.device) act before stops.none way.state way.sums way.way)
-    ∙ sym stops.rule
-
 -- A row after others.
 module _ (scope : Scope) (laws : BusLaws scope) (events : List Event) (row : Event) where
   -- the act list up to a row that ends an act by which a machine has no step
@@ -112,10 +103,13 @@ module _ (scope : Scope) (laws : BusLaws scope) (events : List Event) (row : Eve
     own-rule p =
         let run = reached.1 in
         let from = laws.goes events row (broken-list p) p.act_list in
-        whose_rule scope.begins p.own p.act (acts_of p.earlier) p.no_step
-        (cut scope.begins from.act (acts_of from.before) p.act _ (sym from.acts)
-        (rw (laws.one events run.pieces from.before run.act_list from.act_list) at
-        (some_of scope events reached.0 run)))
+        let device = p.no_step.device in
+        let way = cut scope.begins from.act (acts_of from.before) p.act (acts_of p.earlier)
+        (sym from.acts) (rw (laws.one events run.pieces from.before run.act_list from.act_list) at
+        (some_of scope events reached.0 run)) device in
+        ap rule_of (whose_none device (machine_of scope.begins device)
+        (is_machine_of scope.begins device) p.act (acts_of p.earlier) p.no_step.none way.state
+        way.sums way.way) ∙ sym p.no_step.rule
 
     one-why : (r s : Rule) (a b : Blame)
         → BreaksLink scope events row r a ⊎ BreaksMachine scope events row r a

@@ -1,6 +1,7 @@
 -- A way of a device through acts is one through its own acts among them, and the other way round.
 use Rattle.mdb_follow.proofs.Words.{ap, refl, sym, ◌∙◌, ◌≡◌, inl, inr, List, [], ◌∷◌, AllByRecursion, Device, Act, breaks_among, Plain, no_gains, Machine, IsActOf, IsBreak, IsMachineOf, own_acts, Arrives, Sums, added, no_sums}
 use Rattle.mdb_bus.specs.declared.act.Act.TheVariants as acts
+use Rattle.mdb_machine.specs.shared.OwnWays.{with_other, with_own}
 use Rattle.mdb_follow.proofs.Machines.{of_or_not}
 use Rattle.mdb_follow.proofs.Ways.{no-gains}
 
@@ -10,6 +11,9 @@ pub record OwnActs : Type 0 where
       → own_acts device (act ∷ so_far) ≡ act ∷ own_acts device so_far
   pub other : (device : Device) (act : Act) (so_far : List Act) → (IsActOf device act → ⊥)
       → own_acts device (act ∷ so_far) ≡ own_acts device so_far
+
+pub own_laws : OwnActs
+own_laws = record { own = with_own; other = with_other }
 
 -- the breaks among acts are breaks
 pub are_breaks : (so_far : List Act) → AllByRecursion IsBreak (breaks_among so_far)

@@ -3,11 +3,7 @@ use Rattle.mdb_follow.proofs.laws.runs_go_on_without_further_devices.Goals as go
 
 pub returns : goal.returns
 returns c = run_without (record {
-  joins = λ scope. c.ways_join.ensures scope;
-  own_acts = record {
-    own = c.own_acts_are_those_that_a_device_has_a_part_in.ensures.own;
-    other = c.own_acts_are_those_that_a_device_has_a_part_in.ensures.other;
-  };
+  joins = c.ways_join.ensures;
   stays = c.act_lists_stay_without_further_devices.ensures;
   left = c.act_lists_without_further_devices_are_what_is_left.ensures;
   followed = c.acts_of_followed_devices_stay.ensures.followed;
