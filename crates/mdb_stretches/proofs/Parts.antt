@@ -189,7 +189,7 @@ BlamesFollowed = (scope : Scope) (rows : List Event) (row : Event) (offence : Of
     → offence.blame ≡ blame_on (Some device) → IsFollowed scope device
 
 -- of this fault, in a recording that is taken so
-abbrev IsOnFollowed : Scope → Ended → Type 0
+abbrev pub IsOnFollowed : Scope → Ended → Type 0
 IsOnFollowed scope it =
     (device : Device) → it.fault.blame ≡ blame_on (Some device)
     → IsFollowed it.stretch.scope device × IsFollowed scope device
@@ -208,9 +208,7 @@ all_on_followed law start rows (it ∷ earlier) running place goes =
     (all_on_followed law start goes.front earlier goes.before goes.from goes.lead)
 
 pub nobody_blamed : BlamesFollowed → (scope : Scope) (rows : List Event) (ended : List Ended)
-    (last : Stretch) → IsSurvey scope rows ended last
-    → All (λ it. (device : Device) → it.fault.blame ≡ blame_on (Some device)
-    → IsFollowed it.stretch.scope device × IsFollowed scope device) ended
+    (last : Stretch) → IsSurvey scope rows ended last → All (IsOnFollowed scope) ended
 nobody_blamed law scope rows ended last survey =
     all_on_followed law (first_place scope) rows ended survey.running survey.place survey.lead
 

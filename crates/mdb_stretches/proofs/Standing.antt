@@ -14,16 +14,12 @@ abbrev pub OneActList : Type 0
 OneActList = (scope : Scope) (rows : List Event) (one other : List Piece)
     → IsActList scope one rows → IsActList scope other rows → one ≡ other
 
--- no rows have no acts
-no_acts : OneActList → (scope : Scope) (pieces : List Piece) → IsActList scope pieces []
-    → acts_of pieces ≡ []
-no_acts one scope pieces list =
-    ap acts_of (one scope [] pieces [] list (record { in_order = tt; whole = refl }))
-
+-- no rows have no acts, so they tell nothing
 pub told_nothing : OneActList → (scope : Scope) (told : Told) (pieces : List Piece)
     → IsActList scope pieces []
     → told ≡ told_after scope.begins told (acts_of pieces)
-told_nothing one scope told pieces list = rw (no_acts one scope pieces list) refl
+told_nothing one scope told pieces list =
+    rw (one scope [] pieces [] list (record { in_order = tt; whole = refl })) refl
 
 -- what is told with one act more, if there is one
 learnt_more : (begins : Beginning) (told : Told) (act : Option Act) (acts : List Act)

@@ -22,15 +22,11 @@ data Does (profile : Profile) (unit : ReaderUnit) (act : Act) (told : Told) : Ty
       → Does profile unit act told
 
 -- a reply of another reader
-second_keeps : (setups : Option Setups) (told : Told)
-    → kept First (with_answer (devices.Reader Second) setups told) ≡ kept First told
-second_keeps None told = refl
-second_keeps (Some setups) told = refl
-
-first_keeps : (setups : Option Setups) (told : Told)
-    → kept Second (with_answer (devices.Reader First) setups told) ≡ kept Second told
-first_keeps None told = refl
-first_keeps (Some setups) told = refl
+other_keeps : (setups : Option Setups) (told : Told)
+    → (kept First (with_answer (devices.Reader Second) setups told) ≡ kept First told)
+    × (kept Second (with_answer (devices.Reader First) setups told) ≡ kept Second told)
+other_keeps None told = (refl, refl)
+other_keeps (Some setups) told = (refl, refl)
 
 -- what stands before a reply of this reader, with or without a config message
 abbrev answered_by : ReaderUnit → Told → Option ReaderConfig → Option ℕ
@@ -82,12 +78,12 @@ does profile Second (acts.Reply (commands.Reader Second asked) (replies.Reader l
     (last_config list.messages))
 does profile First (acts.Reply (commands.Reader Second asked) (replies.Reader list)) told =
     neither (λ level tells. cc (tells.is), λ has. cc (has.is))
-    (second_keeps (known_with told.setups (devices.Reader Second) (replies.Reader list))
-    (heard profile (commands.Reader Second asked) list told))
+    (other_keeps (known_with told.setups (devices.Reader Second) (replies.Reader list))
+    (heard profile (commands.Reader Second asked) list told)).0
 does profile Second (acts.Reply (commands.Reader First asked) (replies.Reader list)) told =
     neither (λ level tells. cc (tells.is), λ has. cc (has.is))
-    (first_keeps (known_with told.setups (devices.Reader First) (replies.Reader list))
-    (heard profile (commands.Reader First asked) list told))
+    (other_keeps (known_with told.setups (devices.Reader First) (replies.Reader list))
+    (heard profile (commands.Reader First asked) list told)).1
 does profile unit (acts.Reply (commands.Changer asked) (replies.ChangerSetup table)) told =
     neither (λ level tells. cc (tells.is), λ has. cc (has.is)) refl
 does profile unit (acts.Reply (commands.Bill asked) (replies.BillSetup table)) told =
