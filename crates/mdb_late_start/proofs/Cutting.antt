@@ -1,7 +1,7 @@
 -- The end of a transcript has an act list of its own, as a recording that begins in mid-session:
 -- the pieces that begin in it stand there as they stood, and what is left of the others stands as
 -- foreign words.
-use Rattle.mdb_late_start.proofs.Words.{MayBeReadAlone, ap, refl, sym, subst, ◌∙◌, ◌≡◌, ◌≢◌, ◌++◌, ◌⊎◌, arith, inl, inr, List, [], ◌∷◌, All, Option, Some, None, append_assoc, ℕ, append-nil, AllByRecursion, All-from_recursion, Event, Word, Break, Controller, Setups, Joined, Scope, IsBlockWord, IsForeignWord, with_foreign, levels_before, no_levels, profile_of, BeginAnew, IsBreakEvent, SplitsAt, joined_with, IsNothingOr, last_push, foreign_rows, AreForeignWords, word_waits, rest_after, Profile, Piece, Whole, Position, InAsk, InForeign, ArePieces, AreSpaced, BlockMayCome, IsActList, MayCome, NotBefore, PieceFits, events_of, last_of, levels_of, piece_events, position_of, NotPast}
+use Rattle.mdb_late_start.proofs.Words.{MayBeReadAlone, ap, refl, sym, ◌∙◌, ◌≡◌, ◌≢◌, ◌++◌, ◌⊎◌, arith, inl, inr, List, [], ◌∷◌, All, Option, Some, None, append_assoc, ℕ, append-nil, AllByRecursion, All-from_recursion, Event, Word, Break, Controller, Setups, Joined, Scope, IsBlockWord, IsForeignWord, with_foreign, levels_before, no_levels, profile_of, BeginAnew, IsBreakEvent, SplitsAt, joined_with, IsNothingOr, last_push, foreign_rows, AreForeignWords, word_waits, rest_after, Profile, Piece, Whole, Position, InAsk, InForeign, ArePieces, AreSpaced, BlockMayCome, IsActList, MayCome, NotBefore, PieceFits, events_of, last_of, levels_of, piece_events, position_of, NotPast}
 use Rattle.mdb_bus.specs.declared.act.Act.TheVariants as acts
 use Rattle.mdb_late_start.proofs.CutWords.{Kind, foreign_both, foreign_end, kind, said_stays}
 
@@ -88,12 +88,17 @@ late_end from [] [] late = tt
 late_end from [] (event ∷ end) late = (tt, late.1)
 late_end from (event ∷ front) end late = late_end (Some event) front end late.1
 
--- foreign acts of two lists of events, one after the other
-foreign_joined : (events others : List Event) (pieces : List Piece)
-    → with_foreign (events ++ others) pieces ≡ with_foreign others (with_foreign events pieces)
-foreign_joined [] others pieces = refl
-foreign_joined (event ∷ events) others pieces =
-    foreign_joined events others (Whole acts.Foreign (event ∷ []) ∷ pieces)
+-- so do the words of an end with others after them
+late_on : (first : Event) (words more : List Event) → AreLate (Some first) words
+    → AreLate (last_of (first ∷ words)) more → AreLate (Some first) (words ++ more)
+late_on first [] more late also = also
+late_on first (next ∷ words) more late also =
+    (late.0, late_on next words more late.1 also)
+
+late_both : (words more : List Event) → AreLate None words → AreLate (last_of words) more
+    → AreLate None (words ++ more)
+late_both [] more late also = also
+late_both (first ∷ words) more late also = (tt, late_on first words more late.1 also)
 
 -- the pieces of the end by itself
 abbrev pub alone : List Piece → List Event → List Piece
@@ -241,7 +246,26 @@ module _ (scope : Scope) (setups : Setups) where
     pub stand : ArePieces new (alone later words)
     pub whole : events_of (alone later words) ≡ end
     pub foreign : AreForeignWords words
+    pub late : AreLate None words
     pub anew : later ≢ [] → BeginAnew (events_of later)
+
+  -- where all that is left are foreign words of pieces in front
+  all_words : (front words : List Event) (before : List Piece) → ArePieces scope before
+      → events_of before ≡ front ++ words → AreForeignWords words → AreLate None words
+      → Cutting front words before
+  all_words front words before are rows foreign late = record {
+    later = [];
+    words = words;
+    before = before;
+    order = refl;
+    in_front = are;
+    rows = rows;
+    stand = words_stand new words [] tt refl late foreign;
+    whole = foreign_rows words [];
+    foreign = foreign;
+    late = late;
+    anew = λ some. absurd (some refl);
+  }
 
   -- a piece may come after pieces of the end
   abbrev pub ComesAlone : List Piece → Piece → Event → Type 0
@@ -302,33 +326,21 @@ module _ (scope : Scope) (setups : Setups) where
       );
       whole = ap (λ rows. rows ++ piece_events piece) cut.whole;
       foreign = cut.foreign;
+      late = cut.late;
       anew = λ some. anew;
     }
 
     -- one that begins with a foreign word, after such words alone, stands as foreign words
-    stands_as_words : cut.later ≡ [] → AreForeignWords (piece_events piece)
-        → AreLate (last_of middle) (piece_events piece) → With_it
-    stands_as_words none words late =
-        let Before : List Piece → Type 0 = λ ps. ArePieces scope (piece ∷ ps) in
-        let same : pieces ≡ cut.before = cut.order ∙ ap (λ ps. ps ++ cut.before) none in
-        let stand : ArePieces new (with_foreign cut.words []) = rw none at cut.stand in
-        let whole : events_of (with_foreign cut.words []) ≡ middle = rw none at cut.whole in
-        record {
-          later = [];
-          words = cut.words ++ piece_events piece;
-          before = piece ∷ cut.before;
-          order = ap (λ ps. piece ∷ ps) same;
-          in_front = subst Before same are;
-          rows = ap (λ rows. rows ++ piece_events piece) cut.rows
-              ∙ append_assoc front cut.words (piece_events piece);
-          stand = rw (foreign_joined cut.words (piece_events piece) [])
-              (words_stand new (piece_events piece) (with_foreign cut.words []) stand
-              (foreign_position new cut.words [] refl) (rw whole late) words);
-          whole = foreign_rows (cut.words ++ piece_events piece) []
-              ∙ ap (λ rows. rows ++ piece_events piece) (sym (foreign_rows cut.words []) ∙ whole);
-          foreign = foreign_both cut.words (piece_events piece) cut.foreign words;
-          anew = λ some. absurd (some refl);
-        }
+    stands_as_words : events_of pieces ≡ front ++ middle → cut.later ≡ []
+        → AreForeignWords (piece_events piece) → AreLate (last_of middle) (piece_events piece)
+        → With_it
+    stands_as_words rows none words late =
+        let its = piece_events piece in
+        let same : cut.words ≡ middle = sym (foreign_rows cut.words []) ∙ (rw none at cut.whole) in
+        all_words front (middle ++ its) (piece ∷ pieces) are
+        (ap (λ es. es ++ its) rows ∙ append_assoc front middle its)
+        (foreign_both middle its (rw same at cut.foreign) words)
+        (late_both middle its (rw same at cut.late) late)
 
     -- so it stands in the end, after others or as the first
     stands_in_end : events_of pieces ≡ front ++ middle
@@ -346,7 +358,7 @@ module _ (scope : Scope) (setups : Setups) where
         let there : position_of new here ≡ InForeign =
         rw none (foreign_position new cut.words [] refl) in
         elim its.way [
-          | inl way ↦ stands_as_words none (rw are.1.begins (way.0, its.words))
+          | inl way ↦ stands_as_words rows none (rw are.1.begins (way.0, its.words))
               (rw are.1.begins (
                 late_after (last_of middle) (last_of (events_of pieces)) are.1.first
                     (rw cut.whole at less) way.1,
@@ -365,39 +377,17 @@ module _ (scope : Scope) (setups : Setups) where
       → (event : Event) (middle : List Event) → piece_events piece ≡ event ∷ middle ++ end
       → Cutting front end (piece ∷ pieces)
   cut_inside front end piece pieces are whole event middle is =
-      let words = foreign_end middle end
-      (words_inside scope piece pieces are event middle end is) in
       let late = rw (inside_others scope piece pieces are event middle end is) at
       (late_others profile are.1.first are.1.others (rw are.1.begins at are.0.spaced)) in
-      record {
-        later = [];
-        words = end;
-        before = piece ∷ pieces;
-        order = refl;
-        in_front = are;
-        rows = whole;
-        stand = words_stand new end [] tt refl (late_end (Some are.1.first) middle end late) words;
-        whole = foreign_rows end [];
-        foreign = words;
-        anew = λ some. absurd (some refl);
-      }
+      all_words front end (piece ∷ pieces) are whole
+      (foreign_end middle end (words_inside scope piece pieces are event middle end is))
+      (late_end (Some are.1.first) middle end late)
 
   -- pieces in order may be cut anywhere, where all fit
   cut_at : (front whole_end : List Event) → AllFitAlone front whole_end → (pieces : List Piece)
       (end more : List Event) → whole_end ≡ end ++ more → ArePieces scope pieces
       → events_of pieces ≡ front ++ end → Cutting front end pieces
-  cut_at [] whole_end fit [] [] more all are whole = record {
-    later = [];
-    words = [];
-    before = [];
-    order = refl;
-    in_front = tt;
-    rows = refl;
-    stand = tt;
-    whole = refl;
-    foreign = tt;
-    anew = λ some. absurd (some refl);
-  }
+  cut_at [] whole_end fit [] [] more all are whole = all_words [] [] [] tt refl tt tt
   cut_at [] whole_end fit [] (event ∷ end) more all are whole = absurd cc
   cut_at (event ∷ front) whole_end fit [] end more all are whole = absurd cc
   cut_at front whole_end fit (piece ∷ pieces) end more all are whole =

@@ -1,5 +1,5 @@
 -- Runs of ends. Lists of pieces are written newest first, lists of events oldest first.
-use Rattle.mdb_late_start.proofs.Words.{ap, sym, ◌∙◌, ◌≡◌, ◌++◌, List, [], ◌∷◌, append-nil, append_cancel_right, Event, Device, Setups, Levels, Joined, Scope, with_foreign, no_levels, profile_of, unvalued_of, AllSums, IsReached, Run, States, MayBeReadAlone, BeginAnew, Passes, both_sums, TellsOnlyWhatIsSo, AreToldBy, WereTold, told_later, EndLaws, Piece, ArePieces, IsActList, acts_of}
+use Rattle.mdb_late_start.proofs.Words.{joined_with, ap, sym, ◌∙◌, ◌≡◌, ◌++◌, List, [], ◌∷◌, append-nil, append_cancel_right, Event, Device, Setups, Levels, Joined, Scope, with_foreign, no_levels, profile_of, unvalued_of, AllSums, IsReached, Run, States, MayBeReadAlone, BeginAnew, Passes, both_sums, TellsOnlyWhatIsSo, AreToldBy, WereTold, told_later, EndLaws, Piece, ArePieces, IsActList, acts_of}
 use Rattle.mdb_follow.specs.Tables.{EachArrives}
 use Rattle.mdb_late_start.proofs.InEnds.{all_answer, in_end, acts_in_two, in_two, after_foreign, words_are}
 use Rattle.mdb_late_start.proofs.Cutting.{pass_at}
@@ -47,21 +47,12 @@ module _ (laws : EndLaws) where
       }
 
   module _ (scope : Scope) (setups : Setups) where
-    -- no levels were told, in front of any end of rows that are reached
-    pub none_told : (front end : List Event) → MayBeReadAlone scope setups front end
-        → IsReached scope (front ++ end) → WereTold scope setups no_levels front end
-    none_told front end may reached = record {
-      pieces = reached.1.pieces;
-      act_list = reached.1.act_list;
-      cut = laws.splits_rows scope setups front end reached.1.pieces may reached.1.act_list;
-      in_front = (tt, tt);
-    }
-
     -- where rows are reached, each end of them is that may be read by itself
     pub end_reached : (levels : Levels) (front end : List Event)
-        → IsReached scope (front ++ end) → WereTold scope setups levels front end
+        → MayBeReadAlone scope setups front end → IsReached scope (front ++ end)
+        → WereTold scope setups levels front end
         → IsReached (told_later setups levels scope) end
-    end_reached levels front end (sums, run) told =
+    end_reached levels front end may (sums, run) told =
         let cut = told.cut in
         let order = laws.one scope (front ++ end) run.pieces told.pieces run.act_list told.act_list
         ∙ cut.order in
@@ -79,6 +70,16 @@ module _ (laws : EndLaws) where
               (profile_of scope.begins) foreign (words_are cut.words [] tt) (acts_of cut.later)
               (run.states device) (gained device) (each device).way)),
         )
+
+    -- so it is where no levels were told in front of it
+    pub each_reached : (front end : List Event) → MayBeReadAlone scope setups front end
+        → IsReached scope (front ++ end) → IsReached (joined_with setups scope) end
+    each_reached front end may reached = end_reached no_levels front end may reached (record {
+      pieces = reached.1.pieces;
+      act_list = reached.1.act_list;
+      cut = laws.splits_rows scope setups front end reached.1.pieces may reached.1.act_list;
+      in_front = (tt, tt);
+    })
 
     -- where the end begins anew
     module _ (levels : Levels) (front end : List Event) (sums : AllSums)

@@ -14,11 +14,6 @@ use Rattle.mdb_verdict.proofs.Headline.{one_list}
 use Rattle.mdb_verdict.proofs.OneAnswer.{row_not_refused, row_one}
 use Rattle.mdb_late_start.proofs.OpenFaults.{first_rows}
 
--- any first rows of reached ones are reached
-abbrev pub Fronts : Type 0
-Fronts = (scope : Scope) (rows more : List Event) → IsReached scope (rows ++ more)
-    → IsReached scope rows
-
 -- the rows of records in two parts
 rows_in_two : (front end : List (List (List ℕ))) (rows : List Event) → AreRows (front ++ end) rows
     → (first : List Event) × (second : List Event) × (rows ≡ first ++ second)
@@ -97,7 +92,9 @@ module _ (scope : Scope) (limit : ℕ) (front end : List (List (List ℕ))) wher
         ))
     end_says Says is_yes is_no (Err fault) is own = absurd own
 
-  module _ (fronts : Fronts) (report : Report)
+  -- where any first rows of reached ones are reached
+  module _ (fronts : (scope : Scope) (rows more : List Event) → IsReached scope (rows ++ more)
+      → IsReached scope rows) (report : Report)
       (whole : IsAnswer scope limit (front ++ end) (Ok (Yes report))) where
     -- so it is a yes, where the rows of the end are reached, as they are taken there (`later`)
     pub end_says_yes : (later : Scope)

@@ -1,23 +1,117 @@
 -- What a reader does in the course of a recording, it may do in the end of that by itself, by the
--- extended profile. Lists of acts stand newest first.
-use Rattle.mdb_late_start.proofs.Words.{◌≡◌, ◌⊎◌, ℕ, Bool, true, false, not, ◌&&◌, ◌||◌, List, [], ◌∷◌, ◌++◌, Option, Some, None, drop, length, if◌then◌else◌, unwrap_or, refl, inl, inr, arith, ap, sym, subst, ◌∙◌, is_none, Command, ReaderCommand, ReaderUnit, Reply, ReaderMsg, ReaderConfig, Setups, config_known, Act, Beginning, PowerOn, Joined, profile_of, Choice, Again, Gains, controller_gains, device_gains, in_slots, Known, known_before, last_told, or_else, one_if, Sale, value, asks_sale, messages_of, own, first_of_three, Unawaited, Nothing, Awaited, Approved, Sold, approvals_in, facts_after, facts_of, IsEarlier, MayAsk, MaySell, approved_to, last_value, may_be_again, may_be_either, news, sold_by, amount_by, config_by, own_messages}
-use Rattle.std.proofs.Math.Seq.{drop-nil}
+-- extended profile: the sale under way, and each step. Lists of acts stand newest first.
+use Rattle.mdb_late_start.proofs.Words.{common_steps, ◌≡◌, ℕ, Bool, true, false, not, ◌&&◌, List, [], ◌∷◌, Option, Some, refl, inl, inr, ap, ReaderCommand, ReaderMsg, ReaderConfig, Sale, Unawaited, Nothing, Awaited, Approved, Sold, sale_all_heard, sale_asked, sale_heard, unawaited, IsSale, approved_to, own_transaction, is_request, ◌⊎◌, ◌||◌, ◌++◌, None, length, if◌then◌else◌, unwrap_or, arith, sym, subst, ◌∙◌, is_none, Command, ReaderUnit, Reply, Setups, config_known, Act, Beginning, PowerOn, Joined, profile_of, Choice, Again, Gains, controller_gains, device_gains, in_slots, Known, known_before, last_told, or_else, one_if, value, asks_sale, messages_of, own, first_of_three, approvals_in, facts_after, facts_of, IsEarlier, MayAsk, MaySell, last_value, news, sold_by, amount_by, config_by, own_messages}
 use Rattle.mdb_msgs.specs.declared.command.ReaderCommand.TheVariants as reader
 use Rattle.mdb_msgs.specs.declared.reply.reader.ReaderMsg.TheVariants as messages
 use Rattle.mdb_bus.specs.declared.act.Act.TheVariants as acts
-use Rattle.mdb_machine.specs.KnownMore.{known_more}
+use Rattle.mdb_cashless.specs.ReaderAmounts as reader_amounts
 use Rattle.mdb_cashless.specs.declared.approvals.sale.Sale.TheVariants.{Unknown, Asked}
+use Rattle.std.proofs.Math.Seq.{drop-nil}
+use Rattle.mdb_machine.specs.KnownMore.{known_more}
 use Rattle.mdb_cashless.specs.declared.approvals.state.ApprovalState.{ApprovalState}
 use Rattle.mdb_cashless.specs.ExtendedFacts.{Facts}
 use Rattle.mdb_cashless.specs.ExtendedReader.{AckStep, AskStep, ReaderStep, ReplyStep, VmcAckStep, read, sold, worth}
 use Rattle.mdb_cashless.specs.ExtendedAmounts.{unvalued, unvalued_by}
-use Rattle.mdb_cashless.specs.ReaderAmounts as reader_amounts
 use Rattle.mdb_cashless.specs.ReaderFacts.{known_of}
 use Rattle.mdb_late_start.proofs.Covering.{Covers as IsKnownToo}
 use Rattle.mdb_late_start.proofs.Keepers.{AlsoSteps, allowed_end, as_it_is, as_same, by_own}
-use Rattle.mdb_late_start.proofs.ExtendedSales.{IsEarlierSale, IsSaleThere, hears_here, there_asked, there_heard, there_nothing}
 use Rattle.mdb_late_start.proofs.ReaderPrices.{IsCounted, counted as base_counted, AreSaidPriced, IsPriced, IsSalePriced, Prices, approvals, config_with, prices_known, same_prices}
 use Rattle.mdb_late_start.proofs.ReaderOtherwise.{some_approved}
+
+-- How the sale stands in the whole (second), by how it stands in the end, where that asks no
+-- request.
+abbrev pub IsEarlierSale : Sale → Sale → Type 0
+IsEarlierSale Unknown there = Unit {0}
+IsEarlierSale Unawaited Unknown = ⊥
+IsEarlierSale Unawaited Awaited = ⊥
+IsEarlierSale Unawaited there = Unit {0}
+IsEarlierSale Nothing Nothing = Unit {0}
+IsEarlierSale Nothing Asked = Unit {0}
+IsEarlierSale Nothing (Approved amount) = Unit {0}
+IsEarlierSale (Sold item) there = there ≡ Sold item
+IsEarlierSale here there = ⊥
+
+-- and by whether it may have been requested before the end: else it is the same
+abbrev pub IsSaleThere : Bool → Sale → Sale → Type 0
+IsSaleThere true here there = IsEarlierSale here there
+IsSaleThere false here there = here ≡ there
+
+-- ---- so it stays with each act
+
+pub there_asked : (command : Option ReaderCommand) (earlier : Bool) (here there : Sale)
+    → IsSaleThere earlier here there
+    → IsSaleThere (not (is_request (own_transaction command)) && earlier) (sale_asked command here)
+    (sale_asked command there)
+there_asked (Some (reader.VendRequest price item)) earlier here there is = refl
+there_asked command false here there is = ap (sale_asked command) is
+there_asked (Some reader.VendCancel) true (Sold item) there is =
+    rw is tt
+there_asked (Some reader.VendCancel) true here Unknown is = search
+there_asked (Some reader.VendCancel) true here there is = search
+there_asked command true here there is = search
+
+-- after 00 and 06
+earlier_unawaited : (here there : Sale) → IsEarlierSale here there
+    → IsEarlierSale (unawaited here) (unawaited there)
+earlier_unawaited (Sold item) there is = ap unawaited is
+earlier_unawaited here Unknown is = search
+earlier_unawaited here there is = search
+
+-- after 05
+earlier_approved : (amount : ℕ) (here there : Sale) → IsEarlierSale here there
+    → IsEarlierSale (sale_heard (messages.VendApproved amount) here)
+    (sale_heard (messages.VendApproved amount) there)
+earlier_approved amount (Sold item) there is = ap (sale_heard (messages.VendApproved amount)) is
+earlier_approved amount here Unknown is = search
+earlier_approved amount here there is = search
+
+earlier_heard : (said : List ReaderMsg) (here there : Sale) → IsEarlierSale here there
+    → IsEarlierSale (sale_all_heard said here) (sale_all_heard said there)
+earlier_heard [] here there is = is
+earlier_heard (messages.JustReset ∷ said) here there is =
+    earlier_heard said (unawaited here) (unawaited there) (earlier_unawaited here there is)
+earlier_heard (messages.VendDenied ∷ said) here there is =
+    earlier_heard said (unawaited here) (unawaited there) (earlier_unawaited here there is)
+earlier_heard (messages.VendApproved amount ∷ said) here there is =
+    earlier_heard said (sale_heard (messages.VendApproved amount) here)
+    (sale_heard (messages.VendApproved amount) there) (earlier_approved amount here there is)
+earlier_heard (message ∷ said) here there is = earlier_heard said here there is
+
+pub there_heard : (said : List ReaderMsg) (earlier : Bool) (here there : Sale)
+    → IsSaleThere earlier here there
+    → IsSaleThere earlier (sale_all_heard said here) (sale_all_heard said there)
+there_heard said true here there is = earlier_heard said here there is
+there_heard said false here there is = ap (sale_all_heard said) is
+
+pub there_nothing : (earlier : Bool) → IsSaleThere earlier Nothing Nothing
+there_nothing true = tt
+there_nothing false = refl
+
+-- ---- what the controller hears
+
+-- where an approval may be awaited in the whole, it may be in the end
+awaits_here : (here there : Sale) → IsEarlierSale here there → IsSale there Awaited
+    → IsSale here Awaited
+awaits_here Unknown there is may = inr refl
+awaits_here (Sold item) there is may = rw is at may
+awaits_here here Unknown is may = absurd is
+awaits_here here Awaited is may = absurd is
+awaits_here here there is may = absurd cc
+
+-- so a sale that counts for an ACK in the whole has one in the end, which adds the same
+pub hears_here : (earlier : Bool) (here there sale : Sale) → IsSaleThere earlier here there
+    → IsSale there sale → (other : Sale) × IsSale here other
+    × ((config : Option ReaderConfig) (said : List ReaderMsg)
+    → approved_to config other said ≡ approved_to config sale said)
+hears_here false here there sale is may =
+    (sale, rw is may, λ config said. refl)
+hears_here true here there Awaited is may =
+    (Awaited, awaits_here here there is may, λ config said. refl)
+hears_here true Unknown there sale is may = (Nothing, inl refl, λ config said. refl)
+hears_here true Unawaited there sale is may = (Unawaited, refl, λ config said. refl)
+hears_here true Nothing there sale is may = (Nothing, refl, λ config said. refl)
+hears_here true (Sold item) there sale is may = (Sold item, refl, λ config said. refl)
+hears_here true here there sale is may = absurd is
 
 -- the prices after facts
 abbrev pub prices_of : Facts → Prices
@@ -109,19 +203,9 @@ none_in (message ∷ said) none = none_in said (omega (arith, none))
 
 none_new : (choice : Choice) (before : ApprovalState) (last new : List ℕ)
     → news choice before last [] ≡ Some new → new ≡ []
-none_new Again before last new is = by (may_be_either before last []) is
-  where
-    by : (either : Bool) → (if either then Some [] else None) ≡ Some new → new ≡ []
-    by true is = cc
-    by false is = absurd cc
+none_new Again before last new is = grind (arith, common_steps)
 none_new choice before last new is =
-    by (may_be_again before last [] && not (may_be_either before last [])) is
-  where
-    by : (again : Bool)
-        → (if again then Some (drop (length last) []) else Some []) ≡ Some new → new ≡ []
-    by true is =
-        let same : drop (length last) [] ≡ new = cc in sym same ∙ drop-nil (length last)
-    by false is = cc
+    grind (arith, common_steps, drop-nil {A = ℕ} (length last))
 
 same_new : (here there : Facts) (reply : Reply) (choice : Choice) (before : ApprovalState)
     (last new : List ℕ) → news choice before last (approvals_in (messages_of reply)) ≡ Some new
@@ -172,20 +256,21 @@ module _ (here there : Facts) (known : Covers here there) where
       × ((prices_of here ≡ prices_of there) × IsInEnd its → other ≡ its_worth)
 
   -- one that was requested before the whole
-  before_whole : (its_worth : ℕ) → IsEarlier there its_worth → IsEarlier here (last_value here)
-      × ((prices_of here ≡ prices_of there) → last_value here ≡ its_worth)
-  before_whole its_worth is = (
+  before_whole : (Else : Type 0) (its_worth : ℕ) → IsEarlier there its_worth
+      → (other : ℕ) × IsEarlier here other
+      × ((prices_of here ≡ prices_of there) × Else → other ≡ its_worth)
+  before_whole Else its_worth is = (
+    last_value here,
     (known.earlier is.0, refl),
-    λ same. ap (λ (p : Prices). value p.config p.amount) same ∙ sym is.1,
+    λ same. ap (λ (p : Prices). value p.config p.amount) same.0 ∙ sym is.1,
   )
 
-  none_or_before : {Else : Type 0} (its_worth : ℕ) → (its_worth ≡ 0) ⊎ IsEarlier there its_worth
+  none_or_before : (Else : Type 0) (its_worth : ℕ) → (its_worth ≡ 0) ⊎ IsEarlier there its_worth
       → (other : ℕ) × ((other ≡ 0) ⊎ IsEarlier here other)
       × ((prices_of here ≡ prices_of there) × Else → other ≡ its_worth)
-  none_or_before its_worth (inl none) = (0, inl refl, λ same. sym none)
-  none_or_before its_worth (inr earlier) =
-      let is = before_whole its_worth earlier in
-      (last_value here, inr is.0, λ same. is.1 same.0)
+  none_or_before Else its_worth (inl none) = (0, inl refl, λ same. sym none)
+  none_or_before Else its_worth (inr earlier) =
+      let is = before_whole Else its_worth earlier in (is.0, inr is.1, is.2)
 
   -- by the same sale
   sells_same : (item : ℕ) (sale : Sale) (its_worth : ℕ) → MaySell there item sale its_worth
@@ -197,12 +282,11 @@ module _ (here there : Facts) (known : Covers here there) where
   )
   sells_same item (Sold last) its_worth (inl may) = (0, inl (may.0, refl), λ same. sym may.1)
   sells_same item (Sold last) its_worth (inr may) =
-      let is = before_whole its_worth may.1 in
-      (last_value here, inr (may.0, is.0), λ same. is.1 same.0)
-  sells_same item Unknown its_worth may = none_or_before its_worth may
-  sells_same item Unawaited its_worth may = none_or_before its_worth may
-  sells_same item sale its_worth may =
-      let is = before_whole its_worth may in (last_value here, is.0, λ same. is.1 same.0)
+      let is = before_whole (IsInEnd (Sold last)) its_worth may.1 in
+      (is.0, inr (may.0, is.1), is.2)
+  sells_same item Unknown its_worth may = none_or_before _ its_worth may
+  sells_same item Unawaited its_worth may = none_or_before _ its_worth may
+  sells_same item sale its_worth may = before_whole _ its_worth may
 
   -- by one that was requested before the end
   not_approved : {X : Type 0} (amount : ℕ) → here.earlier ≡ true → IsInEnd (Approved amount) → X
@@ -216,11 +300,11 @@ module _ (here there : Facts) (known : Covers here there) where
       × ((prices_of here ≡ prices_of there) × IsInEnd its → other ≡ its_worth)
   sells_either item (Approved amount) its_worth earlier may =
       (last_value here, inr (earlier, refl), λ same. not_approved amount earlier same.1)
-  sells_either item (Sold last) its_worth earlier (inl may) = none_or_before its_worth (inl may.1)
-  sells_either item (Sold last) its_worth earlier (inr may) = none_or_before its_worth (inr may.1)
-  sells_either item Unknown its_worth earlier may = none_or_before its_worth may
-  sells_either item Unawaited its_worth earlier may = none_or_before its_worth may
-  sells_either item its its_worth earlier may = none_or_before its_worth (inr may)
+  sells_either item (Sold last) its_worth earlier (inl may) = none_or_before _ its_worth (inl may.1)
+  sells_either item (Sold last) its_worth earlier (inr may) = none_or_before _ its_worth (inr may.1)
+  sells_either item Unknown its_worth earlier may = none_or_before _ its_worth may
+  sells_either item Unawaited its_worth earlier may = none_or_before _ its_worth may
+  sells_either item its its_worth earlier may = none_or_before _ its_worth (inr may)
 
   sells : (item : ℕ) (is_earlier : Bool) (sale its : Sale) (its_worth : ℕ)
       → here.earlier ≡ is_earlier → IsSaleThere is_earlier sale its

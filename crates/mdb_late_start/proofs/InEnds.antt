@@ -1,7 +1,7 @@
 -- What a device does in the course of a recording is a way of its end by itself, and gains the same
 -- there where its amounts have a value. Foreign words in front change nothing. Lists of acts and of
 -- pieces stand newest first.
-use Rattle.mdb_late_start.proofs.Words.{ap, refl, sym, ◌≡◌, List, [], ◌∷◌, ◌++◌, if◌then◌else◌, Event, Device, Setups, Act, Joined, Profile, has_part, with_foreign, own_acts, Arrives, StateOf, machine_of, Sums, Piece, Whole, acts_of, Beginning, Loss, AllSums, IsWay, States, RunGoesOnThrough, inl, Command, at_first, Scope, AnswersLast, ArePieces, Asked, position_of, ◌∙◌, ℕ, arith, slice_index, profile_of, Gains, unvalued_of, added, no_sums, AccountSums, both_sums, HasToldWhatItHolds, MayJoinLate, TellsOnlyWhatIsSo, Machine, fun_ext, Base, Extended, both_accounts, EndLaws}
+use Rattle.mdb_late_start.proofs.Words.{ap, refl, sym, ◌≡◌, List, [], ◌∷◌, ◌++◌, if◌then◌else◌, Event, Device, Setups, Act, Joined, Profile, has_part, with_foreign, own_acts, Arrives, StateOf, machine_of, Sums, Piece, Whole, acts_of, Beginning, Loss, AllSums, IsWay, States, RunGoesOnThrough, inl, Command, at_first, Scope, AnswersLast, ArePieces, Asked, position_of, ◌∙◌, arith, profile_of, Gains, unvalued_of, added, no_sums, both_sums, HasToldWhatItHolds, MayJoinLate, TellsOnlyWhatIsSo, Machine, fun_ext, Base, Extended, EndLaws}
 use Rattle.mdb_bus.specs.declared.act.Act.TheVariants as acts
 use Rattle.mdb_msgs.specs.declared.command.Device.TheVariants as devices
 use Rattle.mdb_machine.specs.shared.OwnWays.{with_other, with_own}
@@ -119,23 +119,12 @@ all_answer scope (piece ∷ pieces) are = all_answer scope pieces are.2
 
 -- with nothing, sums are what they are
 and_nothing : (sums : Sums) → sums ≡ both_sums sums no_sums
-and_nothing sums = fun_ext (λ slot. nothing (sums slot))
-  where
-    nothing : (one : AccountSums) → one ≡ both_accounts one (record { device = 0; controller = 0 })
-    nothing one = simp add-zero
+and_nothing sums = fun_ext (λ slot. simp add-zero)
 
 -- gains add to the second part
 and_gains : (one other : Sums) (gains : Gains)
     → added (both_sums one other) gains ≡ both_sums one (added other gains)
-and_gains one other gains = fun_ext (λ slot. together (one slot) (other slot)
-    (slice_index gains.device slot) (slice_index gains.controller slot))
-  where
-    together : (one other : AccountSums) (device controller : ℕ)
-        → both_accounts (both_accounts one other)
-        (record { device = device; controller = controller })
-        ≡ both_accounts one (both_accounts other
-        (record { device = device; controller = controller }))
-    together one other device controller = simp add_assoc
+and_gains one other gains = fun_ext (λ slot. simp add_assoc)
 
 -- where acts leave no amount without a value, the acts before the last leave none
 valued_before : (setups : Setups) (profile : Profile) (device : Device) (act : Act)

@@ -4,13 +4,10 @@ pub mod CutWords
 pub mod Cutting
 pub mod EndRuns
 pub mod EndVerdicts
-pub mod ExtendedSales
 pub mod ExtendedSteps
 pub mod FromPowerOn
 pub mod InEnds
 pub mod Keepers
-pub mod LessTold
-pub mod Middles
 pub mod OpenEnds
 pub mod OpenFaults
 pub mod ReaderOtherwise

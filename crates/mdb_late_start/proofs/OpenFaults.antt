@@ -6,7 +6,7 @@ use Rattle.mdb_msgs.specs.declared.fault.MsgFault.TheVariants.{Message, Profile 
 use Rattle.mdb_bus.specs.declared.act.Act.TheVariants as acts
 use Rattle.mdb_bus.specs.declared.fault.Rule.TheVariants as rule
 use Rattle.mdb_late_start.proofs.Cutting.{AllFitAlone, ComesAlone, Cutting, alone, anew_still, splits}
-use Rattle.mdb_late_start.proofs.LessTold.{by_profile}
+use Rattle.mdb_late_start.proofs.ToldCuts.{by_profile}
 use Rattle.mdb_late_start.proofs.OpenEnds.{LinkLaws, fit_by_base, format_alone, known_in_reply, reply_fits_there, reply_tail, IsLess, may_reply, some_events}
 use Rattle.mdb_bus.specs.ExtendedHaste.{counted_in, haste_of}
 

@@ -57,10 +57,8 @@ pub all_priced : (unit : ReaderUnit) (one other : Prices) (act : Act) → one �
     → IsPriced unit one other act
 all_priced unit one other (acts.Ask c) same = λ its is. inr same
 all_priced unit one other (acts.Ack c) same = λ its is. inr same
-all_priced unit one other (acts.Reply c r) same =
-    λ its is. (inr same, inr (ap (λ (p : Prices). config_with r p.config) same))
-all_priced unit one other (acts.VmcAck c r) same =
-    λ its is. inr (ap (λ (p : Prices). p.config) same)
+all_priced unit one other (acts.Reply c r) same = λ its is. (inr same, inr (cc))
+all_priced unit one other (acts.VmcAck c r) same = λ its is. inr (cc)
 all_priced unit one other act same = tt
 
 -- ---- what is known
@@ -159,14 +157,6 @@ module _ (unit : ReaderUnit) (begins : Beginning) where
           (last_told (config_by unit) (again ++ Replied))
           (known_before (λ setups. config_known setups unit) begins) (known_after again some)
 
-      -- so it is where the controller acknowledges the reply
-      acked_known : (again : List Act) → IsValued (again ++ Replied)
-          → (approvals (messages_of reply) ≡ 0) ⊎ IsSome (known_config (again ++ Replied))
-      acked_known again none = elim (reply_known (rest_valued again Replied none)) [
-        | inl nothing ↦ inl nothing
-        | inr some ↦ inr (known_after again some)
-      ]
-
   -- ---- the same prices
 
   abbrev pub prices_known : List Act → Prices
@@ -205,11 +195,12 @@ module _ (unit : ReaderUnit) (begins : Beginning) where
         ],
       )
   priced later whole (acts.VmcAck c r) count answers none =
-      λ its is. elim (acked_known c its is r answers.before answers.again
-      (rw answers.order at (rest_valued (acts.VmcAck c r ∷ []) later none))) [
+      λ its is. elim (reply_known c its is r answers.before
+      (rest_valued answers.again (acts.Reply c r ∷ answers.before)
+      (rw answers.order at (rest_valued (acts.VmcAck c r ∷ []) later none)))) [
         | inl nothing ↦ inl nothing
         | inr some ↦ inr (same_after None (known_config later) whole.config count.config
-            (rw answers.order some))
+            (rw answers.order (known_after c its is r answers.before answers.again some)))
       ]
   priced later whole act count answers none = tt
 

@@ -1,5 +1,5 @@
 -- The names of std, of the crates below and of this crate's specs that its proofs share.
-pub use Rattle.std.proofs.Common.{All, Bool, Err, List, None, Ok, Option, Result, Some, [], ap, append_assoc, arith, drop, false, if◌then◌else◌, inl, inr, length, map, nat_lt, not, option_map, refl, slice_index, subst, suc, sum, sum_by, sym, true, unwrap_or, zero, ℕ, ℤ, ◌%◌, ◌&&◌, ◌++◌, ◌+◌, ◌<◌, ◌||◌, ◌∙◌, ◌∷◌, ◌≡◌, ◌≢◌, ◌≤◌, ◌⊎◌}
+pub use Rattle.std.proofs.Common.{All, Bool, Err, List, None, Ok, Option, Result, Some, [], ap, append_assoc, arith, false, if◌then◌else◌, inl, inr, length, map, nat_lt, not, option_map, refl, subst, suc, sum, sum_by, sym, true, unwrap_or, zero, ℕ, ℤ, ◌%◌, ◌&&◌, ◌++◌, ◌+◌, ◌<◌, ◌||◌, ◌∙◌, ◌∷◌, ◌≡◌, ◌≢◌, ◌≤◌, ◌⊎◌}
 pub use Rattle.std.proofs.Math.Path.{fun_ext}
 pub use Rattle.std.proofs.lemmas.Grind.{common_steps}
 pub use Rattle.std.proofs.lemmas.List.{append-nil, append_cancel_right, length-append, same_from_push}
@@ -61,7 +61,7 @@ pub use Rattle.mdb_machine.specs.declared.choice.Choice.TheVariants.{Again, Lost
 pub use Rattle.mdb_machine.specs.declared.gains.Gains.{Gains}
 pub use Rattle.mdb_machine.specs.declared.kept.Part.{Part}
 pub use Rattle.mdb_cashless.specs.ExtendedFacts.{approvals_in, facts_after, facts_of, sale_all_heard, sale_asked, sale_heard, unawaited}
-pub use Rattle.mdb_cashless.specs.ExtendedReader.{IsEarlier, IsSale, MayAsk, MaySell, approved_to, last_value, may_be_again, may_be_either, news, sold_by}
+pub use Rattle.mdb_cashless.specs.ExtendedReader.{IsEarlier, IsSale, MayAsk, MaySell, approved_to, last_value, news, sold_by}
 pub use Rattle.mdb_cashless.specs.Reader.{all_approved, all_approved_to, approved, before_messages, is_repeated, power_on, sold_any, sold_to, take, taken, value, view_answered}
 pub use Rattle.mdb_cashless.specs.ReaderAmounts.{asks_sale}
 pub use Rattle.mdb_cashless.specs.ReaderFacts.{amount_by, config_by, effect_of_own, messages_by, own_messages, own_transaction, taken_told}
@@ -77,11 +77,11 @@ pub use Rattle.mdb_follow.specs.LeavingOut.{AreSumsWithout, IsNotKnown}
 pub use Rattle.mdb_follow.specs.Machines.{StateOf, machine_of}
 pub use Rattle.mdb_follow.specs.Report.{IsReport, device_unvalued, unvalued_of}
 pub use Rattle.mdb_follow.specs.Runs.{AllSums, IsReached, IsWay, Run, States}
-pub use Rattle.mdb_follow.specs.Sums.{AccountSums, Sums, added, no_sums}
+pub use Rattle.mdb_follow.specs.Sums.{Sums, added, no_sums}
 pub use Rattle.mdb_follow.specs.declared.report.Report.{Report}
 pub use Rattle.mdb_late_start.specs.Alone.{IsLessKnown, IsReadAlone, IsYesOrByProfile, MayBeReadAlone, TellsLevelsOfFront, TellsRecordsOfFront}
 pub use Rattle.mdb_late_start.specs.Cuts.{BeginAnew, IsBreakEvent, SplitsAt, joined_with}
-pub use Rattle.mdb_late_start.specs.Ends.{AreAlike, CameToWithin, IsInside, Passes, RunGoesOnThrough, both_accounts, both_sums}
+pub use Rattle.mdb_late_start.specs.Ends.{AreAlike, CameToWithin, IsInside, Passes, RunGoesOnThrough, both_sums}
 pub use Rattle.mdb_late_start.specs.MidSession.{AnswersLast, GoesOnInEnd, HasTold, HasToldByProfile, HasToldWhatItHolds, IsNothingOr, MayJoinLate, TellsOnlyWhatIsSo}
 pub use Rattle.mdb_late_start.specs.Middle.{HasMiddle}
 pub use Rattle.mdb_late_start.specs.Told.{AreToldBy, IsLessTold, WereTold, told_later}

@@ -126,6 +126,7 @@ pub fn a_reader_stays_in_mid_session()
 {}
 
 /// What the laws of runs rest on.
+#[tactic(auto, using(crate::proofs::Readers::each_stays))]
 fn end_laws()
     ensures { EndLaws }
 {

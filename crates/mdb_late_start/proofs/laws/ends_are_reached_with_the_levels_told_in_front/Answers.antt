@@ -3,5 +3,4 @@ use Rattle.mdb_late_start.proofs.EndRuns.{end_reached}
 use Rattle.mdb_late_start.proofs.laws.ends_are_reached_with_the_levels_told_in_front.Goals as goal
 
 pub returns : goal.returns
-returns c = λ scope setups levels front end may.
-    end_reached c.end_laws.ensures scope setups levels front end
+returns c = end_reached c.end_laws.ensures
