@@ -114,14 +114,6 @@ pub record FrontLeads (goal : Goal) (act : Act) (row count : ℕ) (old mid : All
       → paths_in mid device ≡ paths_in old device
   pub kept : KeepChains old.chains.links.items mid.chains.links.items
 
-pub front-starts : (goal : Goal) (act : Act) (row : ℕ) (all : AllPaths)
-    → FrontLeads goal act row 0 all all
-front-starts goal act row all = record {
-  gone = λ device less. absurd (omega (arith, less));
-  waiting = λ device above. refl;
-  kept = keep-same;
-}
-
 module _ {goal : Goal} {act : Act} {row count : ℕ} {old mid : AllPaths} (d : Device)
     (within : count < 4) (front : FrontLeads goal act row count old mid) where
   abbrev Next : Device

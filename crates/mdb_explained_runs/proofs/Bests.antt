@@ -1,5 +1,5 @@
 -- What is as good as what, and entries that are taken in.
-use Rattle.mdb_explained_runs.proofs.Words.{arith, inl, inr, refl, sym, subst, ap, ◌∙◌, ◌≡◌, ◌≢◌, ◌⊎◌, ◌+◌, ◌<◌, ◌≤◌, ℕ, ℤ, ◌+ℤ◌, List, [], ◌∷◌, ◌++◌, length, set, get_or, Contains, cases_eq, ints, Contains-append_left, Contains-push, Contains-push_cases, Best, Choice, Plain, marks_at, HasAsGood, contains-cases, contains-here, HasCodeAt, IsAsGood, IsBestOf, TakesIn, get_or-set_other, get_or-set_same, get_or_default, length-set, contains-none}
+use Rattle.mdb_explained_runs.proofs.Words.{arith, inl, inr, refl, sym, subst, ap, ◌∙◌, ◌≡◌, ◌≢◌, ◌⊎◌, ◌+◌, ◌<◌, ◌≤◌, ℕ, ℤ, ◌+ℤ◌, List, [], ◌∷◌, ◌++◌, length, set, get_or, Contains, cases_eq, ints, Contains-append_left, Contains-push, Contains-push_cases, Best, Choice, Plain, marks_at, HasAsGood, HasCodeAt, IsAsGood, IsBestOf, TakesIn, get_or-set_other, get_or-set_same, get_or_default, length-set, contains-none}
 
 -- a best is as good as another
 abbrev pub IsAsGoodAs : Best → Best → Type 0
@@ -125,37 +125,33 @@ pub marks-most : (row : ℕ) (one choice : Choice) → choice ≢ Plain
 marks-most row one Plain not = absurd (not refl)
 marks-most row one choice not = marks-few row one
 
--- one alone is the best
-pub best-alone : (code : ℕ) (best : Best) → IsBestOf ((code, best) ∷ []) best
-best-alone code best = record {
-  code = code;
-  listed = contains-here (code, best) [] (code, best) refl;
-  least = λ entry has. elim (contains-cases (code, best) [] entry has) [
-    | inl same ↦ subst (λ e. IsAsGoodAs best e.1) same (as_good-same best)
-    | inr none ↦ absurd (contains-none entry none)
-  ];
-}
-
-module _ {entries : List (ℕ × Best)} {best : Best} (is : IsBestOf entries best)
-    (entry : ℕ × Best) where
-  -- with one more the best stays, where it is as good
-  pub best-stays : IsAsGoodAs best entry.1 → IsBestOf (entries ++ entry ∷ []) best
-  best-stays good = record {
-    code = is.code;
-    listed = Contains-append_left entries (entry ∷ []) (is.code, best) is.listed;
+module _ (entries : List (ℕ × Best)) (entry : ℕ × Best) where
+  -- what is as good as all entries is the best with one more, where it is as good as that
+  best-more : {best : Best} (code : ℕ) → Contains (entries ++ entry ∷ []) (code, best)
+      → ((one : ℕ × Best) → Contains entries one → IsAsGoodAs best one.1)
+      → IsAsGoodAs best entry.1 → IsBestOf (entries ++ entry ∷ []) best
+  best-more {best} code listed least good = record {
+    code = code;
+    listed = listed;
     least = λ one has. elim (Contains-push_cases entries entry one has) [
-      | inl old ↦ is.least one old
+      | inl old ↦ least one old
       | inr same ↦ subst (λ e. IsAsGoodAs best e.1) same good
     ];
   }
 
+  -- so the best so far stays, where it is as good
+  pub best-stays : {best : Best} → IsBestOf entries best → IsAsGoodAs best entry.1
+      → IsBestOf (entries ++ entry ∷ []) best
+  best-stays {best} is = best-more is.code
+      (Contains-append_left entries (entry ∷ []) (is.code, best) is.listed) is.least
+
   -- and else the one more is the best
-  pub best-goes : IsAsGoodAs entry.1 best → IsBestOf (entries ++ entry ∷ []) entry.1
-  best-goes good = record {
-    code = entry.0;
-    listed = Contains-push entries entry;
-    least = λ one has. elim (Contains-push_cases entries entry one has) [
-      | inl old ↦ as_good-then good (is.least one old)
-      | inr same ↦ subst (λ e. IsAsGoodAs entry.1 e.1) same (as_good-same entry.1)
-    ];
-  }
+  pub best-goes : {best : Best} → IsBestOf entries best → IsAsGoodAs entry.1 best
+      → IsBestOf (entries ++ entry ∷ []) entry.1
+  best-goes is good = best-more entry.0 (Contains-push entries entry)
+      (λ one old. as_good-then good (is.least one old)) (as_good-same entry.1)
+
+-- one alone is the best
+pub best-alone : (code : ℕ) (best : Best) → IsBestOf ((code, best) ∷ []) best
+best-alone code best = best-more [] (code, best) code (Contains-push [] (code, best))
+    (λ one has. absurd (contains-none one has)) (as_good-same best)

@@ -202,13 +202,6 @@ pub rise_cases : (first mark : ℕ × Mark) (others : List (ℕ × Mark)) → Ri
 rise_cases first mark others rise has =
     grind (arith, contains-cases first others mark has, later_in first mark others rise)
 
--- the first mark of two lists with the same elements is one
-same_first : (one other : ℕ × Mark) (ones others : List (ℕ × Mark)) → Rise (one ∷ ones)
-    → Rise (other ∷ others) → Contains (other ∷ others) one → Contains (one ∷ ones) other
-    → one ≡ other
-same_first one other ones others rise also has back =
-    grind (arith, rise_cases other one others also has, rise_cases one other ones rise back)
-
 -- the other elements are the same too
 in_others : (one other : ℕ × Mark) (ones others : List (ℕ × Mark)) → Rise (one ∷ ones)
     → one ≡ other
@@ -230,9 +223,11 @@ rising_one [] (other ∷ others) rise also same =
 rising_one (one ∷ ones) [] rise also same =
     absurd (contains-none one ((same one).0 (contains-here one ones one refl)))
 rising_one (one ∷ ones) (other ∷ others) rise also same =
-    let first = same_first one other ones others rise also
-    ((same one).0 (contains-here one ones one refl))
-    ((same other).1 (contains-here other others other refl)) in
+    let first : one ≡ other = grind (
+      arith,
+      rise_cases other one others also ((same one).0 (contains-here one ones one refl)),
+      rise_cases one other ones rise ((same other).1 (contains-here other others other refl)),
+    ) in
     let rest = rising_one ones others rise.1 also.1 (λ mark. (
       in_others one other ones others rise first (λ m. (same m).0) mark,
       in_others other one others ones also (sym first) (λ m. (same m).1) mark,

@@ -58,6 +58,7 @@ pub fn marks_rise()
 /// Each mark is of one device: those of the devices are together as many as all, and each of all is
 /// among those of some device. The rows of each device's marks rise too, and no two devices have a
 /// mark at one row.
+#[tactic(auto, using(crate::proofs::OwnMarks::all_together, crate::proofs::OwnMarks::in_own, crate::proofs::OwnMarks::own_rise))]
 pub fn marks_are_of_devices()
     ensures count { (pieces : List Piece) (chosen : Choices (acts_of pieces))
         → length (marks_of pieces chosen)

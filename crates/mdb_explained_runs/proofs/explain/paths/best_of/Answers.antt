@@ -10,9 +10,9 @@ loop-other-init g c code = best-alone code _
 pub loop-other-preserved : goal.loop-other-preserved
 loop-other-preserved g c code =
     rw (take_more _ _ (0, no_path) c.loop-other-test.true) (elim c.if-is_worse_than.branch [
-      | then-is_worse_than w ↦ rw w.best-is (best-goes (c.loop-other.invariant code) _
+      | then-is_worse_than w ↦ rw w.best-is (best-goes _ _ (c.loop-other.invariant code)
           w.if-is_worse_than.ensures.worse)
-      | else-is_worse_than w ↦ rw w.best-is (best-stays (c.loop-other.invariant code) _
+      | else-is_worse_than w ↦ rw w.best-is (best-stays _ _ (c.loop-other.invariant code)
           w.if-is_worse_than.ensures.not)
     ])
 

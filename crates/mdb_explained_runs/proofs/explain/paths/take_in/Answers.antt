@@ -1,6 +1,6 @@
 -- A way that goes on is taken in, or one that is as good stays.
 use Rattle.mdb_explained_runs.proofs.Words.{arith, ap, refl, sym, ◌+◌, w64, to_z-of_z, ints}
-use Rattle.mdb_explained_runs.proofs.Bests.{has-push, has-set, has-still, takes-push, takes-same, takes-set, good-read, marks-few}
+use Rattle.mdb_explained_runs.proofs.Bests.{has-push, has-set, has-still, takes-push, takes-set, good-read, marks-few}
 use Rattle.mdb_explained_runs.proofs.explain.paths.take_in.Goals as goal
 
 pub overflow_add-marks : goal.overflow_add-marks
@@ -31,9 +31,6 @@ returns-in_ok-push-in-None-clause-has g c =
     let marks = c.marks_of.ensures c.args.row in
     rw c.in_ok-push-in-None.ensures.items
     (has-push c.args.room.now.entries.items c.args.code _ (omega (arith, ints)))
-
-pub returns-then-not-is_beaten_by-clause-takes : goal.returns-then-not-is_beaten_by-clause-takes
-returns-then-not-is_beaten_by-clause-takes g c = takes-same c.args.room.now.entries.items
 
 pub returns-then-not-is_beaten_by-clause-has : goal.returns-then-not-is_beaten_by-clause-has
 returns-then-not-is_beaten_by-clause-has g c =

@@ -1,12 +1,9 @@
 -- A break leads the paths of each device, one after the other.
 use Rattle.mdb_explained_runs.proofs.Words.{◌^◌}
 use Rattle.mdb_msgs.specs.declared.command.Device.TheVariants.{Changer}
-use Rattle.mdb_explained_runs.proofs.AllPaths.{all-led, all-within, front-all, front-fits, front-more, front-none, front-stands, front-starts}
+use Rattle.mdb_explained_runs.proofs.AllPaths.{all-led, all-within, front-all, front-fits, front-more, front-none, front-stands}
 use Rattle.mdb_explained_runs.proofs.Chains.{keep-then}
 use Rattle.mdb_explained_runs.proofs.explain.all_paths.AllPaths.lead_all.Goals as goal
-
-pub loop-device-init : goal.loop-device-init
-loop-device-init c = front-starts _ _ _ _
 
 pub lead_one-requires : goal.lead_one-requires
 lead_one-requires c =
