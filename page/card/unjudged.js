@@ -122,7 +122,7 @@ const hasAmounts = ([first, second]) =>
 // Where the extended profile doesn't follow a reader since its level (`what`) isn't known, or whether its amounts have
 // four bytes (`options`): what isn't known, of which reader, and the row with its block. Else null.
 /** @type {(it: Answer) => Unknown | null} */
-export function unknownOf(it) {
+function unknownOf(it) {
   const {answer, way, row} = it, isJoined = way.bytes[layout.options.joined] > 0;
   if (answer !== ANSWERS.NO || it.report.rule !== "Profile" || !isExtended(way) || !isJoined) return null;
   const isCommand = it.report.blame === "controller", block = blockOf(rowsNear(it), row), bytes = bytesOf(block);

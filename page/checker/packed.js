@@ -6,10 +6,10 @@ import {layout} from "./layout.js";
 // The kinds of the two acts of such a poll, and of words of devices that aren't followed.
 const ASK = 0, ACK = 1, FOREIGN = 8;
 // The blocks of POLL, by device.
-export const POLL_BLOCKS = [0, 0x0B, 0x33, 0x12, 0x62].map((byte) => Uint8Array.of(byte, byte));
+const POLL_BLOCKS = [0, 0x0B, 0x33, 0x12, 0x62].map((byte) => Uint8Array.of(byte, byte));
 // A poll has four words: its first row; when that was, in two words, the second with the device in its upper byte; and
 // in two halves of a word, how long after it its second row and its ACK were.
-export const POLL_WORDS = 4;
+const POLL_WORDS = 4;
 // So many records, and so many polls, the first acts have at most, and the last ones and those before them.
 const MOST = 400000, MOST_POLLS = 4000000;
 const DEVICE_SHIFT = 24, MOST_DELAY = 65535, WORD = 4294967296;

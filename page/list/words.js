@@ -215,11 +215,22 @@ function mediaWords(m) {
 
 const statusWords = (status) => `, status ${hex(status)}${OUT_OF[status] ? ` (${OUT_OF[status]})` : ""}`;
 
+// What a reader's messages without data say.
+/** @type {Record<number, string>} */
+const READER_WORDS = {
+  0: "just reset",
+  4: "asks to end the session",
+  6: "vend denied",
+  7: "end session",
+  8: "cancelled",
+  13: "revalue approved",
+  14: "revalue denied",
+  17: "asks for time and date"
+};
+
 /** @type {(message: ByteList, setup: Setup | null) => string} */
 export function readerWords(m, setup) {
   switch (m[0]) {
-    case 0:
-      return "just reset";
     case 1:
       return `config: level ${m[1]}, country or currency ${hex(m[2])}${hex(m[3])}, scale ${m[4]}, ${
           m[5]} decimals, answers within ${m[6]} s`;
@@ -229,32 +240,18 @@ export function readerWords(m, setup) {
     case 3:
       return `begin session, funds ${two(m, 1) === 65535 ? "not given" : amountWords(setup, two(m, 1))}${
           mediaWords(m)}`;
-    case 4:
-      return "asks to end the session";
     case 5:
       return `vend approved, ${amountWords(setup, two(m, 1))}`;
-    case 6:
-      return "vend denied";
-    case 7:
-      return "end session";
-    case 8:
-      return "cancelled";
     case 9:
       return `peripheral ID${m.length > 30 ? ", options: " + optionWords(m, 30) : ""}`;
     case 10:
       return `malfunction ${hex(m[1])}`;
     case 11:
       return `command out of sequence${m.length > 1 ? statusWords(m[1]) : ""}`;
-    case 13:
-      return "revalue approved";
-    case 14:
-      return "revalue denied";
     case 15:
       return `revalue limit ${amountWords(setup, two(m, 1))}`;
-    case 17:
-      return "asks for time and date";
     default:
-      return hex(m[0]);
+      return READER_WORDS[m[0]] ?? hex(m[0]);
   }
 }
 

@@ -38,30 +38,32 @@ function differenceWords(name, {difference: [low, high]}, d, isCut) {
       least === most ? abs(least) : `${abs(least)} to ${abs(most)}`} more.`;
 }
 
+// The bars of a drawing begin here, and are so wide.
+const LEFT = 92, WIDE = 388;
+
+// A range as a bar, number `i` from above, with its name.
+/** @type {(side: string, i: number, from: number, to: number) => SVGElement[]} */
+function barOf(side, i, from, to) {
+  const y = 8 + i * 28, x = Math.max(LEFT, Math.min(from, LEFT + WIDE - 4) - (to - from < 4 ? 2 : 0));
+  return [
+    s("text", {x: 0, y: y + 14, class: "faint"}, side),
+    s("rect", {x: LEFT, y: y + 8, width: WIDE, height: 2, class: "hole"}),
+    s("rect", {x, y, width: Math.max(4, to - from), height: 18, rx: 2, class: side})
+  ];
+}
+
 // The three ranges as bars on one scale.
 /** @type {(name: string, a: Account, d: number) => SVGElement} */
 function bars(name, a, d) {
   /** @type {bigint[]} */
   const all = [0n, ...a.device, ...a.controller, ...a.difference];
   const low = all.reduce((x, y) => x < y ? x : y), high = all.reduce((x, y) => x > y ? x : y);
-  const span = high - low || 1n, LEFT = 92, WIDE = 388;
+  const span = high - low || 1n;
   /** @type {(n: bigint) => number} */
   const x = (n) => LEFT + Number((n - low) * 100000n / span) / 100000 * WIDE;
-  const label = ["device", "controller", "difference"].map((side) => `${side} ${rangeWords(a[side], d)}`).join(", ");
+  const label = SIDES.map((side) => `${side} ${rangeWords(a[side], d)}`).join(", ");
   const made = s("svg", {viewBox: "0 0 500 118", role: "img", "aria-label": `${ACCOUNTS[name].title}: ${label}`});
-  ["device", "controller", "difference"].forEach((side, i) => {
-    const y = 8 + i * 28, from = x(a[side][0]), to = x(a[side][1]);
-    made.append(s("text", {x: 0, y: y + 14, class: "faint"}, side));
-    made.append(s("rect", {x: LEFT, y: y + 8, width: WIDE, height: 2, class: "hole"}));
-    made.append(s("rect", {
-      x: Math.max(LEFT, Math.min(from, LEFT + WIDE - 4) - (to - from < 4 ? 2 : 0)),
-      y,
-      width: Math.max(4, to - from),
-      height: 18,
-      rx: 2,
-      class: side
-    }));
-  });
+  SIDES.forEach((side, i) => made.append(...barOf(side, i, x(a[side][0]), x(a[side][1]))));
   const zero = x(0n);
   made.append(s("line", {x1: zero, x2: zero, y1: 2, y2: 92, class: "axis"}));
   const ticks = [...new Set([low, 0n, high])];
