@@ -1,5 +1,5 @@
 -- What the changer does, it may do in mid-session: what is so of its conduct.
-use Rattle.mdb_late_start.proofs.Words.{◌≡◌, ◌⊎◌, inl, inr, ℕ, ◌<◌, true, false, List, [], ◌∷◌, refl, ap, sym, ◌∙◌, ◌&&◌, if◌then◌else◌, map, AllByRecursion, Command, Reply, Setups, IsReply, Beginning, Choice, Gains, kept_of, MayJoinLate, controller_gains, device_gains, in_slots, no_gains}
+use Rattle.mdb_late_start.proofs.Words.{◌≡◌, ◌⊎◌, inl, inr, ℕ, ◌<◌, true, false, List, [], ◌∷◌, refl, ap, sym, ◌&&◌, if◌then◌else◌, map, AllByRecursion, Command, Reply, Setups, IsReply, Beginning, Choice, Gains, kept_of, MayJoinLate, controller_gains, device_gains, in_slots, no_gains}
 use Rattle.mdb_msgs.specs.declared.command.Device.TheVariants as devices
 use Rattle.mdb_msgs.specs.declared.reply.Reply.TheVariants as replies
 use Rattle.mdb_late_start.proofs.Keepers.{AlsoSteps, IsEnabledIn, IsSteady, as_it_is, in_end, recorded, step_in_end, told_first, told_on}
@@ -42,12 +42,10 @@ module _ (known : KnownFacts) (facts : Facts) where
   IsSame command = (known.setup ≡ facts.setup) ⊎ (asks_coins command ≡ false)
 
   -- so what an ask or an ACK comes to is the same
-  same_asked : (coins : ℕ) (gains_of : ℕ → Gains) → IsSame (changer.Dispense coins)
-      → gains_of (dispensed_value known.setup coins)
-      ≡ gains_of (dispensed_value facts.setup coins)
-  same_asked coins gains_of (inl same) =
-      ap (λ setup. gains_of (dispensed_value setup coins)) same
-  same_asked coins gains_of (inr none) = absurd cc
+  same_asked : (coins : ℕ) → IsSame (changer.Dispense coins)
+      → dispensed_value known.setup coins ≡ dispensed_value facts.setup coins
+  same_asked coins (inl same) = ap (λ setup. dispensed_value setup coins) same
+  same_asked coins (inr none) = absurd cc
 
   module _ (before after : ChangerState) (gains : Gains) where
     -- what the controller asks it may ask in the end
@@ -59,9 +57,7 @@ module _ (known : KnownFacts) (facts : Facts) where
           other = if again then no_gains
               else controller_gains (in_slots (0 ∷ dispensed_value known.setup coins ∷ []));
           step = (step.0, refl);
-          same = λ is. same_asked coins
-              (λ value. if again then no_gains else controller_gains (in_slots (0 ∷ value ∷ [])))
-              is ∙ sym step.1;
+          same = λ is. rw (same_asked coins is) (sym step.1);
         }
     ask_in_end _ step = as_it_is step
 
@@ -73,8 +69,7 @@ module _ (known : KnownFacts) (facts : Facts) where
     ack_in_end (changer.Dispense coins) choice step = record {
       other = device_gains (in_slots (0 ∷ dispensed_value known.setup coins ∷ []));
       step = (step.0, refl);
-      same = λ is. same_asked coins (λ value. device_gains (in_slots (0 ∷ value ∷ []))) is
-          ∙ sym step.1;
+      same = λ is. rw (same_asked coins is) (sym step.1);
     }
     ack_in_end changer.Reset choice step = as_it_is step
     ack_in_end _ choice step = as_it_is step

@@ -234,16 +234,16 @@ module _ {Own Setup Asked M State : Type 0} (tables : Tables Own Setup Asked M)
         none_told conduct.tells_amount (kept_of (tables.parts_of reply)) (rw is at none))
 
     -- so the sums over messages are the same
-    same_sums : (gains_of : (ℕ → ℕ) → Gains) (messages : List M) → OrSame (TellNone messages)
-        → gains_of (worth conduct ended messages) ≡ gains_of (worth conduct facts messages)
-    same_sums gains_of messages (inl same) =
-        ap (λ gain. gains_of (λ slot. sum_by (gain slot) messages)) (steady.gain ended facts same)
-    same_sums gains_of messages (inr none) =
+    same_sums : (messages : List M) → OrSame (TellNone messages)
+        → worth conduct ended messages ≡ worth conduct facts messages
+    same_sums messages (inl same) =
+        ap (λ gain slot. sum_by (gain slot) messages) (steady.gain ended facts same)
+    same_sums messages (inr none) =
         let nothing : (its : Facts Setup Asked M) (slot : ℕ)
         → sum_by (conduct.gain its slot) messages ≡ 0 =
         λ its slot. sum_none conduct.tells_amount (conduct.gain its slot) messages
         (steady.no_gain its slot) none in
-        ap gains_of (fun_ext (λ slot. nothing ended slot ∙ sym (nothing facts slot)))
+        fun_ext (λ slot. nothing ended slot ∙ sym (nothing facts slot))
 
     module _ (choice : Choice) (before after : State) (gains : Gains) where
       -- an ACK, of POLL or of another command, in the end
@@ -280,8 +280,8 @@ module _ {Own Setup Asked M State : Type 0} (tables : Tables Own Setup Asked M)
                   (among Fits fits) step.tells_news;
               gained = refl;
             };
-            same = λ is. same_sums device_gains step.news
-                (or_same (among (λ m. conduct.tells_amount m ≡ false)) is) ∙ sym step.gained;
+            same = λ is. ap device_gains (same_sums step.news
+                (or_same (among (λ m. conduct.tells_amount m ≡ false)) is)) ∙ sym step.gained;
           }
 
       -- the controller's ACK in the end
@@ -292,7 +292,7 @@ module _ {Own Setup Asked M State : Type 0} (tables : Tables Own Setup Asked M)
       vmc_ack_in_end true parts step = record {
         other = controller_gains (worth conduct ended (kept_of parts));
         step = record { to = step.to; gained = refl };
-        same = λ is. same_sums controller_gains (kept_of parts) is ∙ sym step.gained;
+        same = λ is. ap controller_gains (same_sums (kept_of parts) is) ∙ sym step.gained;
       }
       vmc_ack_in_end false parts step = as_it_is (record { to = step.to; gained = step.gained })
 

@@ -5,7 +5,6 @@ pub mod Cutting
 pub mod EndRuns
 pub mod EndVerdicts
 pub mod ExtendedSteps
-pub mod FromPowerOn
 pub mod InEnds
 pub mod Keepers
 pub mod OpenEnds

@@ -106,9 +106,8 @@ module _ (facts : Facts) (known : KnownFacts) (before after : ReaderState) (gain
   ask_otherwise its step = record {
     other = controller_gains (in_slots (amounts 0 (sold_to others its before.view)));
     step = record { view = step.view; device = step.device; holds = step.holds; gained = refl };
-    same = λ priced. ap (λ end. controller_gains (in_slots (amounts 0 end)))
-        (same_ended (reader_view.has_approved before.view) its (prices_of others)
-        (prices_of facts) priced) ∙ sym step.gained;
+    same = λ priced. rw (same_ended (reader_view.has_approved before.view) its (prices_of others)
+        (prices_of facts) priced) (sym step.gained);
   }
 
   -- what the reader sold is the same
@@ -131,8 +130,7 @@ module _ (facts : Facts) (known : KnownFacts) (before after : ReaderState) (gain
   ack_otherwise choice its step = record {
     other = device_gains (in_slots (amounts 0 (sold others its before)));
     step = record { poll = step.poll; to = step.to; gained = refl };
-    same = λ priced. ap (λ end. device_gains (in_slots (amounts 0 end)))
-        (same_sold its before priced) ∙ sym step.gained;
+    same = λ priced. rw (same_sold its before priced) (sym step.gained);
   }
 
   -- news approve the same, where there is no message 05 or they have the same value
@@ -173,11 +171,10 @@ module _ (facts : Facts) (known : KnownFacts) (before after : ReaderState) (gain
           holds = step.holds;
           gained = refl;
         };
-        same = λ priced. ap (λ n. device_gains (in_slots (amounts n end)))
-            (same_approved config its_config _ _ step.news reply step.has_news.new priced.1)
-            ∙ ap (λ e. device_gains (in_slots (amounts (all_approved its_config step.news) e)))
-            (same_sold_any (tells_out_of_sequence reply) its (read choice before) priced.0)
-            ∙ sym step.gained;
+        same = λ priced. rw (
+          same_approved config its_config _ _ step.news reply step.has_news.new priced.1,
+          same_sold_any (tells_out_of_sequence reply) its (read choice before) priced.0,
+        ) (sym step.gained);
       }
 
   same_heard : (view : View) (said : List ReaderMsg)
@@ -198,8 +195,7 @@ module _ (facts : Facts) (known : KnownFacts) (before after : ReaderState) (gain
         other =
             controller_gains (in_slots (amounts (all_approved_to others.config view said) no_end));
         step = record { to = step.to; gained = refl };
-        same = λ priced. ap (λ n. controller_gains (in_slots (amounts n no_end)))
-            (same_heard view said priced) ∙ sym step.gained;
+        same = λ priced. rw (same_heard view said priced) (sym step.gained);
       }
 
   -- so by each act

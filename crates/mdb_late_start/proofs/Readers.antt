@@ -138,9 +138,7 @@ module _ (unit : ReaderUnit) (begins : Beginning) where
       → HasToldByProfile (FactsBy profile (act ∷ so_far)) after
   goes_on_by profiles.Base so_far act choice (Base before) (Base after) gains told step =
       goes_on_told unit step.facts choice before after gains begins so_far act told step.step
-  goes_on_by profiles.Extended so_far act choice (Extended before) (Extended after) gains told
-      step =
-      tt
+  goes_on_by profiles.Extended _ _ _ (Extended before) (Extended after) _ _ _ = tt
   goes_on_by profile so_far act choice before after gains told step = absurd assumption
 
   module _ (setups : Setups) where

@@ -103,17 +103,13 @@ or_less (Some level) one other less = refl
 
 -- so less known of both stays so with an act
 pub known_by : (profile : Profile) → StaysBy profile IsLessKnown
-known_by profile (acts.Ask (commands.Reader First (readers.SetupConfig level _ _ _))) one other
-    less =
+known_by profile (acts.Ask (commands.Reader First (readers.SetupConfig level _ _ _))) _ _ less =
     search
-known_by profile (acts.Ask (commands.Reader Second (readers.SetupConfig level _ _ _))) one other
-    less =
+known_by profile (acts.Ask (commands.Reader Second (readers.SetupConfig level _ _ _))) _ _ less =
     search
-known_by Extended (acts.Reply (commands.Reader First command) (replies.Reader list)) one other
-    less =
+known_by Extended (acts.Reply (commands.Reader First command) (replies.Reader list)) _ _ less =
     search or_less
-known_by Extended (acts.Reply (commands.Reader Second command) (replies.Reader list)) one other
-    less =
+known_by Extended (acts.Reply (commands.Reader Second command) (replies.Reader list)) _ _ less =
     search or_less
 known_by profile act one other less = less
 

@@ -91,7 +91,7 @@ pub fn the_act_list_in_front_tells_the_levels()
 
 /// The act list of a recording from power-on is also that of the same rows, checked as a recording
 /// that begins while the machine was running, if they may be read by themselves so.
-#[tactic(auto, using(crate::proofs::FromPowerOn::joined_too))]
+#[tactic(auto, using(crate::proofs::EndRuns::joined_too))]
 pub fn act_lists_from_power_on_are_joined_ones()
     ensures { (profile : Profile) (setups : Setups) (without : DeviceSet) (pieces : List Piece)
         (rows : List Event) → MayBeReadAlone (from_power_on profile without) setups [] rows

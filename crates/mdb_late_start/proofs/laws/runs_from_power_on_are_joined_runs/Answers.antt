@@ -1,5 +1,5 @@
 -- Each run from power-on is one in mid-session.
-use Rattle.mdb_late_start.proofs.FromPowerOn.{run_joined}
+use Rattle.mdb_late_start.proofs.EndRuns.{run_joined}
 use Rattle.mdb_late_start.proofs.laws.runs_from_power_on_are_joined_runs.Goals as goal
 
 pub returns : goal.returns
