@@ -1,53 +1,40 @@
 -- How far the reading of a batch of rows has come.
-use Rattle.std.proofs.Common.{arith, refl, ap, sym, ◌∙◌, ◌≡◌, ◌+◌, ◌-◌, ◌^◌, ◌≤◌, ℕ, List, [], ◌∷◌, ◌++◌, Option, Bool, true, false, length, append_assoc}
+use Rattle.mdb_verdict.proofs.Words.{Advances, Bool, ComesAfter, FitsIn, HasRead, List, Next, Option, Records, RowFault, ToCome, [], ap, append_assoc, arith, current_fields, false, length, refl, sym, true, ℕ, ◌++◌, ◌+◌, ◌-◌, ◌^◌, ◌∙◌, ◌∷◌, ◌≡◌, ◌≤◌}
 use Rattle.std.proofs.Math.Nat.{min-le_left}
-use Rattle.mdb_words.specs.declared.row.RowFault.{RowFault}
-use Rattle.mdb_records.specs.declared.Records.{Records}
 use Rattle.mdb_records.specs.Found.{count_after}
-use Rattle.mdb_records.specs.ToCome.{Advances, ToCome, current_fields}
-use Rattle.mdb_verdict.specs.declared.batch.Next.{Next}
 use Rattle.mdb_verdict.specs.declared.batch.Next.TheVariants.{More}
-use Rattle.mdb_verdict.specs.Batch.{AreAll, ComesAfter, FitsIn, HasRead}
-use Rattle.mdb_verdict.proofs.Rows.{all_push}
+use Rattle.mdb_verdict.proofs.Rows.{all_append}
 
--- The first of the records are these rows, and the rest is to come.
-pub record Taken {R Row : Type 0} (Is : List (List ℕ) → Row → Type 0)
-    (remaining : R → Option (List ℕ)) (all : List (List (List ℕ))) (records : Records R)
-    (rows : List Row) : Type 0 where
-  pub done : List (List (List ℕ))
-  pub rest : List (List (List ℕ))
-  pub split : all ≡ done ++ rest
-  pub to_come : ToCome remaining records rest
-  pub told : AreAll Is done rows
-
-module _ {R Row : Type 0} {Is : List (List ℕ) → Row → Type 0} {remaining : R → Option (List ℕ)}
+module _ {R Row : Type 0} {Is : List (List ℕ) → Row → Type 0}
+    {Refuses : List (List ℕ) → RowFault → Type 0} {remaining : R → Option (List ℕ)}
     {all : List (List (List ℕ))} where
   pub begins : {records : Records R} {rows : List Row} → rows ≡ [] → ToCome remaining records all
-      → Taken Is remaining all records rows
+      → HasRead Is Refuses remaining all records rows More
   begins empty to_come =
-      record { done = []; rest = all; split = refl; to_come = to_come; told = rw empty tt }
+      record { done = []; rest = all; split = refl; told = rw empty tt; after = to_come }
 
   -- a row is taken
   pub goes_on : {old new : Records R} {rows longer : List Row} (row : Row)
-      (taken : Taken Is remaining all old rows) {found : Bool} → found ≡ true
+      (taken : HasRead Is Refuses remaining all old rows More) {found : Bool} → found ≡ true
       → ((to_come : List (List (List ℕ))) → ToCome remaining old to_come
       → Advances remaining new found to_come)
       → Is (current_fields new) row → longer ≡ rows ++ row ∷ []
-      → Taken Is remaining all new longer
+      → HasRead Is Refuses remaining all new longer More
   goes_on {new = new} {rows = rows} row taken is advances told are =
-      let next = rw is at (advances taken.rest taken.to_come) in
+      let next = rw is at (advances taken.rest taken.after) in
       record {
         done = taken.done ++ current_fields new ∷ [];
         rest = next.0;
         split = taken.split ∙ (ap (λ l. taken.done ++ l) next.1
             ∙ sym (append_assoc taken.done (current_fields new ∷ []) next.0));
-        to_come = next.2;
-        told = rw are (all_push Is taken.done rows (current_fields new) row taken.told told);
+        told = rw are (all_append Is taken.done rows (current_fields new ∷ []) (row ∷ []) taken.told
+            (told, tt));
+        after = next.2;
       }
 
   -- what comes after the rows
-  pub has_read : {Refuses : List (List ℕ) → RowFault → Type 0} {old new : Records R}
-      {rows : List Row} {next : Next} (taken : Taken Is remaining all old rows)
+  pub has_read : {old new : Records R} {rows : List Row} {next : Next}
+      (taken : HasRead Is Refuses remaining all old rows More)
       → ComesAfter Refuses remaining new taken.rest next
       → HasRead Is Refuses remaining all new rows next
   has_read taken after = record {

@@ -1,31 +1,20 @@
 -- A verdict says what the headline has of it.
-use Rattle.std.proofs.Common.{Ok, arith, refl, ap, sym, ◌∙◌, ◌≡◌, ◌≤◌, ℕ, zero, suc, List, [], ◌∷◌, ◌++◌, length, take, drop, length-append, append_assoc}
-use Rattle.std.proofs.lemmas.List.{length-take, length-take-le, take-append-drop, take-take, take_all, take_at}
-use Rattle.mdb_words.specs.declared.event.Event.{Event}
+use Rattle.mdb_verdict.proofs.Words.{AllSums, AreRows, Event, IsAnswer, IsImpossible, IsReached, IsReport, IsRow, List, No, Offence, Ok, Outcome, Report, Run, Scope, Yes, [], ap, append_assoc, arith, drop, length, length-append, length-take, length-take-le, refl, suc, sym, take, take-append-drop, take-take, take_all, take_at, zero, ℕ, ◌++◌, ◌∙◌, ◌∷◌, ◌≡◌, ◌≤◌}
 use Rattle.mdb_follow.specs.declared.account_name.AccountName.{AccountName}
 use Rattle.mdb_follow.specs.declared.account.Account.{Account}
-use Rattle.mdb_follow.specs.declared.offence.Offence.{Offence}
-use Rattle.mdb_follow.specs.declared.report.Report.{Report}
 use Rattle.mdb_follow.specs.AccountNames.{account_of, sums_of}
 use Rattle.mdb_follow.specs.Ranges.{IsRange}
 use Rattle.mdb_follow.specs.AccountRanges.{IsAccount}
-use Rattle.mdb_follow.specs.Report.{IsReport}
-use Rattle.mdb_follow.specs.Runs.{AllSums, IsReached, Run}
 use Rattle.mdb_follow.specs.Sums.{AccountSums}
-use Rattle.mdb_text.specs.declared.outcome.Outcome.{Outcome}
-use Rattle.mdb_text.specs.declared.outcome.Outcome.TheVariants.{Yes, No}
 use Rattle.mdb_follow.specs.declared.goal.AccountSide.{AccountSide}
 use Rattle.mdb_follow.specs.declared.goal.AccountSide.TheVariants as sides
 use Rattle.mdb_follow.specs.Ends.{side_range, side_value}
-use Rattle.mdb_verdict.specs.Headline.{AreFirstRows, HasApprovedSales, HasBounds, HaveRun, Headline, NamesFirstRow}
-use Rattle.mdb_verdict.specs.Verdict.{IsAnswer, IsImpossible, IsPossible}
-use Rattle.mdb_verdict.specs.Rows.{AreRows}
+use Rattle.mdb_verdict.specs.Headline.{AreFirstRows, HaveRun, Headline, NamesFirstRow}
 use Rattle.mdb_verdict.proofs.OneAnswer.{row_one}
-use Rattle.mdb_verdict.proofs.Rows.{rows_push}
-use Rattle.mdb_bus.specs.declared.scope.Scope.{Scope}
+use Rattle.mdb_verdict.proofs.Rows.{all_append}
 
 -- what the law of the first rows of reached rows says
-abbrev pub FrontsAreReached : (scope : Scope) → Type 0
+abbrev pub FrontsAreReached : Scope → Type 0
 FrontsAreReached scope =
     (rows more : List Event) → IsReached scope (rows ++ more) → IsReached scope rows
 
@@ -62,7 +51,7 @@ on_side sums account is sides.Controller = is.controller
 on_side sums account is sides.Difference = is.difference
 
 -- what the law of a report's accounts says
-abbrev pub AccountsAreOfRuns : (scope : Scope) → Type 0
+abbrev pub AccountsAreOfRuns : Scope → Type 0
 AccountsAreOfRuns scope =
     (rows : List Event) (report : Report) → IsReport scope rows report → (account : AccountName)
     → IsAccount (Run scope rows) (sums_of account) (account_of account report)
@@ -78,27 +67,6 @@ module _ (scope : Scope) (limit : ℕ) (records : List (List (List ℕ))) where
     run = reached.1;
   }
 
-  -- A yes.
-  module _ (report : Report) (is : IsPossible scope limit records report) where
-    -- all records are rows, and they have a run
-    yes_has_run : (length records ≤ limit) × HaveRun scope records (length records)
-    yes_has_run =
-        let many = as_many records is.rows is.told in (
-          rw many at is.few,
-          first_rows (length records) is.rows
-              (rw (take_all (length records) records (omega arith)) is.told) many is.is.reached,
-        )
-
-    -- the ranges of the report are exact
-    has_bounds : AccountsAreOfRuns scope → HasBounds scope records report
-    has_bounds accounts rows told account side =
-        rw (one_list records is.rows rows is.told told) at (on_side (sums_of account)
-        (account_of account report) (accounts is.rows report is.is account) side)
-
-    -- the sales of its runs are approved
-    approved_sales : HasApprovedSales scope records
-    approved_sales rows told = rw (one_list records is.rows rows is.told told) at is.sales
-
   -- A no.
   module _ (fronts : FrontsAreReached scope) (offence : Offence)
       (is : IsImpossible scope limit records offence) where
@@ -113,7 +81,8 @@ module _ (scope : Scope) (limit : ℕ) (records : List (List (List ℕ))) where
         is.stops.split ∙ sym (append_assoc is.stops.done (is.fields ∷ []) is.stops.rest) in
         record {
           told = rw (split, take_at upto is.stops.rest offence.row long)
-              (rows_push is.stops.done is.rows is.fields is.row is.stops.told is.told);
+              (all_append IsRow is.stops.done is.rows (is.fields ∷ []) (is.row ∷ []) is.stops.told
+              (is.told, tt));
           number = omega (arith, length-append is.rows (is.row ∷ []), is.is.number);
         }
 
@@ -169,12 +138,24 @@ module _ (scope : Scope) (limit : ℕ) (records : List (List (List ℕ))) where
 pub headline_of : (scope : Scope) → FrontsAreReached scope → AccountsAreOfRuns scope
     → (limit : ℕ) (records : List (List (List ℕ))) (outcome : Outcome)
     → IsAnswer scope limit records (Ok outcome) → Headline scope limit records outcome
-headline_of scope fronts accounts limit records (Yes report) is = record {
-  yes = (λ said. yes_has_run scope limit records report is, λ has. tt);
-  sales = approved_sales scope limit records report is;
-  bounds = has_bounds scope limit records report is accounts;
-  first_row = tt;
-}
+headline_of scope fronts accounts limit records (Yes report) is =
+    let many = as_many records is.rows is.told in
+    let one = λ (rows : List Event) (told : AreRows records rows).
+    one_list records is.rows rows is.told told in
+    record {
+      yes = (
+        λ said. (
+          rw many at is.few,
+          first_rows scope limit records (length records) is.rows
+              (rw (take_all (length records) records (omega arith)) is.told) many is.is.reached,
+        ),
+        λ has. tt,
+      );
+      sales = λ rows told. rw (one rows told) at is.sales;
+      bounds = λ rows told account side. rw (one rows told) at (on_side (sums_of account)
+          (account_of account report) (accounts is.rows report is.is account) side);
+      first_row = tt;
+    }
 headline_of scope fronts accounts limit records (No offence) is = record {
   yes = (
     λ said. absurd said,

@@ -6,3 +6,4 @@ pub mod OneAnswer
 pub mod Rows
 pub mod Tellings
 pub mod Verdicts
+mod Words

@@ -1,40 +1,10 @@
 -- Records that are rows.
-use Rattle.std.proofs.Common.{arith, refl, ap, sym, ◌∙◌, ◌≡◌, ◌+◌, ◌<◌, ℕ, List, [], ◌∷◌, ◌++◌, Result, Ok, Err, length, length-append, append_assoc, IsOk}
-use Rattle.mdb_words.specs.declared.event.Event.{Event}
-use Rattle.mdb_words.specs.Row.{IsRow}
-use Rattle.mdb_verdict.specs.Batch.{AreAll}
-use Rattle.mdb_verdict.specs.Ending.{AreRead, HasFirst}
-use Rattle.mdb_verdict.specs.Rows.{AreRows}
+use Rattle.mdb_verdict.proofs.Words.{AreAll, AreRead, Err, HasFirst, IsOk, List, Ok, Result, [], ap, append_assoc, arith, length, length-append, refl, sym, ℕ, ◌++◌, ◌+◌, ◌<◌, ◌∙◌, ◌∷◌, ◌≡◌}
 
 -- what answers isn't refused
 pub not_refused : {T E : Type 0} (answer : Result T E) (e : E) → answer ≡ Err e → IsOk answer → ⊥
 not_refused (Ok x) e is answers = absurd (cc)
 not_refused (Err x) e is answers = absurd (cc)
-
--- an event more
-pub rows_push : (records : List (List (List ℕ))) (rows : List Event) (fields : List (List ℕ))
-    (event : Event) → AreRows records rows → IsRow fields event
-    → AreRows (records ++ fields ∷ []) (rows ++ event ∷ [])
-rows_push [] [] fields event told row = (row, tt)
-rows_push (r ∷ records) (e ∷ rows) fields event told row =
-    (told.0, rows_push records rows fields event told.1 row)
-rows_push records rows fields event told row = absurd told
-
--- rows that are events
-pub are_rows : (records : List (List (List ℕ))) (rows : List Event) → AreAll IsRow records rows
-    → AreRows records rows
-are_rows [] [] told = tt
-are_rows (r ∷ records) (e ∷ rows) told = (told.0, are_rows records rows told.1)
-are_rows records rows told = absurd told
-
--- a row more
-pub all_push : {Row : Type 0} (Is : List (List ℕ) → Row → Type 0) (records : List (List (List ℕ)))
-    (rows : List Row) (fields : List (List ℕ)) (row : Row) → AreAll Is records rows → Is fields row
-    → AreAll Is (records ++ fields ∷ []) (rows ++ row ∷ [])
-all_push Is [] [] fields row told is = (is, tt)
-all_push Is (r ∷ records) (e ∷ rows) fields row told is =
-    (told.0, all_push Is records rows fields row told.1 is)
-all_push Is records rows fields row told is = absurd told
 
 -- so many are there then
 pub one_longer : {Row : Type 0} (rows longer : List Row) (row : Row) → longer ≡ rows ++ row ∷ []

@@ -1,25 +1,10 @@
 -- What is told of records while they are read.
-use Rattle.std.proofs.Common.{refl, subst, sym, inl, inr, ◌≡◌, ◌∙◌, ℕ, List, Option, None, Some, Result, Ok, Err}
-use Rattle.std.specs.Prelude.{◌≢◌, IfErr, IfSome, IsErrAnd, IsSome}
-use Rattle.mdb_records.specs.declared.ReadFault.{ReadFault}
+use Rattle.mdb_verdict.proofs.Words.{Err, HasCause, IfErr, IfSome, IsHeard, IsOverLimit, IsSome, List, Memory, None, Ok, Option, ReadFault, Records, Result, RunFault, Some, Write, fault_of, inl, inr, refl, run_fault_of, ℕ, ◌∙◌, ◌≡◌}
 use Rattle.mdb_records.specs.declared.ReadFault.TheVariants as reading
-use Rattle.mdb_records.specs.declared.Records.{Records}
-use Rattle.mdb_records.specs.ToCome.{IsOverLimit, fault_of}
-use Rattle.mdb_verdict.specs.declared.fault.RunFault.{RunFault}
-use Rattle.mdb_verdict.specs.declared.fault.RunFault.TheVariants.{Write, Memory}
-use Rattle.mdb_verdict.specs.Ending.{IsHeard, IsToldEnd}
 use Rattle.mdb_verdict.specs.Telling.{IsFinished, IsMetBy, IsNotTaken, IsOfOutput, Reads, Tells, broken, cut, whole}
-use Rattle.mdb_verdict.specs.Verdict.{HasCause, run_fault_of}
 use Rattle.mdb_writing.specs.Answers.{IsSent}
 use Rattle.mdb_writing.specs.Output.{Output, begun}
 use Rattle.mdb_writing.proofs.Outputs as outputs
-
--- what holds of a fault holds of an answer that `?` hands on
-pub handed_on : {Answer : Type 0} (P : Result Answer RunFault → Type 0) (fault : RunFault)
-    → P (Err fault) → (answer : Result Answer RunFault)
-    → IsErrAnd answer (λ other. other ≡ fault) → P answer
-handed_on P fault holds (Ok done) handed = absurd handed
-handed_on P fault holds (Err other) handed = subst (λ f. P (Err f)) (sym handed) holds
 
 -- The last page is written out.
 
@@ -102,49 +87,39 @@ reads_finished IsNotWhole remaining old new later now answer last part reads
 
 -- All rows were read.
 
-none_met : {Stop : Type 0} (met : Option ReadFault) (told : Result (Option Stop) RunFault)
-    → IfSome met (λ failed. IsToldEnd failed told) → told ≡ Ok None → IsSome met → ⊥
-none_met None told known is some = absurd cc
-none_met (Some failed) told known is some = rw is at known
+none_met : (met : Option ReadFault) → IfSome met (λ failed. ⊥) → IsSome met → ⊥
+none_met None known some = absurd cc
+none_met (Some failed) known some = known
 
-pub reads_all : {R Stop Answer : Type 0} (IsNotWhole : Result Answer RunFault → Type 0)
-    (remaining : R → Option (List ℕ)) (old new : Records R) (told : Result (Option Stop) RunFault)
-    → (IsOverLimit remaining old → told ≢ Ok None)
-    → (fault_of old ≡ None → IfSome (fault_of new) (λ failed. IsToldEnd failed told))
-    → told ≡ Ok None → (answer : Result Answer RunFault) → IfErr answer IsOfOutput
+pub reads_all : {R Answer : Type 0} (IsNotWhole : Result Answer RunFault → Type 0)
+    (remaining : R → Option (List ℕ)) (old new : Records R) → (IsOverLimit remaining old → ⊥)
+    → (fault_of old ≡ None → IfSome (fault_of new) (λ failed. ⊥))
+    → (answer : Result Answer RunFault) → IfErr answer IsOfOutput
     → Reads IsNotWhole remaining old new answer
-reads_all IsNotWhole remaining old new told over met is answer of = record {
-  over_limit = λ past. absurd (over past is);
+reads_all IsNotWhole remaining old new over met answer of = record {
+  over_limit = λ past. absurd (over past);
   heard = heard_output (fault_of new) answer of;
-  met = λ none some. absurd (none_met (fault_of new) told (met none) is some);
+  met = λ none some. absurd (none_met (fault_of new) (met none) some);
   told = λ none. told_output (fault_of new) answer of;
 }
 
 -- A record isn't taken, or can't be read.
 
-run_met : (failed : ReadFault) → IsMetBy failed (run_fault_of failed)
-run_met reading.Read = refl
-run_met reading.Memory = tt
+told_fault : (met : Option ReadFault) (fault : RunFault)
+    → IfSome met (λ failed. fault ≡ run_fault_of failed)
+    → IfSome met (λ failed. IsMetBy failed fault)
+told_fault None fault known = tt
+told_fault (Some reading.Read) fault known = rw known refl
+told_fault (Some reading.Memory) fault known = rw known tt
 
-told_fault : {Stop : Type 0} (met : Option ReadFault) (told : Result (Option Stop) RunFault)
-    (fault other : RunFault) → IfSome met (λ failed. IsToldEnd failed told) → told ≡ Err fault
-    → other ≡ fault → IfSome met (λ failed. IsMetBy failed other)
-told_fault None told fault other known is same = tt
-told_fault (Some failed) told fault other known is same =
-    let of : fault ≡ run_fault_of failed = rw is at known in rw (same ∙ of) (run_met failed)
-
-pub reads_fault : {R Stop Answer : Type 0} (IsNotWhole : Result Answer RunFault → Type 0)
-    (remaining : R → Option (List ℕ)) (old new : Records R) (told : Result (Option Stop) RunFault)
-    (fault : RunFault) → ((other : RunFault) → IsNotWhole (Err other))
-    → IfErr told (IsHeard (fault_of new))
-    → (fault_of old ≡ None → IfSome (fault_of new) (λ failed. IsToldEnd failed told))
-    → told ≡ Err fault → (answer : Result Answer RunFault)
-    → IsErrAnd answer (λ other. other ≡ fault) → Reads IsNotWhole remaining old new answer
-reads_fault IsNotWhole remaining old new told fault part heard met is (Ok done) handed =
-    absurd handed
-reads_fault IsNotWhole remaining old new told fault part heard met is (Err other) handed = record {
-  over_limit = λ over. part other;
-  heard = λ reads. rw (sym handed ∙ reads) at (rw is at heard);
-  met = λ none some. part other;
-  told = λ none. told_fault (fault_of new) told fault other (met none) is handed;
+pub reads_fault : {R Answer : Type 0} (IsNotWhole : Result Answer RunFault → Type 0)
+    (remaining : R → Option (List ℕ)) (old new : Records R) (fault : RunFault)
+    → IsNotWhole (Err fault) → IsHeard (fault_of new) fault
+    → (fault_of old ≡ None → IfSome (fault_of new) (λ failed. fault ≡ run_fault_of failed))
+    → Reads IsNotWhole remaining old new (Err fault)
+reads_fault IsNotWhole remaining old new fault part heard met = record {
+  over_limit = λ over. part;
+  heard = λ reads. rw reads at heard;
+  met = λ none some. part;
+  told = λ none. told_fault (fault_of new) fault (met none);
 }

@@ -1,38 +1,25 @@
 -- What the verdict is, by how the reading of rows ended.
-use Rattle.std.proofs.Common.{arith, sym, subst, ◌∙◌, ◌≡◌, ℕ, List, ◌∷◌, ◌++◌, Option, Result, Ok, Err, length-append}
-use Rattle.std.proofs.lemmas.List.{append-nil}
-use Rattle.std.specs.Prelude.{IfErr, IfOk, IsErrAnd}
+use Rattle.mdb_verdict.proofs.Words.{AreRead, AreRows, BadRow, Err, Event, HasEnded, HasFollowedRows, HasOffence, HasTakenOrStopped, IfErr, IfOk, IsAnswer, IsErrAnd, IsImpossible, IsReached, IsRefusal, IsRow, IsStopped, IsTakenWhole, IsYes, LeadUpTo, List, No, Offence, Ok, Option, Outcome, Result, RunFault, Scope, StandsFor, TooLong, Yes, ap, append-nil, arith, length-append, scope_of, ℕ, ◌++◌, ◌∙◌, ◌∷◌, ◌≡◌}
+use Rattle.std.proofs.lemmas.Result.{err_from_is_err_and}
 use Rattle.std.specs.Result.{result_err}
-use Rattle.mdb_words.specs.declared.event.Event.{Event}
-use Rattle.mdb_words.specs.Row.{IsRow}
-use Rattle.mdb_words.specs.Refusals.{IsRefusal}
 use Rattle.mdb_follow.specs.declared.follower.Follower.{Follower}
-use Rattle.mdb_follow.specs.declared.offence.Offence.{Offence}
 use Rattle.mdb_follow.specs.Feeding.{HasTakenRows}
-use Rattle.mdb_follow.specs.Follower.{StandsFor, scope_of}
-use Rattle.mdb_follow.specs.FirstOffences.{HasOffence}
-use Rattle.mdb_follow.specs.Runs.{IsReached}
 use Rattle.mdb_follow.specs.Sales.{SalesFollowApprovals}
-use Rattle.mdb_text.specs.declared.outcome.Outcome.{Outcome}
-use Rattle.mdb_text.specs.declared.outcome.Outcome.TheVariants.{Yes, No}
-use Rattle.mdb_verdict.specs.declared.fault.RunFault.{RunFault}
-use Rattle.mdb_verdict.specs.declared.fault.RunFault.TheVariants.{BadRow, TooLong}
-use Rattle.mdb_verdict.specs.Ending.{AreRead, HasEnded, HasFollowedRows, HasTakenOrStopped, IsStopped, IsTakenWhole}
-use Rattle.mdb_verdict.specs.Verdict.{IsAnswer, IsImpossible, IsYes, LeadUpTo}
-use Rattle.mdb_verdict.specs.Rows.{AreRows}
-use Rattle.mdb_verdict.proofs.Rows.{are_rows, fewer, read_at}
-use Rattle.mdb_bus.specs.declared.scope.Scope.{Scope}
+use Rattle.mdb_verdict.proofs.Rows.{fewer, read_at}
+
+-- an answer that `?` hands on is its fault
+pub is_fault : {A Fault : Type 0} {fault : Fault} (answer : Result A Fault)
+    → IsErrAnd answer (λ other. other ≡ fault) → answer ≡ Err fault
+is_fault answer is = let it = err_from_is_err_and answer is in it.1 ∙ ap Err it.2
 
 -- what holds of a fault holds of an answer that is this fault
 pub handed : {A Fault : Type 0} (P : Result A Fault → Type 0) (fault : Fault)
     (answer : Result A Fault) → IsErrAnd answer (λ other. other ≡ fault) → P (Err fault) → P answer
-handed P fault (Ok value) is holds = absurd is
-handed P fault (Err other) is holds = subst (λ f. P (Err f)) (sym is) holds
+handed P fault answer is holds = rw (is_fault answer is) holds
 
 -- what a follower stands for is reached
 abbrev pub Reaches : Type 0
-Reaches =
-    (follower : Follower) (rows : List Event) → StandsFor follower rows
+Reaches = (follower : Follower) (rows : List Event) → StandsFor follower rows
     → IsReached (scope_of follower) rows
 
 pub reached : {scope : Scope} {follower : Follower} → Reaches → (rows : List Event)
@@ -63,7 +50,7 @@ lead_up {rows = rows} {rest = rest} read possible = record {
   done = read.done;
   rest = rest;
   split = read.split;
-  told = are_rows read.done rows read.told;
+  told = read.told;
   possible = possible;
 }
 
@@ -71,7 +58,7 @@ lead_up {rows = rows} {rest = rest} read possible = record {
 pub whole_rows : {Has : List Event → Type 0} {limit : ℕ} {all : List (List (List ℕ))}
     (ended : IsTakenWhole IsRow Has limit all) → AreRows all ended.rows
 whole_rows ended =
-    rw (ended.read.split, append-nil) (are_rows ended.read.done ended.rows ended.read.told)
+    rw (ended.read.split, append-nil) ended.read.told
 
 -- the text ends
 pub whole_of : {Has : List Event → Type 0} (scope : Scope) {limit : ℕ}
@@ -135,5 +122,4 @@ module _ {Stop : Type 0} (scope : Scope) (limit : ℕ) (all : List (List (List �
   pub refused_of : (fault : RunFault) → HasEnded IsRow IsRefusal Has Stops limit all (Err fault)
       → (answer : Result Outcome RunFault) → IsErrAnd answer (λ other. other ≡ fault)
       → IsAnswer scope limit all answer
-  refused_of fault ended answer is =
-      handed (IsAnswer scope limit all) fault answer is (refused_by fault ended)
+  refused_of fault ended answer is = rw (is_fault answer is) (refused_by fault ended)

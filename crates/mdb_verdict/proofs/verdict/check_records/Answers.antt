@@ -1,8 +1,6 @@
 -- An outcome says what the headline has of it, also where the writer fails or memory is out.
-use Rattle.std.proofs.Common.{◌∙◌, inr}
-use Rattle.mdb_verdict.specs.declared.fault.RunFault.TheVariants.{Write}
-use Rattle.mdb_verdict.specs.Verdict.{IsAnswer}
-use Rattle.mdb_verdict.proofs.Verdicts.{handed}
+use Rattle.mdb_verdict.proofs.Words.{inr, ◌∙◌}
+use Rattle.mdb_verdict.proofs.Verdicts.{is_fault}
 use Rattle.mdb_verdict.proofs.verdict.check_records.Goals as goal
 
 pub returns-clause-headline : goal.returns-clause-headline
@@ -12,8 +10,8 @@ returns-clause-headline g c all to_come =
 
 pub returns-in_err-write_text-clause-answers : goal.returns-in_err-write_text-clause-answers
 returns-in_err-write_text-clause-answers g c all to_come = record {
-  answer = handed (IsAnswer c.args.scope.now c.args.rows_max all) Write _
-      c.from_residual-in_err-write_text.ensures.1 tt;
+  answer = rw (is_fault c.from_residual-in_err-write_text.result
+      c.from_residual-in_err-write_text.ensures.1) tt;
   cut = λ refused. record {
     outcome = c.in_ok-outcome.outcome;
     is = c.in_ok-outcome.ensures.answer all to_come;

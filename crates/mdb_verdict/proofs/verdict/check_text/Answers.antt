@@ -1,9 +1,7 @@
 -- The records of a text are read as its records alone.
-use Rattle.std.proofs.Common.{List, length, ℕ, ◌<◌}
+use Rattle.mdb_verdict.proofs.Words.{IsNoYes, IsOverLimit, List, length, ℕ, ◌<◌}
 use Rattle.std.proofs.lemmas.Option.{IfSome_then}
 use Rattle.csv.specs.Reading.{default_config, records, strip_bom}
-use Rattle.mdb_records.specs.ToCome.{IsOverLimit}
-use Rattle.mdb_verdict.specs.Verdict.{IsNoYes}
 use Rattle.mdb_verdict.proofs.verdict.check_text.Goals as goal
 
 pub returns-clause-headline : goal.returns-clause-headline

@@ -1,9 +1,5 @@
 -- The verdict is that of the rows which were read, or the fault of the reading.
-use Rattle.std.proofs.Common.{subst, ◌∙◌, Ok}
-use Rattle.mdb_verdict.specs.Verdict.{IsAnswer}
-use Rattle.mdb_follow.specs.Follower.{scope_of}
-use Rattle.mdb_follow.specs.FirstOffences.{HasOffence}
-use Rattle.mdb_verdict.specs.Ending.{HasFollowedRows}
+use Rattle.mdb_verdict.proofs.Words.{HasFollowedRows, HasOffence, IsAnswer, Ok, scope_of, subst, ◌∙◌}
 use Rattle.mdb_verdict.proofs.Verdicts as verdicts
 use Rattle.mdb_verdict.proofs.verdict.verdict_on.Goals as goal
 
@@ -13,7 +9,7 @@ returns-in_err-read_rows-clause-answer g c all to_come =
     rw (c.read_rows.ensures.keeps ∙ c.scoped-follower.ensures.scope) at
     (verdicts.refused_of scope c.args.rows_max all (HasFollowedRows scope c.read_rows.new.taker)
     (verdicts.reached c.followers_stand_for_reached_rows.ensures) (HasOffence scope) _
-    (rw c.in_err-read_rows.was at (c.read_rows.ensures.ended all to_come))
+    (c.in_err-read_rows.ensures.ended all to_come)
     c.from_residual.result c.from_residual.ensures.1)
 
 pub returns-in-None-clause-answer : goal.returns-in-None-clause-answer

@@ -1,8 +1,7 @@
 -- A batch ends at a fault of reading, at the end of the text, at a record that is no row, at a row
 -- that is taken alone, and where it is full.
-use Rattle.std.proofs.Common.{arith, ap, length, sym, ◌∙◌}
+use Rattle.mdb_verdict.proofs.Words.{ap, arith, current_fields, length, sym, ◌∙◌}
 use Rattle.std.proofs.lemmas.Bool.{false≢true}
-use Rattle.mdb_records.specs.ToCome.{current_fields}
 use Rattle.mdb_verdict.proofs.Batches as batches
 use Rattle.mdb_verdict.proofs.Rows.{one_longer}
 use Rattle.mdb_verdict.proofs.batch.Batch.refill.Goals as goal
@@ -31,7 +30,7 @@ returns-then-not-found g c = record {
   read = λ all to_come.
       let taken = c.loop.invariant.taken all to_come in
       batches.has_read taken
-      (rw c.if-not-found.true at (c.in-Ok.ensures.next taken.rest taken.to_come));
+      (rw c.if-not-found.true at (c.in-Ok.ensures.next taken.rest taken.after));
   over = λ over. false≢true
       (sym c.if-not-found.true ∙ (c.in-Ok.ensures.endless (c.loop.invariant.over over)).0);
   met = λ none. c.in-Ok.ensures.fine;
@@ -47,7 +46,7 @@ returns-in-Err-of g c = record {
   read = λ all to_come.
       let taken = c.loop.invariant.taken all to_come in
       let after =
-      rw c.if-not-found.false at (c.in-Ok.ensures.next taken.rest taken.to_come) in
+      rw c.if-not-found.false at (c.in-Ok.ensures.next taken.rest taken.after) in
       batches.has_read taken (
         current_fields c.advance.new.self,
         after.0,
@@ -67,11 +66,9 @@ pub returns-then-is_alone : goal.returns-then-is_alone
 returns-then-is_alone g c =
     let longer = one_longer c.loop.self c.push.new.self c.in-Ok-of.row c.push.ensures in
     record {
-      read = λ all to_come.
-          let taken = batches.goes_on c.in-Ok-of.row (c.loop.invariant.taken all to_come)
+      read = λ all to_come. batches.goes_on c.in-Ok-of.row (c.loop.invariant.taken all to_come)
           c.if-not-found.false c.in-Ok.ensures.next
-          (rw c.row.ensures at c.in-Ok-of.ensures.row) c.push.ensures in
-          batches.has_read taken taken.to_come;
+          (rw c.row.ensures at c.in-Ok-of.ensures.row) c.push.ensures;
       over = λ over. (c.in-Ok.ensures.endless (c.loop.invariant.over over)).1;
       met = λ none. c.in-Ok.ensures.fine;
       fits = (omega (arith, longer), omega (arith, longer, c.loop.invariant.counted));
@@ -98,9 +95,7 @@ loop-preserved g c =
 
 pub returns : goal.returns
 returns g c = record {
-  read = λ all to_come.
-      let taken = c.loop.invariant.taken all to_come in
-      batches.has_read taken taken.to_come;
+  read = c.loop.invariant.taken;
   over = c.loop.invariant.over;
   met = c.loop.invariant.met;
   fits = (omega (arith, c.loop.invariant.counted), omega (arith, c.loop.invariant.counted));

@@ -1,7 +1,4 @@
-use Rattle.std.proofs.Common.{subst, sym}
-use Rattle.mdb_follow.specs.Follower.{scope_of}
-use Rattle.mdb_follow.specs.FirstOffences.{HasOffence}
-use Rattle.mdb_verdict.specs.Ending.{HasFollowedRows, HasTakenOrStopped}
+use Rattle.mdb_verdict.proofs.Words.{HasFollowedRows, HasOffence, HasTakenOrStopped, scope_of, subst, sym}
 use Rattle.mdb_verdict.proofs.Verdicts.{followed}
 use Rattle.mdb_verdict.proofs.verdict.FollowerTakeRowsUnit.take_all.Goals as goal
 
