@@ -1,23 +1,21 @@
 -- The records of a text are shown in one way.
-use Rattle.std.proofs.Common.{arith, refl, ap, sym, ◌∙◌, ◌≡◌, ◌+◌, ◌<◌, ◌≤◌, ℕ, List, [], ◌∷◌, ◌++◌, Option, Some, None, Result, Ok, Err, inl, inr, ◌⊎◌, length, length-append, append_assoc}
-use Rattle.mdb_words.specs.declared.event.Event.{Event}
-use Rattle.mdb_words.specs.declared.row.RowFault.{RowFault}
-use Rattle.mdb_words.specs.Row.{IsRow}
-use Rattle.mdb_words.specs.Refusals.{IsRefusal}
+use Rattle.std.proofs.Common.{Err, List, None, Ok, Option, Result, Some, [], ap₂, arith, length, refl, sym, ℕ, ◌++◌, ◌+◌, ◌<◌, ◌∙◌, ◌∷◌, ◌≡◌, ◌≤◌}
+use Rattle.mdb_bus.specs.ActLists.{ArePieces, IsActList, Piece, events_of}
+use Rattle.mdb_bus.specs.LinkFaults.{IsLinkFault, RowBreaks, situation_of}
+use Rattle.mdb_bus.specs.Pieces.{HasActList}
 use Rattle.mdb_bus.specs.declared.fault.Blame.{Blame}
 use Rattle.mdb_bus.specs.declared.fault.LinkFault.{LinkFault}
 use Rattle.mdb_bus.specs.declared.fault.Rule.{Rule}
-use Rattle.mdb_bus.specs.ActLists.{Piece, ArePieces, IsActList, events_of}
-use Rattle.mdb_bus.specs.Pieces.{HasActList}
-use Rattle.mdb_bus.specs.LinkFaults.{IsLinkFault, RowBreaks, situation_of}
-use Rattle.mdb_follow.specs.declared.follower.TheConstants.{ROWS_MAX}
-use Rattle.mdb_verdict.specs.declared.fault.RunFault.{RunFault}
-use Rattle.mdb_verdict.specs.declared.fault.RunFault.TheVariants.{BadRow, TooLong, Read, Write, Memory}
-use Rattle.mdb_show.specs.Show.{AreShown, IsShowingIn}
-use Rattle.mdb_verdict.specs.Verdict.{IsOwnAnswer}
-use Rattle.mdb_show.specs.Lines.{LineForm, closed_pieces, lines_of}
-use Rattle.mdb_verdict.proofs.OneAnswer.{GoesOn, compared, one_refusal, row_not_refused, row_one}
 use Rattle.mdb_bus.specs.declared.scope.Scope.{Scope}
+use Rattle.mdb_follow.specs.declared.follower.TheConstants.{ROWS_MAX}
+use Rattle.mdb_show.specs.Lines.{LineForm, closed_pieces, lines_of}
+use Rattle.mdb_show.specs.Show.{AreShown, IsShowingIn}
+use Rattle.mdb_verdict.proofs.OneAnswer.{Ending, EndsBy, SaysOne, one_ending, row_one}
+use Rattle.mdb_verdict.specs.Verdict.{IsOwnAnswer}
+use Rattle.mdb_verdict.specs.declared.fault.RunFault.{RunFault}
+use Rattle.mdb_verdict.specs.declared.fault.RunFault.TheVariants.{BadRow, Memory, Read, TooLong, Write}
+use Rattle.mdb_words.specs.Row.{IsRow}
+use Rattle.mdb_words.specs.declared.event.Event.{Event}
 
 -- what the laws of the bus say
 pub record BusLaws (scope : Scope) : Type 0 where
@@ -32,152 +30,102 @@ pub record BusLaws (scope : Scope) : Type 0 where
 
 -- the pieces and the lines of a form are one
 module _ (form : LineForm) (scope : Scope) (laws : BusLaws scope) where
-  -- how the showing of a text ends after its pieces
-  abbrev EndsBy : List Piece → List (List (List ℕ)) → Result (Option LinkFault) RunFault → List ℕ
-      → Type 0
-  EndsBy pieces rest (Ok None) text = (rest ≡ []) × (text ≡ lines_of form pieces)
-  EndsBy pieces rest (Ok (Some fault)) text = (fields : List (List ℕ))
-      × (after : List (List (List ℕ))) × (rest ≡ fields ∷ after) × (row : Event) × IsRow fields row
+  -- nothing is said of all rows, a fault of the next one
+  abbrev Says : List Event → List (List (List ℕ)) → Option LinkFault → Type 0
+  Says rows [] None = Unit {0}
+  Says rows (fields ∷ after) (Some fault) = (row : Event) × IsRow fields row
+      × (length rows < ROWS_MAX) × (pieces : List Piece) × IsActList scope pieces rows
       × IsLinkFault scope pieces row fault.rule fault.blame
-      × (length (events_of pieces) < ROWS_MAX)
-      × (text ≡ lines_of form (closed_pieces pieces)
-      ++ form.fault (length (events_of pieces) + 1) fault)
-  EndsBy pieces rest (Err (BadRow number fault)) text = (fields : List (List ℕ))
-      × (after : List (List (List ℕ))) × (rest ≡ fields ∷ after) × IsRefusal fields fault
-      × (number ≡ length (events_of pieces) + 1) × (length (events_of pieces) < ROWS_MAX)
-      × (text ≡ lines_of form (closed_pieces pieces))
-  EndsBy pieces rest (Err TooLong) text = (fields : List (List ℕ)) × (after : List (List (List ℕ)))
-      × (rest ≡ fields ∷ after) × (length (events_of pieces) ≡ ROWS_MAX)
-      × (text ≡ lines_of form (closed_pieces pieces))
-  EndsBy pieces rest (Err fault) text = ⊥
+  Says rows rest said = ⊥
 
-  -- no row goes on there
-  stops : (pieces : List Piece) (rest : List (List (List ℕ)))
-      (answer : Result (Option LinkFault) RunFault) (text : List ℕ) → ArePieces scope pieces
-      → EndsBy pieces rest answer text → (fields : List (List ℕ)) (after : List (List (List ℕ)))
-      (event : Event) → rest ≡ fields ∷ after → IsRow fields event
-      → HasActList scope (events_of pieces ++ event ∷ []) → length (events_of pieces) < ROWS_MAX → ⊥
-  stops pieces rest (Ok None) text order ends fields after event is row list few =
-      cc (ends.0, is)
-  stops pieces rest (Ok (Some fault)) text order ends fields after event is row list few =
-      let same : fields ≡ ends.0 = cc (ends.2, is) in
-      let one : event ≡ ends.3 = row_one ends.0 event ends.3 (rw same at row) ends.4 in
-      laws.stops pieces ends.3 ends.5.first order ends.5.rule.breaks (rw one at list)
-  stops pieces rest (Err (BadRow number fault)) text order ends fields after event is row list few =
-      let same : fields ≡ ends.0 = cc (ends.2, is) in
-      row_not_refused ends.0 event fault (rw same at row) ends.3
-  stops pieces rest (Err TooLong) text order ends fields after event is row list few =
-      omega (arith, ends.3, few)
-  stops pieces rest (Err fault) text order ends fields after event is row list few = ends
+  says_one : SaysOne Says ROWS_MAX (HasActList scope)
+  says_one = record { fronts = laws.fronts; one = one; stops = stops }
+    where
+      one : (rows : List Event) (rest : List (List (List ℕ))) (a b : Option LinkFault)
+          → Says rows rest a → Says rows rest b → a ≡ b
+      one rows [] None None p q = refl
+      one rows (fields ∷ after) (Some a) (Some b) p q =
+          let row : q.0 ≡ p.0 = row_one fields q.0 p.0 q.1 p.1 in
+          let list : q.3 ≡ p.3 = laws.one_list rows q.3 p.3 q.4 p.4 in
+          let both = laws.one_fault p.3 p.0 a.rule b.rule a.blame b.blame p.5
+          (rw (row, list) at q.5) in
+          λ i. Some (record { rule = both.0 i; blame = both.1 i })
+      one rows rest a b p q = absurd (search)
 
-  same_fault : (a b : LinkFault) → a.rule ≡ b.rule → a.blame ≡ b.blame → a ≡ b
-  same_fault a b rule blame = λ i. record { rule = rule i; blame = blame i }
+      stops : (rows : List Event) (fields : List (List ℕ)) (after : List (List (List ℕ)))
+          (said : Option LinkFault) → Says rows (fields ∷ after) said → (row : Event)
+          × IsRow fields row × (length rows < ROWS_MAX) × (HasActList scope (rows ++ row ∷ []) → ⊥)
+      stops rows fields after (Some fault) says = (
+        says.0,
+        says.1,
+        says.2,
+        λ list. laws.stops says.3 says.0 says.5.first says.4.in_order says.5.rule.breaks
+            (rw says.4.whole list),
+      )
+      stops rows fields after None says = absurd says
 
-  -- such an end is one
-  one_end : (pieces : List Piece) (rest : List (List (List ℕ)))
-      (a b : Result (Option LinkFault) RunFault) (s t : List ℕ) → EndsBy pieces rest a s
-      → EndsBy pieces rest b t → (a ≡ b) × (s ≡ t)
-  one_end pieces rest (Ok None) (Ok None) s t p q = (refl, p.1 ∙ sym q.1)
-  one_end pieces rest (Ok (Some fault)) (Ok (Some other)) s t p q =
-      let same : q.0 ≡ p.0 = cc (q.2, p.2) in
-      let row : q.3 ≡ p.3 = row_one p.0 q.3 p.3 (rw same at q.4) p.4 in
-      let both = laws.one_fault pieces p.3 fault.rule other.rule fault.blame other.blame p.5
-      (rw row at q.5) in
-      let one : fault ≡ other = same_fault fault other both.0 both.1 in
-      (ap (λ f. Ok (Some f)) one, rw (p.7, one, q.7))
-  one_end pieces rest (Ok (Some fault)) (Err (BadRow number other)) s t p q =
-      let same : q.0 ≡ p.0 = cc (q.2, p.2) in
-      absurd (row_not_refused p.0 p.3 other p.4 (rw same at q.3))
-  one_end pieces rest (Err (BadRow number fault)) (Ok (Some other)) s t p q =
-      let same : p.0 ≡ q.0 = cc (q.2, p.2) in
-      absurd (row_not_refused q.0 q.3 fault q.4 (rw same at p.3))
-  one_end pieces rest (Err (BadRow row fault)) (Err (BadRow number other)) s t p q =
-      let same : q.0 ≡ p.0 = cc (q.2, p.2) in
-      (cc (p.4, q.4, one_refusal p.0 fault other p.3 (rw same at q.3)), p.6 ∙ sym q.6)
-  one_end pieces rest (Err TooLong) (Err TooLong) s t p q = (refl, p.4 ∙ sym q.4)
-  one_end pieces rest (Ok None) (Err TooLong) s t p q = absurd (cc (p.0, q.2))
-  one_end pieces rest (Err TooLong) (Ok None) s t p q = absurd (cc (p.2, q.0))
-  one_end pieces rest a b s t p q = absurd (first_of (search, cc, omega arith))
+  -- the text of an answer, by the pieces of its rows
+  abbrev text_of : List Piece → Result (Option LinkFault) RunFault → List ℕ
+  text_of pieces (Ok None) = lines_of form pieces
+  text_of pieces (Ok (Some fault)) =
+      lines_of form (closed_pieces pieces) ++ form.fault (length (events_of pieces) + 1) fault
+  text_of pieces (Err fault) = lines_of form (closed_pieces pieces)
 
   module _ (records : List (List (List ℕ))) where
-    record Ending (answer : Result (Option LinkFault) RunFault) (text : List ℕ) : Type 0 where
+    record Shown (answer : Result (Option LinkFault) RunFault) (text : List ℕ) : Type 0 where
       pieces : List Piece
-      rest : List (List (List ℕ))
-      shown : AreShown scope records pieces rest
-      few : length (events_of pieces) ≤ ROWS_MAX
-      by : EndsBy pieces rest answer text
+      ending : Ending Says ROWS_MAX (HasActList scope) records answer
+      list : IsActList scope pieces ending.rows
+      lines : text ≡ text_of pieces answer
 
-    ending : (answer : Result (Option LinkFault) RunFault) (text : List ℕ)
-        → IsShowingIn form scope records answer text → IsOwnAnswer answer → Ending answer text
-    ending (Ok None) text is own = record {
-      pieces = is.pieces;
-      rest = [];
-      shown = is.shown;
-      few = is.few;
-      by = (refl, is.lines);
-    }
-    ending (Ok (Some fault)) text is own = record {
-      pieces = is.pieces;
-      rest = is.fields ∷ is.rest;
-      shown = is.shown;
-      few = omega (arith, is.few);
-      by = (is.fields, is.rest, refl, is.row, is.row_told, is.is, is.few, is.lines);
-    }
-    ending (Err (BadRow number fault)) text is own = record {
-      pieces = is.pieces;
-      rest = is.fields ∷ is.rest;
-      shown = is.shown;
-      few = omega (arith, is.few);
-      by = (is.fields, is.rest, refl, is.refused, is.number, is.few, is.lines);
-    }
-    ending (Err TooLong) text is own = record {
-      pieces = is.pieces;
-      rest = is.fields ∷ is.rest;
-      shown = is.shown;
-      few = omega (arith, is.full);
-      by = (is.fields, is.rest, refl, is.full, is.lines);
-    }
-    ending (Err fault) text is own = absurd own
+    shown_by : {answer : Result (Option LinkFault) RunFault} {text : List ℕ}
+        {rest : List (List (List ℕ))} (pieces : List Piece) → AreShown scope records pieces rest
+        → length (events_of pieces) ≤ ROWS_MAX → EndsBy Says ROWS_MAX (events_of pieces) rest answer
+        → text ≡ text_of pieces answer → Shown answer text
+    shown_by {rest = rest} pieces shown few by lines =
+        let list : IsActList scope pieces (events_of pieces) =
+        record { in_order = shown.in_order; whole = refl } in
+        record {
+          pieces = pieces;
+          ending = record {
+            rows = events_of pieces;
+            rest = rest;
+            done = shown.done;
+            split = shown.split;
+            told = shown.told;
+            can = (pieces, list);
+            few = few;
+            by = by;
+          };
+          list = list;
+          lines = lines;
+        }
 
-    -- of two endings none is after more rows
-    no_longer : (a b : Result (Option LinkFault) RunFault) (s t : List ℕ) (one : Ending a s)
-        (other : Ending b t) → GoesOn (events_of one.pieces) (events_of other.pieces) one.rest → ⊥
-    no_longer a b s t one other on =
-        let rows : List Event = events_of one.pieces in
-        let split : events_of other.pieces ≡ (rows ++ on.event ∷ []) ++ on.more =
-        on.longer_is ∙ sym (append_assoc rows (on.event ∷ []) on.more) in
-        let list : HasActList scope (events_of other.pieces) =
-        (other.pieces, record { in_order = other.shown.in_order; whole = refl }) in
-        let long = length-append rows (on.event ∷ on.more) in
-        stops one.pieces one.rest a s one.shown.in_order one.by on.fields on.after on.event
-        on.record_is on.row (laws.fronts (rows ++ on.event ∷ []) on.more (rw split at list))
-        (omega (arith, other.few, ap length on.longer_is, long))
-
-    one_front : (a b : Result (Option LinkFault) RunFault) (s t : List ℕ) (one : Ending a s)
-        (other : Ending b t) → (one.pieces ≡ other.pieces) × (one.rest ≡ other.rest)
-    one_front a b s t one other =
-        elim (compared one.shown.done other.shown.done one.rest other.rest (events_of one.pieces)
-        (events_of other.pieces) one.shown.told other.shown.told
-        (sym one.shown.split ∙ other.shown.split)) [
-          | inl same ↦ (
-            laws.one_list (events_of other.pieces) one.pieces other.pieces
-                (record { in_order = one.shown.in_order; whole = same.0 })
-                (record { in_order = other.shown.in_order; whole = refl }),
-            same.1,
-          )
-          | inr (inl on) ↦ absurd (no_longer a b s t one other on)
-          | inr (inr on) ↦ absurd (no_longer b a t s other one on)
-        ]
+    shown : (answer : Result (Option LinkFault) RunFault) (text : List ℕ)
+        → IsShowingIn form scope records answer text → IsOwnAnswer answer → Shown answer text
+    shown (Ok None) text is own = shown_by is.pieces is.shown is.few tt is.lines
+    shown (Ok (Some fault)) text is own =
+        let list : IsActList scope is.pieces (events_of is.pieces) =
+        record { in_order = is.shown.in_order; whole = refl } in
+        shown_by is.pieces is.shown (omega (arith, is.few))
+        (is.row, is.row_told, is.few, is.pieces, list, is.is) is.lines
+    shown (Err (BadRow number fault)) text is own =
+        shown_by is.pieces is.shown (omega (arith, is.few)) (is.refused, is.few, is.number) is.lines
+    shown (Err TooLong) text is own =
+        shown_by is.pieces is.shown (omega (arith, is.full)) is.full is.lines
+    shown (Err fault) text is own = absurd own
 
     -- the showing of a text is one
     pub one_showing : (a b : Result (Option LinkFault) RunFault) (s t : List ℕ)
         → IsShowingIn form scope records a s → IsShowingIn form scope records b t
         → IsOwnAnswer a → IsOwnAnswer b → (a ≡ b) × (s ≡ t)
     one_showing a b s t p q own also =
-        let one = ending a s p own in
-        let other = ending b t q also in
-        let same = one_front a b s t one other in
-        one_end other.pieces other.rest a b s t (rw (same.0, same.1) at one.by) other.by
+        let one = shown a s p own in
+        let other = shown b t q also in
+        let ends = one_ending says_one one.ending other.ending in
+        let same = laws.one_list other.ending.rows one.pieces other.pieces
+        (rw ends.0 at one.list) other.list in
+        (ends.1, one.lines ∙ (ap₂ text_of same ends.1 ∙ sym other.lines))
 
 -- and so it is in each form
 pub in_other_form : (form other : LineForm) (scope : Scope) (records : List (List (List ℕ)))

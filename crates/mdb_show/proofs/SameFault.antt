@@ -1,37 +1,35 @@
 -- A fault of the link that `show` ends with is that of the verdict, unless a machine ends the
 -- verdict before.
-use Rattle.std.proofs.Common.{arith, refl, ap, sym, subst, ◌∙◌, ◌≡◌, ◌&&◌, ◌+◌, ℕ, Bool, true, false, if◌then◌else◌, List, [], ◌∷◌, ◌++◌, Result, Ok, Err, inl, inr, ◌⊎◌, length, length-append, append_assoc}
+use Rattle.std.proofs.Common.{Bool, Err, List, Ok, Result, [], ap, append_assoc, arith, false, if◌then◌else◌, inl, inr, length, length-append, refl, subst, sym, true, ℕ, ◌&&◌, ◌++◌, ◌+◌, ◌∙◌, ◌∷◌, ◌≡◌, ◌⊎◌}
 use Rattle.std.proofs.lemmas.List.{append-nil}
-use Rattle.mdb_words.specs.declared.event.Event.{Event}
-use Rattle.mdb_words.specs.declared.row.RowFault.{RowFault}
-use Rattle.mdb_words.specs.Row.{IsRow}
-use Rattle.mdb_words.specs.Refusals.{IsRefusal}
+use Rattle.mdb_bus.specs.ActLists.{ArePieces, Piece, Whole, events_of}
+use Rattle.mdb_bus.specs.LinkFaults.{IsLinkFault}
+use Rattle.mdb_bus.specs.Pieces.{HasActList}
 use Rattle.mdb_bus.specs.declared.fault.LinkFault.{LinkFault}
+use Rattle.mdb_bus.specs.declared.scope.Profile.{Profile}
+use Rattle.mdb_bus.specs.declared.scope.Scope.{Scope}
+use Rattle.mdb_follow.specs.declared.follower.TheConstants.{ROWS_MAX}
+use Rattle.mdb_show.specs.Lines.{LineForm}
+use Rattle.mdb_show.specs.Show.{IsShownToFaultIn}
+use Rattle.mdb_verdict.proofs.OneAnswer.{GoesOn, compared, row_not_refused, row_one}
+use Rattle.mdb_verdict.specs.Verdict.{IsAnswer, IsImpossible, IsOwnAnswer, LeadUpTo}
+use Rattle.mdb_verdict.specs.declared.fault.RunFault.{RunFault}
+use Rattle.mdb_verdict.specs.declared.fault.RunFault.TheVariants.{BadRow, TooLong}
+use Rattle.mdb_words.specs.Row.{IsRow}
+use Rattle.mdb_words.specs.declared.event.Event.{Event}
 use Rattle.mdb_bus.specs.declared.fault.Blame.TheVariants as blame
 use Rattle.mdb_bus.specs.declared.fault.Rule.TheVariants as rules
-use Rattle.mdb_bus.specs.declared.scope.Profile.{Profile}
 use Rattle.mdb_bus.specs.declared.scope.Profile.TheVariants.{Base, Extended}
-use Rattle.mdb_bus.specs.ActLists.{Piece, Whole, ArePieces, events_of}
-use Rattle.mdb_bus.specs.Pieces.{HasActList}
 use Rattle.mdb_bus.specs.ExtendedHaste.{counted_in, haste_by, is_excused, is_in_haste}
-use Rattle.mdb_bus.specs.LinkFaults.{IsLinkFault}
-use Rattle.mdb_follow.specs.declared.follower.TheConstants.{ROWS_MAX}
 use Rattle.mdb_follow.specs.declared.offence.Offence.{Offence}
-use Rattle.mdb_follow.specs.Offences.{BreaksLink, BreaksMachine, IsOffence}
+use Rattle.mdb_follow.specs.Offences.{IsOffence}
 use Rattle.mdb_bus.specs.Scopes.{profile_of}
 use Rattle.mdb_follow.specs.Runs.{IsReached}
 use Rattle.mdb_follow.specs.Senders.{sender_of}
 use Rattle.mdb_text.specs.declared.outcome.Outcome.{Outcome}
 use Rattle.mdb_text.specs.declared.outcome.Outcome.TheVariants.{Yes, No}
-use Rattle.mdb_verdict.specs.declared.fault.RunFault.{RunFault}
-use Rattle.mdb_verdict.specs.declared.fault.RunFault.TheVariants.{BadRow, TooLong, Read, Write, Memory}
-use Rattle.mdb_show.specs.Show.{IsShownToFaultIn}
 use Rattle.mdb_show.specs.ShownFault.{IsNoUpTo, IsOfMachine}
-use Rattle.mdb_verdict.specs.Verdict.{IsAnswer, IsImpossible, IsOwnAnswer, LeadUpTo}
-use Rattle.mdb_verdict.proofs.OneAnswer.{GoesOn, compared, row_not_refused, row_one}
 use Rattle.mdb_show.proofs.OneShowing.{BusLaws}
-use Rattle.mdb_bus.specs.declared.scope.Scope.{Scope}
-use Rattle.mdb_show.specs.Lines.{LineForm}
 
 -- what counts of a fault is the fault, or by the extended profile that the controller was early
 counted_or_early : (profile : Profile) (haste : Bool) (row : Event) (fault : LinkFault)
@@ -62,45 +60,39 @@ module _ (scope : Scope) (laws : BusLaws scope) where
   earlier_row : (rows : List Event) (row : Event) (offence : Offence)
       → HasActList scope (rows ++ row ∷ []) → IsOffence scope rows row offence
       → IsOfMachine (profile_of scope.begins) offence
-  earlier_row rows row offence list why_not = by_why why_not.why
-    where
-      by_why : BreaksLink scope rows row offence.rule offence.blame
-          ⊎ BreaksMachine scope rows row offence.rule offence.blame
-          → IsOfMachine (profile_of scope.begins) offence
-      by_why (inl link) = absurd (laws.stops link.pieces row link.fault.first
-          link.act_list.in_order link.fault.rule.breaks (rw link.act_list.whole list))
-      by_why (inr machine) =
-          let longer = Whole machine.act (machine.begun ++ row ∷ []) ∷ machine.earlier in
-          elim (counted_or_early (profile_of scope.begins) (is_in_haste scope longer) row
-          (record { rule = machine.own; blame = sender_of machine.act })) [
-            | inl own ↦ inl (
-              machine.no_step.device,
-              machine.counts ∙ (ap (λ (it : LinkFault). it.rule) own ∙ machine.no_step.rule),
-            )
-            | inr early ↦ inr (
-              early.0,
-              machine.counts ∙ ap (λ (it : LinkFault). it.rule) early.1,
-              machine.blame ∙ ap (λ (it : LinkFault). it.blame) early.1,
-            )
-          ]
+  earlier_row rows row offence list why_not = elim why_not.why [
+    | inl link ↦ absurd (laws.stops link.pieces row link.fault.first link.act_list.in_order
+        link.fault.rule.breaks (rw link.act_list.whole list))
+    | inr machine ↦
+        let longer = Whole machine.act (machine.begun ++ row ∷ []) ∷ machine.earlier in
+        elim (counted_or_early (profile_of scope.begins) (is_in_haste scope longer) row
+        (record { rule = machine.own; blame = sender_of machine.act })) [
+          | inl own ↦ inl (
+            machine.no_step.device,
+            machine.counts ∙ (ap (λ (it : LinkFault). it.rule) own ∙ machine.no_step.rule),
+          )
+          | inr early ↦ inr (
+            early.0,
+            machine.counts ∙ ap (λ (it : LinkFault). it.rule) early.1,
+            machine.blame ∙ ap (λ (it : LinkFault). it.blame) early.1,
+          )
+        ]
+  ]
 
   -- at the row of a fault, an offence has its rule and its blame
   at_the_row : (pieces : List Piece) (row : Event) (fault : LinkFault) (offence : Offence)
       → ArePieces scope pieces → IsLinkFault scope pieces row fault.rule fault.blame
       → IsOffence scope (events_of pieces) row offence
       → (offence.rule ≡ fault.rule) × (offence.blame ≡ fault.blame)
-  at_the_row pieces row fault offence order is why_not = by_why why_not.why
-    where
-      by_why : BreaksLink scope (events_of pieces) row offence.rule offence.blame
-          ⊎ BreaksMachine scope (events_of pieces) row offence.rule offence.blame
-          → (offence.rule ≡ fault.rule) × (offence.blame ≡ fault.blame)
-      by_why (inl link) =
-          let one : link.pieces ≡ pieces = laws.one_list (events_of pieces) link.pieces pieces
-          link.act_list (record { in_order = order; whole = refl }) in
-          laws.one_fault pieces row offence.rule fault.rule offence.blame fault.blame
-          (subst (λ l. IsLinkFault scope l row offence.rule offence.blame) one link.fault) is
-      by_why (inr machine) = absurd (laws.stops pieces row is.first order is.rule.breaks
-          (Whole machine.act (machine.begun ++ row ∷ []) ∷ machine.earlier, machine.act_list))
+  at_the_row pieces row fault offence order is why_not = elim why_not.why [
+    | inl link ↦
+        let one : link.pieces ≡ pieces = laws.one_list (events_of pieces) link.pieces pieces
+        link.act_list (record { in_order = order; whole = refl }) in
+        laws.one_fault pieces row offence.rule fault.rule offence.blame fault.blame
+        (subst (λ l. IsLinkFault scope l row offence.rule offence.blame) one link.fault) is
+    | inr machine ↦ absurd (laws.stops pieces row is.first order is.rule.breaks
+        (Whole machine.act (machine.begun ++ row ∷ []) ∷ machine.earlier, machine.act_list))
+  ]
 
   module _ (form : LineForm) (records : List (List (List ℕ))) (fault : LinkFault) (text : List ℕ)
       (shown : IsShownToFaultIn form scope records fault text) where
@@ -166,7 +158,7 @@ module _ (scope : Scope) (laws : BusLaws scope) where
             )
 
     -- the verdict is a no, at that row or before it
-    verdict_up_to : (answer : Result Outcome RunFault) → IsAnswer scope ROWS_MAX records answer
+    pub verdict_up_to : (answer : Result Outcome RunFault) → IsAnswer scope ROWS_MAX records answer
         → IsOwnAnswer answer
         → IsNoUpTo (profile_of scope.begins) (length (events_of shown.pieces) + 1) fault answer
     verdict_up_to (Ok (Yes report)) is own =
@@ -194,13 +186,3 @@ module _ (scope : Scope) (laws : BusLaws scope) where
           )
         ]
     verdict_up_to (Err fault) is own = own
-
-pub same_fault : (form : LineForm) (scope : Scope) → BusLaws scope
-    → (records : List (List (List ℕ))) (fault : LinkFault) (text : List ℕ)
-    (answer : Result Outcome RunFault)
-    → (shown : IsShownToFaultIn form scope records fault text)
-    → IsAnswer scope ROWS_MAX records answer
-    → IsOwnAnswer answer → IsNoUpTo (profile_of scope.begins) (length (events_of shown.pieces) + 1)
-    fault answer
-same_fault form scope laws records fault text answer shown =
-    verdict_up_to scope laws form records fault text shown answer

@@ -1,27 +1,26 @@
 -- How far the lines of some rows have come.
-use Rattle.std.proofs.Common.{arith, refl, ap, sym, inl, inr, ◌∙◌, ◌≡◌, ◌+◌, ◌<◌, ◌≤◌, ℕ, List, [], ◌∷◌, ◌++◌, Option, Some, None, Result, Err, length, length-append, append_assoc, take, drop, get_or, add-one, take-append-drop}
+use Rattle.std.proofs.Common.{Err, List, None, Some, [], add-one, ap, append_assoc, arith, drop, get_or, inl, inr, length, length-append, refl, sym, take, take-append-drop, ℕ, ◌++◌, ◌+◌, ◌<◌, ◌∙◌, ◌∷◌, ◌≡◌, ◌≤◌}
 use Rattle.std.proofs.lemmas.List.{append-nil, take_more}
-use Rattle.std.proofs.Math.Seq.{drop-cons}
-use Rattle.std.specs.Prelude.{IsErrAnd}
-use Rattle.mdb_words.specs.declared.event.Event.{Event}
-use Rattle.mdb_bus.specs.declared.act.Act.{Act}
-use Rattle.mdb_bus.specs.declared.bus.Bus.{Bus}
-use Rattle.mdb_bus.specs.declared.fault.LinkFault.{LinkFault}
-use Rattle.mdb_bus.specs.Pieces.{NamesAReply}
-use Rattle.mdb_bus.specs.ActLists.{Piece, Whole, ArePieces, events_of, piece_events}
-use Rattle.mdb_bus.specs.Bus.{GoesOn, StandsFor, scope_of}
+use Rattle.mdb_bus.specs.ActLists.{ArePieces, Piece, Whole, events_of, piece_events}
+use Rattle.mdb_bus.specs.Bus.{StandsFor, scope_of}
 use Rattle.mdb_bus.specs.LinkFaults.{IsLinkFault}
-use Rattle.mdb_verdict.specs.declared.fault.RunFault.{RunFault}
-use Rattle.mdb_verdict.specs.declared.fault.RunFault.TheVariants.{BadRow, TooLong, Read, Write, Memory}
-use Rattle.mdb_show.specs.declared.showing.Lines.{Lines}
-use Rattle.mdb_verdict.specs.Telling.{IsNotTaken}
-use Rattle.mdb_verdict.proofs.Tellings.{handed_on}
-use Rattle.mdb_writing.specs.Output.{Output, Puts}
-use Rattle.mdb_show.specs.inner.ShowSteps.{HasAdded, HasPieces, HasShown, IsAdded, IsAddedToFault, LeadInto, ended_text}
-use Rattle.mdb_show.specs.Lines.{LineForm, closed_pieces, lines_of}
-use Rattle.mdb_show.proofs.ShowTexts.{ends_act, goes_on_closed, whole_of}
-use Rattle.mdb_writing.proofs.Outputs.{break_both, put_both}
+use Rattle.mdb_bus.specs.Pieces.{NamesAReply}
+use Rattle.mdb_bus.specs.declared.act.Act.{Act}
+use Rattle.mdb_bus.specs.declared.fault.LinkFault.{LinkFault}
 use Rattle.mdb_bus.specs.declared.scope.Scope.{Scope}
+use Rattle.mdb_show.specs.Lines.{LineForm, closed_pieces, lines_of}
+use Rattle.mdb_show.specs.declared.showing.Lines.{Lines}
+use Rattle.mdb_show.specs.inner.ShowSteps.{HasAdded, HasPieces, HasShown, IsAdded, IsAddedToFault, LeadInto, ended_text}
+use Rattle.mdb_verdict.specs.Telling.{IsNotTaken}
+use Rattle.mdb_verdict.specs.declared.fault.RunFault.{RunFault}
+use Rattle.mdb_verdict.specs.declared.fault.RunFault.TheVariants.{Memory, Write}
+use Rattle.mdb_words.specs.declared.event.Event.{Event}
+use Rattle.mdb_writing.proofs.Outputs.{break_both, put_both}
+use Rattle.mdb_writing.specs.Output.{Output, Puts}
+use Rattle.std.proofs.Math.Seq.{drop-cons}
+use Rattle.mdb_bus.specs.declared.bus.Bus.{Bus}
+use Rattle.mdb_bus.specs.Bus.{GoesOn}
+use Rattle.mdb_show.proofs.ShowTexts.{ends_act, goes_on_closed, whole_of}
 
 -- The lines of some rows.
 
@@ -238,15 +237,13 @@ module _ {form : LineForm} {scope : Scope} {old lines : Lines} {was now : Output
 
       -- its line isn't put there
       pub fault_refused : (left : Lines) (later : Output) (refused : RunFault)
-          → IsNotTaken refused now later (form.fault row fault)
-          → (answer : Result (Option LinkFault) RunFault) → IsErrAnd answer (λ told. told ≡ refused)
-          → (before : Output) (earlier : List Event) → HasShown form scope old before was earlier
-          → HasAdded form scope left before later earlier events answer
-      fault_refused left later refused not_taken answer told before earlier has_old =
+          → IsNotTaken refused now later (form.fault row fault) → (before : Output)
+          (earlier : List Event) → HasShown form scope old before was earlier
+          → HasAdded form scope left before later earlier events (Err refused)
+      fault_refused left later refused not_taken before earlier has_old =
           let has = adds.shown before earlier has_old in
-          handed_on (HasAdded form scope left before later earlier events) refused
-          (line_untaken left later earlier (form.fault row fault) has
-          (inr (fault, to_fault earlier has)) refused not_taken) answer told
+          line_untaken left later earlier (form.fault row fault) has
+          (inr (fault, to_fault earlier has)) refused not_taken
 
     -- the lines of its act aren't put there
     pub act_refused : (left : Lines) {next : Bus} (later : Output) (act : Act)
@@ -254,15 +251,13 @@ module _ {form : LineForm} {scope : Scope} {old lines : Lines} {was now : Output
         → ((pieces : List Piece) → StandsFor lines.bus pieces → GoesOn next pieces event (Some act))
         → (refused : RunFault)
         → IsNotTaken refused now later (ended_text form lines.shown lines.rows act)
-        → (answer : Result (Option LinkFault) RunFault) → IsErrAnd answer (λ told. told ≡ refused)
         → (before : Output) (earlier : List Event) → HasShown form scope old before was earlier
-        → HasAdded form scope left before later earlier events answer
-    act_refused left later act kept on refused not_taken answer told before earlier has_old =
+        → HasAdded form scope left before later earlier events (Err refused)
+    act_refused left later act kept on refused not_taken before earlier has_old =
         let has = adds.shown before earlier has_old in
         let gone = on has.pieces has.stands in
         let added = act_lines has kept gone in
-        handed_on (HasAdded form scope left before later earlier events) refused
-        (line_untaken left later earlier (ended_text form lines.shown lines.rows act) has
+        line_untaken left later earlier (ended_text form lines.shown lines.rows act) has
         (inl (record {
           pieces = gone.longer;
           lead = record {
@@ -273,4 +268,4 @@ module _ {form : LineForm} {scope : Scope} {old lines : Lines} {was now : Output
             in_order = added.0;
           };
           lines = sym (ap (lines_of form) added.1 ∙ added.2);
-        })) refused not_taken) answer told
+        })) refused not_taken

@@ -1,20 +1,21 @@
 -- The lines of `show`, as a row adds to them.
-use Rattle.std.proofs.Common.{arith, refl, ap, sym, subst, ◌∙◌, inl, inr, ◌≡◌, ◌+◌, ◌/◌, ◌%◌, ◌<◌, ◌⊎◌, ℕ, true, List, [], ◌∷◌, ◌++◌, Option, Some, None, length, length-append, append_assoc, Result, Ok, Err, if◌then◌else◌}
+use Rattle.std.proofs.Common.{Err, List, None, Ok, Option, Result, Some, [], ap, append_assoc, arith, get_or, if◌then◌else◌, inl, inr, length, length-append, refl, subst, sym, take, true, ℕ, ◌%◌, ◌++◌, ◌+◌, ◌/◌, ◌<◌, ◌∙◌, ◌∷◌, ◌≡◌, ◌⊎◌}
 use Rattle.std.proofs.lemmas.List.{append-nil, take_more}
-use Rattle.std.proofs.lemmas.Bool.Decides.{nat_tests}
-use Rattle.std.specs.Prelude.{OnOk, get_or, is_ok, take}
 use Rattle.std.specs.Fmt.{digit_glyph}
-use Rattle.mdb_words.specs.declared.event.Event.{Event}
-use Rattle.mdb_bus.specs.declared.act.Act.{Act}
-use Rattle.mdb_bus.specs.declared.act.Act.TheVariants as acts
-use Rattle.mdb_bus.specs.ActLists.{Piece, Whole, AskTail, ReplyTail, RepeatTail, Position, Quiet, InAsk, Asked, InReply, Replied, Returned, InRepeat, InForeign, ArePieces, BlockMayCome, MayCome, MayStand, events_of, piece_events}
-use Rattle.mdb_bus.specs.Pieces.{IsTail, act_in}
+use Rattle.std.specs.Prelude.{OnOk, is_ok}
+use Rattle.mdb_bus.specs.ActLists.{ArePieces, AskTail, BlockMayCome, InAsk, InRepeat, InReply, MayCome, MayStand, Piece, Position, Quiet, RepeatTail, ReplyTail, Whole, events_of, piece_events}
 use Rattle.mdb_bus.specs.Bus.{Grown}
-use Rattle.mdb_show.specs.inner.ShowSteps.{cut_text, ended_text}
-use Rattle.mdb_show.specs.Lines.{LineForm, closed_pieces, lines_of, piece_line}
-use Rattle.mdb_show.specs.ShowText.{bytes_text}
+use Rattle.mdb_bus.specs.Pieces.{IsTail, act_in}
+use Rattle.mdb_bus.specs.declared.act.Act.{Act}
 use Rattle.mdb_bus.specs.declared.scope.Profile.{Profile}
 use Rattle.mdb_bus.specs.declared.scope.Scope.{Scope}
+use Rattle.mdb_show.specs.Lines.{LineForm, closed_pieces, lines_of, piece_line}
+use Rattle.mdb_show.specs.ShowText.{bytes_text}
+use Rattle.mdb_show.specs.inner.ShowSteps.{cut_text, ended_text}
+use Rattle.mdb_words.specs.declared.event.Event.{Event}
+use Rattle.std.proofs.lemmas.Bool.Decides.{nat_tests}
+use Rattle.mdb_bus.specs.declared.act.Act.TheVariants as acts
+use Rattle.mdb_follow.proofs.Asks.{no-act}
 
 -- one byte more
 bytes_push : (bytes : List ℕ) (byte : ℕ)
@@ -102,32 +103,19 @@ closed_tail : (piece : Piece) (pieces : List Piece) → IsTail piece
 closed_tail (Whole act events) pieces is = absurd is
 closed_tail piece pieces is = refl
 
-none_tail : (piece : Piece) → act_in piece ≡ None → IsTail piece
-none_tail (Whole act events) none = cc
-none_tail piece none = tt
-
 -- a row that ends no act leaves the closed pieces as they were
 pub goes_on_closed : (scope : Scope) (pieces longer : List Piece) (row : Event)
     → Grown pieces row None longer → ArePieces scope longer
     → closed_pieces longer ≡ closed_pieces pieces
-goes_on_closed scope pieces longer row grown order = with_from grown.from
-  where
-    after : closed_pieces longer ≡ grown.earlier
-    after = rw grown.are
-        (closed_tail grown.newest grown.earlier (none_tail grown.newest grown.ends))
-
-    ordered : ArePieces scope (grown.newest ∷ grown.earlier)
-    ordered = subst (ArePieces scope) grown.are order
-
-    with_from : ((grown.begun ≡ []) × (pieces ≡ grown.earlier))
-        ⊎ ((tail : Piece) × IsTail tail × (piece_events tail ≡ grown.begun)
-        × (pieces ≡ tail ∷ grown.earlier))
-        → closed_pieces longer ≡ closed_pieces pieces
-    with_from (inl new) =
-        after ∙ (sym (on_closed scope grown.earlier grown.newest ordered.1
-        (tail_no_break grown.newest grown.ends)) ∙ ap closed_pieces (sym new.1))
-    with_from (inr old) =
-        after ∙ sym (ap closed_pieces old.3 ∙ closed_tail old.0 grown.earlier old.1)
+goes_on_closed scope pieces longer row grown order =
+    let after : closed_pieces longer ≡ grown.earlier = rw grown.are
+    (closed_tail grown.newest grown.earlier (no-act grown.newest grown.ends)) in
+    let ordered : ArePieces scope (grown.newest ∷ grown.earlier) = rw grown.are at order in
+    elim grown.from [
+      | inl new ↦ after ∙ (sym (on_closed scope grown.earlier grown.newest ordered.1
+          (tail_no_break grown.newest grown.ends)) ∙ ap closed_pieces (sym new.1))
+      | inr old ↦ after ∙ sym (ap closed_pieces old.3 ∙ closed_tail old.0 grown.earlier old.1)
+    ]
 
 -- lines of rows in all
 cut_none : (form : LineForm) (n m : ℕ) → n ≡ m → cut_text form n m ≡ []
@@ -278,12 +266,10 @@ module _ (form : LineForm) (scope : Scope) (pieces longer : List Piece) (row : E
   pub ends_act : (closed_pieces longer ≡ longer)
       × (lines_of form longer
       ≡ lines_of form (closed_pieces pieces) ++ ended_text form shown rows act)
-  ends_act = (ap closed_pieces are ∙ sym are, with_from grown.from)
-    where
-      with_from : ((grown.begun ≡ []) × (pieces ≡ grown.earlier))
-          ⊎ ((tail : Piece) × IsTail tail × (piece_events tail ≡ grown.begun)
-          × (pieces ≡ tail ∷ grown.earlier))
-          → lines_of form longer
-          ≡ lines_of form (closed_pieces pieces) ++ ended_text form shown rows act
-      with_from (inl new) = alone new.0 new.1 (break_or_not act)
-      with_from (inr old) = of_tail old.0 old.1 old.2 old.3 (break_or_not act)
+  ends_act = (
+    ap closed_pieces are ∙ sym are,
+    elim grown.from [
+      | inl new ↦ alone new.0 new.1 (break_or_not act)
+      | inr old ↦ of_tail old.0 old.1 old.2 old.3 (break_or_not act)
+    ],
+  )

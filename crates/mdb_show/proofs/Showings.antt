@@ -1,26 +1,26 @@
 -- What the showing is, by how the reading of rows ended.
-use Rattle.std.proofs.Common.{arith, refl, ap, sym, inl, inr, ◌∙◌, ◌≡◌, ◌≤◌, ℕ, List, [], ◌∷◌, ◌++◌, Option, Some, None, Result, Ok, Err, length, append_assoc}
-use Rattle.std.specs.Result.{result_transpose}
-use Rattle.mdb_words.specs.declared.event.Event.{Event}
-use Rattle.mdb_words.specs.Row.{IsRow}
-use Rattle.mdb_words.specs.Refusals.{IsRefusal}
-use Rattle.mdb_bus.specs.declared.fault.LinkFault.{LinkFault}
-use Rattle.mdb_bus.specs.ActLists.{Piece, events_of}
+use Rattle.std.proofs.Common.{Err, List, None, Ok, Option, Result, Some, [], ap, append_assoc, arith, inl, inr, length, refl, sym, ℕ, ◌++◌, ◌∙◌, ◌∷◌, ◌≡◌, ◌≤◌}
+use Rattle.mdb_bus.specs.ActLists.{Piece}
 use Rattle.mdb_bus.specs.Bus.{StandsFor, scope_of}
-use Rattle.mdb_follow.specs.declared.follower.TheConstants.{ROWS_MAX}
-use Rattle.mdb_verdict.specs.declared.fault.RunFault.{RunFault}
-use Rattle.mdb_verdict.specs.declared.fault.RunFault.TheVariants.{BadRow, TooLong, Read, Write, Memory}
-use Rattle.mdb_show.specs.declared.showing.Lines.{Lines}
-use Rattle.mdb_verdict.specs.Ending.{AreRead, HasEnded, HasTakenOrStopped, IsStop, IsStopped, IsTakenWhole}
-use Rattle.mdb_show.specs.Show.{AreShown, IsNotWhole, IsShowingIn, IsShownInPartIn, IsShownToFaultIn, IsShownWholeIn}
-use Rattle.mdb_writing.specs.Output.{Output, Puts, begun, output}
-use Rattle.mdb_show.specs.inner.ShowSteps.{HasAdded, HasShown, HasStopped, IsAdded, IsAddedInPart, IsAddedToFault, LeadInto, PutsShowing, cut_text}
-use Rattle.mdb_show.specs.Lines.{LineForm, closed_pieces, lines_of}
-use Rattle.mdb_verdict.specs.Telling.{IsNotTaken, IsOfOutput}
-use Rattle.mdb_writing.proofs.Outputs.{break_both, put_begun, put_both}
-use Rattle.mdb_verdict.proofs.Rows.{are_rows, fewer, read_at, read_before}
-use Rattle.mdb_show.proofs.ShowTexts.{all_shown}
+use Rattle.mdb_bus.specs.declared.fault.LinkFault.{LinkFault}
 use Rattle.mdb_bus.specs.declared.scope.Scope.{Scope}
+use Rattle.mdb_follow.specs.declared.follower.TheConstants.{ROWS_MAX}
+use Rattle.mdb_show.specs.Lines.{LineForm, closed_pieces, lines_of}
+use Rattle.mdb_show.specs.Show.{AreShown, IsShowingIn, IsShownInPartIn, IsShownToFaultIn, IsShownWholeIn}
+use Rattle.mdb_show.specs.declared.showing.Lines.{Lines}
+use Rattle.mdb_show.specs.inner.ShowSteps.{HasAdded, HasShown, HasStopped, IsAdded, IsAddedInPart, IsAddedToFault, LeadInto, PutsShowing, cut_text}
+use Rattle.mdb_verdict.specs.Ending.{AreRead, HasEnded, HasTakenOrStopped, IsStop, IsStopped, IsTakenWhole}
+use Rattle.mdb_verdict.specs.Telling.{IsNotTaken, IsOfOutput}
+use Rattle.mdb_verdict.specs.declared.fault.RunFault.{RunFault}
+use Rattle.mdb_verdict.specs.declared.fault.RunFault.TheVariants.{BadRow, Memory, Read, TooLong, Write}
+use Rattle.mdb_words.specs.Refusals.{IsRefusal}
+use Rattle.mdb_words.specs.Row.{IsRow}
+use Rattle.mdb_words.specs.declared.event.Event.{Event}
+use Rattle.mdb_writing.proofs.Outputs.{break_both, put_begun, put_both}
+use Rattle.mdb_writing.specs.Output.{Output, Puts, begun, output}
+use Rattle.std.specs.Result.{result_transpose}
+use Rattle.mdb_verdict.proofs.Rows.{fewer, read_at, read_before}
+use Rattle.mdb_show.proofs.ShowTexts.{all_shown}
 
 -- before the first row
 pub begins : (form : LineForm) (scope : Scope) (lines : Lines) (page : List ℕ)
@@ -59,7 +59,7 @@ module _ (form : LineForm) (scope : Scope) (all : List (List (List ℕ))) (lines
   shown_of {rows = rows} has read = record {
     done = read.done;
     split = read.split;
-    told = rw has.are (are_rows read.done rows read.told);
+    told = rw has.are read.told;
     in_order = rw has.in_scope at has.stands.in_order;
   }
 
@@ -165,7 +165,7 @@ module _ (form : LineForm) (scope : Scope) (all : List (List (List ℕ))) where
   lead_shown {earlier = earlier} lead read = record {
     done = read.done;
     split = read.split;
-    told = rw lead.are (are_rows read.done (earlier ++ lead.front) read.told);
+    told = rw lead.are read.told;
     in_order = lead.in_order;
   }
 
@@ -256,11 +256,3 @@ module _ (form : LineForm) (scope : Scope) (lines : Lines) (before after : Outpu
       → IsOfOutput fault
   stop_of_output stop fault stopped is =
       added_of_output stopped.0 stopped.1 fault (rw is at stopped.2)
-
--- the acts aren't shown to the end
-
-pub fault_not_whole : (fault : RunFault) → IsNotWhole (Err fault)
-fault_not_whole fault is = absurd cc
-
-pub stopped_not_whole : (fault : LinkFault) → IsNotWhole (Ok (Some fault))
-stopped_not_whole fault is = absurd cc

@@ -1,9 +1,7 @@
 -- What is shown is written out at the end.
-use Rattle.mdb_writing.specs.Output.{output}
 use Rattle.mdb_show.specs.Show.{IsNotWhole, IsShowingIn, lines_in}
-use Rattle.mdb_show.proofs.Showings.{fault_not_whole}
-use Rattle.mdb_verdict.specs.declared.fault.RunFault.TheVariants.{Write}
 use Rattle.mdb_verdict.proofs.Tellings.{reads_finished, told}
+use Rattle.mdb_writing.specs.Output.{output}
 use Rattle.mdb_show.proofs.showing.show_records.Goals as goal
 
 pub returns-clause-shows : goal.returns-clause-shows
@@ -20,5 +18,5 @@ pub returns-clause-reads : goal.returns-clause-reads
 returns-clause-reads g c =
     reads_finished IsNotWhole g.R.Read.remaining c.args.records.now
     c.show_rows-answer.new.records (g.W.Write.contents c.finish.new.writer) _
-    c.show_rows-answer.result c.finish.result (fault_not_whole Write)
+    c.show_rows-answer.result c.finish.result (λ is. absurd (cc))
     c.show_rows-answer.ensures.reads c.finish.ensures

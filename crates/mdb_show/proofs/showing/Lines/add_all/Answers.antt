@@ -2,6 +2,7 @@
 use Rattle.std.proofs.Common.{refl, ◌+◌}
 use Rattle.mdb_bus.specs.Bus.{scope_of}
 use Rattle.mdb_show.specs.Show.{lines_in}
+use Rattle.mdb_verdict.proofs.Verdicts.{is_fault}
 use Rattle.mdb_show.proofs.ShowSteps as steps
 use Rattle.mdb_show.proofs.showing.Lines.add_all.Goals as goal
 use Rattle.mdb_show.proofs.showing.Lines.add_all.Goals.{then-ended+in_ok-add_ended, else-ended}
@@ -13,11 +14,11 @@ loop-event-init g c =
 
 pub returns-in_err-add_fault-in-Err-clause-added : goal.returns-in_err-add_fault-in-Err-clause-added
 returns-in_err-add_fault-in-Err-clause-added g c =
-    steps.fault_refused c.args.events.now c.loop-event.event-index c.event-item.result
+    rw (is_fault c.from_residual.result c.from_residual.ensures.1)
+    (steps.fault_refused c.args.events.now c.loop-event.event-index c.event-item.result
     c.loop-event-test.true c.event-item.is c.loop-event.invariant c.in-Err.fault
-    (c.loop-event.self.rows + 1) refl c.in-Err.ensures.faults _ _
-    c.in_err-add_fault-in-Err.field-0.0 c.in_err-add_fault-in-Err.ensures.refused
-    c.from_residual.result c.from_residual.ensures.1
+    (c.loop-event.self.rows + 1) refl c.in-Err.ensures.faults c.loop-event.self _ _
+    c.in_err-add_fault-in-Err.ensures.refused)
 
 pub returns-in-Err-clause-added : goal.returns-in-Err-clause-added
 returns-in-Err-clause-added g c =
@@ -34,11 +35,12 @@ add_ended-requires-clause-reply g c =
 
 pub returns-in_err-add_ended-clause-added : goal.returns-in_err-add_ended-clause-added
 returns-in_err-add_ended-clause-added g c =
-    steps.act_refused c.args.events.now c.loop-event.event-index c.event-item.result
-    c.loop-event-test.true c.event-item.is c.loop-event.invariant _ _ c.feed_into.new.act
-    c.feed_into.ensures.scope (rw c.if-ended.true at c.in-Ok.ensures.goes_on)
-    c.in_err-add_ended.field-0.0 c.in_err-add_ended.ensures.refused
-    c.from_residual-in_err-add_ended.result c.from_residual-in_err-add_ended.ensures.1
+    rw (is_fault c.from_residual-in_err-add_ended.result c.from_residual-in_err-add_ended.ensures.1)
+    (steps.act_refused c.args.events.now c.loop-event.event-index c.event-item.result
+    c.loop-event-test.true c.event-item.is c.loop-event.invariant c.loop-event.self _
+    c.feed_into.new.act c.feed_into.ensures.scope
+    (rw c.if-ended.true at c.in-Ok.ensures.goes_on) _
+    c.in_err-add_ended.ensures.refused)
 
 pub loop-event-preserved : goal.loop-event-preserved
 loop-event-preserved g c = elim c.if-ended.branch [
