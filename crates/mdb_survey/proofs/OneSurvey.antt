@@ -1,20 +1,18 @@
 -- The records of a text are surveyed in one way.
-use Rattle.std.proofs.Common.{arith, refl, ap, sym, ◌∙◌, ◌≡◌, ◌+◌, ◌<◌, ◌≤◌, ℕ, List, [], ◌∷◌, ◌++◌, Result, Ok, Err, inl, inr, length, length-append}
-use Rattle.mdb_words.specs.declared.event.Event.{Event}
-use Rattle.mdb_words.specs.Row.{IsRow}
-use Rattle.mdb_words.specs.Refusals.{IsRefusal}
+use Rattle.std.proofs.Common.{Err, List, Ok, Result, [], ap, ap₂, arith, length, refl, sym, ℕ, ◌++◌, ◌∙◌, ◌∷◌, ◌≡◌, ◌≤◌}
 use Rattle.mdb_bus.specs.declared.scope.Scope.{Scope}
 use Rattle.mdb_follow.specs.declared.follower.TheConstants.{ROWS_MAX}
+use Rattle.mdb_stretches.specs.Stretches.{IsSurvey}
+use Rattle.mdb_stretches.specs.Summaries.{summary_of}
 use Rattle.mdb_stretches.specs.declared.stretch.Ended.{Ended}
 use Rattle.mdb_stretches.specs.declared.stretch.Stretch.{Stretch}
 use Rattle.mdb_stretches.specs.declared.summary.Summary.{Summary}
-use Rattle.mdb_stretches.specs.Stretches.{IsSurvey}
-use Rattle.mdb_stretches.specs.Summaries.{summary_of}
-use Rattle.mdb_verdict.specs.declared.fault.RunFault.{RunFault}
-use Rattle.mdb_verdict.specs.declared.fault.RunFault.TheVariants.{BadRow, TooLong, Read, Write, Memory}
-use Rattle.mdb_verdict.proofs.OneAnswer.{GoesOn, compared, one_refusal, row_not_refused}
-use Rattle.mdb_survey_text.specs.Lines.{LineForm, lines_of}
 use Rattle.mdb_survey.specs.Survey.{AreSurveyed, IsSurveying}
+use Rattle.mdb_survey_text.specs.Lines.{LineForm, lines_of}
+use Rattle.mdb_verdict.specs.declared.fault.RunFault.{RunFault}
+use Rattle.mdb_verdict.specs.declared.fault.RunFault.TheVariants.{BadRow, Memory, Read, TooLong, Write}
+use Rattle.mdb_words.specs.declared.event.Event.{Event}
+use Rattle.mdb_verdict.proofs.OneAnswer.{Ending, EndsBy, SaysOne, one_ending}
 use Rattle.mdb_verdict.specs.Verdict.{IsOwnAnswer}
 
 -- rows have at most one survey
@@ -23,123 +21,91 @@ HaveOneSurvey scope = (rows : List Event) (one other : List Ended) (last also : 
     → IsSurvey scope rows one last → IsSurvey scope rows other also
     → (one ≡ other) × (last ≡ also)
 
-module _ (form : LineForm) (scope : Scope) where
-  -- how the survey of a text ends after so many rows
-  abbrev EndsBy : List Ended → Stretch → ℕ → List (List (List ℕ)) → Result Summary RunFault
-      → List ℕ → Type 0
-  EndsBy ended last count rest (Ok summary) text =
-      (rest ≡ []) × (summary ≡ summary_of ended last)
-      × (text ≡ lines_of form ended ++ form.stretch last ++ form.summary summary)
-  EndsBy ended last count rest (Err (BadRow row fault)) text =
-      (fields : List (List ℕ)) × (after : List (List (List ℕ))) × (rest ≡ fields ∷ after)
-      × IsRefusal fields fault × (row ≡ count + 1) × (count < ROWS_MAX)
-      × (text ≡ lines_of form ended ++ form.stretch last)
-  EndsBy ended last count rest (Err TooLong) text =
-      (fields : List (List ℕ)) × (after : List (List (List ℕ))) × (rest ≡ fields ∷ after)
-      × (count ≡ ROWS_MAX) × (text ≡ lines_of form ended ++ form.stretch last)
-  EndsBy ended last count rest (Err fault) text = ⊥
+module _ (scope : Scope) (law : HaveOneSurvey scope) where
+  -- of all rows their summary is said
+  abbrev Says : List Event → List (List (List ℕ)) → Summary → Type 0
+  Says rows [] summary = (ended : List Ended) × (last : Stretch) × IsSurvey scope rows ended last
+      × (summary ≡ summary_of ended last)
+  Says rows (fields ∷ after) summary = ⊥
 
-  -- no row goes on there
-  stops : (ended : List Ended) (last : Stretch) (count : ℕ) (rest : List (List (List ℕ)))
-      (answer : Result Summary RunFault) (text : List ℕ)
-      → EndsBy ended last count rest answer text → (fields : List (List ℕ))
-      (after : List (List (List ℕ))) (event : Event) → rest ≡ fields ∷ after → IsRow fields event
-      → count < ROWS_MAX → ⊥
-  stops ended last count rest (Ok summary) text ends fields after event is row few =
-      cc (ends.0, is)
-  stops ended last count rest (Err (BadRow number fault)) text ends fields after event is row few =
-      let same : fields ≡ ends.0 = cc (ends.2, is) in
-      row_not_refused ends.0 event fault (rw same at row) ends.3
-  stops ended last count rest (Err TooLong) text ends fields after event is row few =
-      omega (arith, ends.3, few)
-  stops ended last count rest (Err fault) text ends fields after event is row few = ends
+  abbrev Any : List Event → Type 0
+  Any rows = Unit {0}
 
-  -- such an end is one
-  one_end : (ended : List Ended) (last : Stretch) (count : ℕ) (rest : List (List (List ℕ)))
-      (a b : Result Summary RunFault) (s t : List ℕ) → EndsBy ended last count rest a s
-      → EndsBy ended last count rest b t → (a ≡ b) × (s ≡ t)
-  one_end ended last count rest (Ok summary) (Ok other) s t p q =
-      let one : summary ≡ other = p.1 ∙ sym q.1 in (ap Ok one, rw (p.2, one, q.2))
-  one_end ended last count rest (Err (BadRow row fault)) (Err (BadRow number other)) s t p q =
-      let same : q.0 ≡ p.0 = cc (q.2, p.2) in
-      (cc (p.4, q.4, one_refusal p.0 fault other p.3 (rw same at q.3)), p.6 ∙ sym q.6)
-  one_end ended last count rest (Err TooLong) (Err TooLong) s t p q = (refl, p.4 ∙ sym q.4)
-  one_end ended last count rest (Ok summary) (Err TooLong) s t p q = absurd (cc (p.0, q.2))
-  one_end ended last count rest (Err TooLong) (Ok summary) s t p q = absurd (cc (p.2, q.0))
-  one_end ended last count rest a b s t p q = absurd (first_of (search, cc, omega arith))
+  says_one : SaysOne Says ROWS_MAX Any
+  says_one = record {
+    fronts = λ rows more any. tt;
+    one = one;
+    stops = λ rows fields after said says. absurd says;
+  }
+    where
+      one : (rows : List Event) (rest : List (List (List ℕ))) (a b : Summary) → Says rows rest a
+          → Says rows rest b → a ≡ b
+      one rows [] a b p q =
+          let same = law rows p.0 q.0 p.1 q.1 p.2 q.2 in
+          p.3 ∙ (ap₂ summary_of same.0 same.1 ∙ sym q.3)
+      one rows (fields ∷ after) a b p q = absurd p
 
-  module _ (records : List (List (List ℕ))) where
-    record Ending (answer : Result Summary RunFault) (text : List ℕ) : Type 0 where
+  module _ (form : LineForm) (records : List (List (List ℕ))) where
+    -- the text of an answer
+    abbrev text_of : List Ended → Stretch → Result Summary RunFault → List ℕ
+    text_of ended last (Ok summary) =
+        lines_of form ended ++ form.stretch last ++ form.summary summary
+    text_of ended last (Err fault) = lines_of form ended ++ form.stretch last
+
+    record Surveyed (answer : Result Summary RunFault) (text : List ℕ) : Type 0 where
       ended : List Ended
       last : Stretch
-      rest : List (List (List ℕ))
-      surveyed : AreSurveyed scope records ended last rest
-      few : length surveyed.rows ≤ ROWS_MAX
-      by : EndsBy ended last (length surveyed.rows) rest answer text
+      ending : Ending Says ROWS_MAX Any records answer
+      survey : IsSurvey scope ending.rows ended last
+      lines : text ≡ text_of ended last answer
 
-    ending : (read : ℕ) (answer : Result Summary RunFault) (text : List ℕ)
+    surveyed_by : {answer : Result Summary RunFault} {text : List ℕ} {ended : List Ended}
+        {last : Stretch} {rest : List (List (List ℕ))}
+        (its : AreSurveyed scope records ended last rest) → length its.rows ≤ ROWS_MAX
+        → EndsBy Says ROWS_MAX its.rows rest answer → text ≡ text_of ended last answer
+        → Surveyed answer text
+    surveyed_by {ended = ended} {last = last} {rest = rest} its few by lines = record {
+      ended = ended;
+      last = last;
+      ending = record {
+        rows = its.rows;
+        rest = rest;
+        done = its.done;
+        split = its.split;
+        told = its.told;
+        can = tt;
+        few = few;
+        by = by;
+      };
+      survey = its.survey;
+      lines = lines;
+    }
+
+    surveyed : (read : ℕ) (answer : Result Summary RunFault) (text : List ℕ)
         → IsSurveying form scope records read answer text → IsOwnAnswer answer
-        → Ending answer text
-    ending read (Ok summary) text is own = record {
-      ended = is.ended;
-      last = is.last;
-      rest = [];
-      surveyed = is.surveyed;
-      few = is.few;
-      by = (refl, is.comes_to, is.lines);
-    }
-    ending read (Err (BadRow row fault)) text is own = record {
-      ended = is.ended;
-      last = is.last;
-      rest = is.fields ∷ is.rest;
-      surveyed = is.surveyed;
-      few = omega (arith, is.few);
-      by = (is.fields, is.rest, refl, is.refused, is.number, is.few, is.lines);
-    }
-    ending read (Err TooLong) text is own = record {
-      ended = is.ended;
-      last = is.last;
-      rest = is.fields ∷ is.rest;
-      surveyed = is.surveyed;
-      few = omega (arith, is.full);
-      by = (is.fields, is.rest, refl, is.full, is.lines);
-    }
-    ending read (Err fault) text is own = absurd own
+        → Surveyed answer text
+    surveyed read (Ok summary) text is own = surveyed_by is.surveyed is.few
+        (is.ended, is.last, is.surveyed.survey, is.comes_to) is.lines
+    surveyed read (Err (BadRow row fault)) text is own = surveyed_by is.surveyed
+        (omega (arith, is.few)) (is.refused, is.few, is.number) is.lines
+    surveyed read (Err TooLong) text is own =
+        surveyed_by is.surveyed (omega (arith, is.full)) is.full is.lines
+    surveyed read (Err fault) text is own = absurd own
 
-    -- of two endings none is after more rows
-    no_longer : (a b : Result Summary RunFault) (s t : List ℕ) (one : Ending a s)
-        (other : Ending b t) → GoesOn one.surveyed.rows other.surveyed.rows one.rest → ⊥
-    no_longer a b s t one other on =
-        let long = length-append one.surveyed.rows (on.event ∷ on.more) in
-        stops one.ended one.last (length one.surveyed.rows) one.rest a s one.by on.fields on.after
-        on.event on.record_is on.row (omega (arith, other.few, ap length on.longer_is, long))
-
-    one_front : (a b : Result Summary RunFault) (s t : List ℕ) (one : Ending a s)
-        (other : Ending b t)
-        → (one.surveyed.rows ≡ other.surveyed.rows) × (one.rest ≡ other.rest)
-    one_front a b s t one other =
-        elim (compared one.surveyed.done other.surveyed.done one.rest other.rest one.surveyed.rows
-        other.surveyed.rows one.surveyed.told other.surveyed.told
-        (sym one.surveyed.split ∙ other.surveyed.split)) [
-          | inl same ↦ same
-          | inr (inl on) ↦ absurd (no_longer a b s t one other on)
-          | inr (inr on) ↦ absurd (no_longer b a t s other one on)
-        ]
-
--- the survey of a text is one
-pub one_surveying : (form : LineForm) (scope : Scope) → HaveOneSurvey scope
-    → (records : List (List (List ℕ))) (read more : ℕ) (a b : Result Summary RunFault)
-    (s t : List ℕ) → IsSurveying form scope records read a s
-    → IsSurveying form scope records more b t → IsOwnAnswer a → IsOwnAnswer b
-    → (a ≡ b) × (s ≡ t)
-one_surveying form scope law records read more a b s t p q own also =
-    let one = ending form scope records read a s p own in
-    let other = ending form scope records more b t q also in
-    let same = one_front form scope records a b s t one other in
-    let its = law other.surveyed.rows one.ended other.ended one.last other.last
-    (rw same.0 at one.surveyed.survey) other.surveyed.survey in
-    one_end form scope other.ended other.last (length other.surveyed.rows) other.rest a b s t
-    (rw (same.0, same.1, its.0, its.1) at one.by) other.by
+    -- the survey of a text is one
+    pub one_surveying : (read more : ℕ) (a b : Result Summary RunFault) (s t : List ℕ)
+        → IsSurveying form scope records read a s → IsSurveying form scope records more b t
+        → IsOwnAnswer a → IsOwnAnswer b → (a ≡ b) × (s ≡ t)
+    one_surveying read more a b s t p q own also =
+        let one = surveyed read a s p own in
+        let other = surveyed more b t q also in
+        let ends = one_ending says_one one.ending other.ending in
+        let same = law other.ending.rows one.ended other.ended one.last other.last
+        (rw ends.0 at one.survey) other.survey in (
+          ends.1,
+          one.lines ∙ (ap₂ (λ (e : List Ended) (l : Stretch). text_of e l a) same.0 same.1
+              ∙ (ap (text_of other.ended other.last) ends.1 ∙ sym other.lines)),
+        )
 
 -- and so it is in each form
 pub in_other_form : (form other : LineForm) (scope : Scope) (records : List (List (List ℕ)))
