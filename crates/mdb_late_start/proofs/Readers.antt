@@ -52,8 +52,8 @@ module _ (unit : ReaderUnit) (facts : Facts) (choice : Choice) (before after : R
       still_held facts its r choice before
       (sym (reply.holds ∙ ap (λ kept. holds_after kept between.holds) none) ∙ held)) step
   held_before (acts.VmcAck c r) step empty =
-      held_by_own holding (own unit c) _ (λ its is ack held. held_acked choice (kept_of (parts_of r))
-      before.holds (rw ack.to at held)) step
+      held_by_own holding (own unit c) _ (λ its is ack held.
+      held_acked choice (kept_of (parts_of r)) before.holds (rw ack.to at held)) step
   held_before (acts.Break n) step empty = λ held. absurd (cc (step.0, held))
   held_before act step empty = λ held. rw step.0 at held
 

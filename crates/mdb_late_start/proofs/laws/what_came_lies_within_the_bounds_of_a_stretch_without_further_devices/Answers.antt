@@ -8,5 +8,5 @@ returns c = λ scope more setups levels front middle rows sums run report may le
     middle sums run may has.anew passes told
     c.what_is_known_of_a_device_is_of_its_own_acts.ensures.unvalued rows report account
     (known, none) c.runs_go_on_without_further_devices.ensures
-    c.act_lists_stay_without_further_devices.ensures c.acts_of_followed_devices_stay.ensures.followed
-    more leaves has is followed
+    c.act_lists_stay_without_further_devices.ensures
+    c.acts_of_followed_devices_stay.ensures.followed more leaves has is followed
