@@ -1,7 +1,6 @@
 -- By the extended profile a sale may be told exactly where it is approved: what an act makes of the
 -- sale under way, and so what the acts make of it.
-use Rattle.mdb_cashless.proofs.Words.{arith, zero, suc, ◌≡◌, ◌≢◌, ◌⊎◌, ◌∙◌, ◌∷◌, ◌++◌, ◌||◌, ◌&&◌, ◌==◌, not, ℕ, Bool, true, false, List, [], Some, None, Option, All, refl, ap, sym, subst, inl, inr, list_any, option_map_or, and_parts, eq-eqb, eqb-true, or_cases, common_steps, eqb_tells, All-head, All-tail, Command, ReaderCommand, ReaderUnit, Reply, ReaderMsg, Act, Beginning, PowerOn, Joined, is_approval, Sale, Unawaited, Awaited, Transaction, Cancel, Success, facts_after, sale_all_heard, IsEarlier, MaySell, messages_of, is_same, own, known_or_earlier, Any-from_list_any, Sold, sale_asked, sale_heard, own_messages, own_transaction, LeavesSale, MayBeRequestedBefore, is_request, is_sale_known}
-use Rattle.std.proofs.Common.{Contains}
+use Rattle.mdb_cashless.proofs.Words.{arith, zero, suc, ◌≡◌, ◌≢◌, ◌⊎◌, ◌∙◌, ◌∷◌, ◌++◌, ◌||◌, ◌&&◌, ◌==◌, not, ℕ, Bool, true, false, List, [], Some, None, Option, All, refl, ap, sym, subst, inl, inr, list_any, option_map_or, and_parts, eq-eqb, eqb-true, or_cases, common_steps, eqb_tells, All-head, All-tail, Command, ReaderCommand, ReaderUnit, Reply, ReaderMsg, Act, Beginning, PowerOn, Joined, is_approval, Sale, Unawaited, Awaited, Transaction, Cancel, Success, facts_after, sale_all_heard, IsEarlier, MaySell, messages_of, is_same, own, known_or_earlier, Any-from_list_any, Sold, sale_asked, sale_heard, own_messages, own_transaction, LeavesSale, MayBeRequestedBefore, is_request, is_sale_known, Contains}
 use Rattle.mdb_cashless.specs.declared.approvals.sale.Sale.TheVariants.{Unknown, Asked, Approved}
 use Rattle.mdb_cashless.specs.ExtendedFacts.{Facts, facts_of}
 use Rattle.mdb_cashless.specs.ExtendedSales.{AcksAreOfReplies, IsApproved, SalesAreApproved, asks_request, hears_approval, is_open, leaves_asked, leaves_sale}

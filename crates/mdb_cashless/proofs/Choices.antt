@@ -1,8 +1,5 @@
 -- Where it is of no matter what is chosen of an act of a reader.
-use Rattle.mdb_cashless.proofs.Words.{◌≡◌, false, Some, Command, ReaderCommand, ReaderUnit, First, Second, Reply, Act, Choice, Plain, Lost, Restart, Gains, CanStand, MayBeRead, kept_of, free_acked, ReaderState, parts_of, own, view_taken}
-use Rattle.mdb_cashless.specs.Reader.{AckStep, ReaderStep, ReplyStep, VmcAckStep}
-use Rattle.mdb_cashless.specs.ReaderFacts.{Facts}
-use Rattle.mdb_cashless.specs.inner.PlainReader.{own_as}
+use Rattle.mdb_cashless.proofs.Words.{◌≡◌, false, Some, Command, ReaderCommand, ReaderUnit, First, Second, Reply, Act, Choice, Plain, Lost, Restart, Gains, CanStand, MayBeRead, kept_of, free_acked, ReaderState, parts_of, own, view_taken, AckStep, ReaderStep, ReplyStep, VmcAckStep, Facts, own_as}
 
 -- the command that is meant, where it is to this reader
 the_own : (unit of : ReaderUnit) (command other : ReaderCommand)

@@ -1,11 +1,8 @@
 -- That a step of a reader depends on what may not be known as far as it can be guessed: few guesses
 -- of it are enough.
-use Rattle.mdb_cashless.proofs.Words.{common_steps, ◌≡◌, ◌≢◌, ◌⊎◌, ◌<◌, ◌&&◌, ℕ, suc, Bool, true, false, List, [], ◌∷◌, length, Option, Some, None, refl, if◌then◌else◌, arith, ap, sym, ◌∙◌, inl, inr, take-append_seam, ReaderCommand, Reply, Choice, Restart, Gains, IsNew, held, kept_of, or_else, DeviceState, ReaderActivity, ReaderState, Transaction, Request, Success, View, all_told, parts_of, sent, is_again, is_same, transaction_of, again, asked, is_poll, sold_any, take_any, then_by, AllowsFacts, KnownFacts, own_transaction, length-append, nat_tests, Cancel}
-use Rattle.std.proofs.Common.{take}
+use Rattle.mdb_cashless.proofs.Words.{common_steps, ◌≡◌, ◌≢◌, ◌⊎◌, ◌<◌, ◌&&◌, ℕ, suc, Bool, true, false, List, [], ◌∷◌, length, Option, Some, None, refl, if◌then◌else◌, arith, ap, sym, ◌∙◌, inl, inr, take-append_seam, ReaderCommand, Reply, Choice, Restart, Gains, IsNew, held, kept_of, or_else, DeviceState, ReaderActivity, ReaderState, Transaction, Request, Success, View, all_told, parts_of, sent, is_again, is_same, transaction_of, again, asked, is_poll, sold_any, take_any, then_by, AllowsFacts, KnownFacts, own_transaction, length-append, nat_tests, Cancel, take, AckStep, AskStep, ReplyStep, before_messages, read, taken, Facts}
 use Rattle.mdb_cashless.specs.declared.reader.messages.ReaderActivity.TheVariants.{VendApproved}
-use Rattle.mdb_cashless.specs.Reader.{AckStep, AskStep, ReplyStep, before_messages, read, taken}
 use Rattle.mdb_cashless.specs.ReaderDevice.{told}
-use Rattle.mdb_cashless.specs.ReaderFacts.{Facts}
 
 -- a transaction command is itself
 pub is_itself : (t : Transaction) → is_same t t ≡ true

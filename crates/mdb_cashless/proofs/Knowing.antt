@@ -1,12 +1,5 @@
 -- The facts that may be are those that are kept, with guesses of what isn't known.
-use Rattle.mdb_cashless.proofs.Words.{common_steps, ◌≡◌, ◌≢◌, ◌⊎◌, ◌↔◌, ◌<◌, ◌+◌, ◌&&◌, ◌||◌, ℕ, Bool, true, false, List, [], ◌∷◌, length, Option, Some, None, refl, if◌then◌else◌, arith, sym, inl, inr, is_none, ReaderCommand, ReaderUnit, Reply, Act, Choice, Gains, IsNew, held, kept_of, Allows, AllowsKept, IsOnlyStep, if_known, ReaderKnown, ReaderActivity, ReaderState, Transaction, parts_of, transaction_of, own, IsReplyKeeping, OfSome, again, keeping, add-one, StepKnowing, is_poll, AllowsFacts, KnownFacts, own_transaction}
-use Rattle.std.proofs.Common.{take}
-use Rattle.mdb_machine.specs.Known.{Unknown}
-use Rattle.mdb_cashless.specs.declared.reader.messages.ReaderActivity.TheVariants.{VendDenied}
-use Rattle.mdb_cashless.specs.Reader.{AckStep, AskStep, ReaderStep, ReplyStep, VmcAckStep, before_messages, taken}
-use Rattle.mdb_cashless.specs.ReaderFacts.{Facts}
-use Rattle.mdb_cashless.specs.ReaderValues.{facts_in, known_in, settled}
-use Rattle.mdb_cashless.specs.inner.PlainReader.{own_as}
+use Rattle.mdb_cashless.proofs.Words.{common_steps, ◌≡◌, ◌≢◌, ◌⊎◌, ◌↔◌, ◌<◌, ◌+◌, ◌&&◌, ◌||◌, ℕ, Bool, true, false, List, [], ◌∷◌, length, Option, Some, None, refl, if◌then◌else◌, arith, sym, inl, inr, is_none, ReaderCommand, ReaderUnit, Reply, Act, Choice, Gains, IsNew, held, kept_of, Allows, AllowsKept, IsOnlyStep, if_known, ReaderKnown, ReaderActivity, ReaderState, Transaction, parts_of, transaction_of, own, IsReplyKeeping, OfSome, again, keeping, add-one, StepKnowing, is_poll, AllowsFacts, KnownFacts, own_transaction, take, Unknown, VendDenied, AckStep, AskStep, ReaderStep, ReplyStep, VmcAckStep, before_messages, taken, Facts, facts_in, known_in, settled, own_as}
 use Rattle.mdb_cashless.proofs.Guesses.{Alike, Meets, ack_with, alike, ask_with, either_meets, fronts, held_before, meets_itself, reply_with, same_repeats}
 
 -- What a step by an act that is settled depends on is known: so a step with one guess is one with

@@ -1,11 +1,9 @@
 -- What is known goes on act by act.
-use Rattle.mdb_cashless.proofs.Words.{common_steps, arith, ◌≡◌, ℕ, ◌&&◌, ◌||◌, not, Bool, true, false, List, [], Option, Some, None, refl, ap, unwrap_or, if◌then◌else◌, is_some, Command, ReaderCommand, ReaderUnit, Reply, Act, Beginning, PowerOn, Joined, Part, kept_of, known_before, effect_taken, or_else, powers_on, resets, tells_out_of_sequence, unless_empty, if_known, past_after, ReaderKnown, Transaction, drops, known_of, begin_session, messages_of, ToldFacts, known_with, told_in, told_with, transaction_of, own, same_fields, first_past, from_power_on, known_past_after, past_in, past_known, same_known_past, asked_by, effect_of, effect_of_own, ends_transactions, own_messages, own_of, own_transaction, parts_by, taken_told, transaction_taken_by, tells_taken}
-use Rattle.std.proofs.Common.{option_map}
+use Rattle.mdb_cashless.proofs.Words.{common_steps, arith, ◌≡◌, ℕ, ◌&&◌, ◌||◌, not, Bool, true, false, List, [], Option, Some, None, refl, ap, unwrap_or, if◌then◌else◌, is_some, Command, ReaderCommand, ReaderUnit, Reply, Act, Beginning, PowerOn, Joined, Part, kept_of, known_before, effect_taken, or_else, powers_on, resets, tells_out_of_sequence, unless_empty, if_known, past_after, ReaderKnown, Transaction, drops, known_of, begin_session, messages_of, ToldFacts, known_with, told_in, told_with, transaction_of, own, same_fields, first_past, from_power_on, known_past_after, past_in, past_known, same_known_past, asked_by, effect_of, effect_of_own, ends_transactions, own_messages, own_of, own_transaction, parts_by, taken_told, transaction_taken_by, tells_taken, option_map, known_in}
 use Rattle.mdb_msgs.specs.Setups.{config_known}
 use Rattle.mdb_machine.specs.declared.past.Past.{Past}
 use Rattle.mdb_machine.specs.KnownMore.{known_more}
 use Rattle.mdb_cashless.specs.declared.reader.facts.ReaderFacts.{ReaderFacts}
-use Rattle.mdb_cashless.specs.ReaderValues.{known_in}
 
 -- what an act tells becomes known, and what was known stays so
 asked_after : {X : Type 0} (knows : Bool) (told old : Option X)

@@ -1,10 +1,5 @@
 -- Lists of steps, to which steps are added one after another.
-use Rattle.mdb_cashless.proofs.Words.{◌≡◌, ◌⊎◌, ◌↔◌, ◌+◌, ℕ, List, [], ◌∷◌, length, Bool, true, Option, Some, None, refl, arith, inl, inr, eq-or-lt_of_le, ReaderCommand, Reply, Choice, Gains, IsSmall, kept_of, IsOnlyStep, if_known, ReaderActivity, ReaderState, parts_of, IsReplyKeeping, keeping, IfSome}
-use Rattle.std.proofs.Common.{take, Contains}
-use Rattle.mdb_machine.specs.Known.{Unknown}
-use Rattle.mdb_cashless.specs.declared.reader.messages.ReaderActivity.TheVariants.{VendDenied}
-use Rattle.mdb_cashless.specs.Reader.{ReplyStep}
-use Rattle.mdb_cashless.specs.ReaderFacts.{Facts}
+use Rattle.mdb_cashless.proofs.Words.{◌≡◌, ◌⊎◌, ◌↔◌, ◌+◌, ℕ, List, [], ◌∷◌, length, Bool, true, Option, Some, None, refl, arith, inl, inr, eq-or-lt_of_le, ReaderCommand, Reply, Choice, Gains, IsSmall, kept_of, IsOnlyStep, if_known, ReaderActivity, ReaderState, parts_of, IsReplyKeeping, keeping, IfSome, take, Contains, Unknown, VendDenied, ReplyStep, Facts}
 use Rattle.mdb_cashless.proofs.Knowing.{OfFront, replies_fronts}
 
 -- a list has these steps besides those of another

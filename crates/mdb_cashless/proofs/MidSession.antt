@@ -1,11 +1,6 @@
 -- The ways that an act of a reader may go in a recording that begins in mid-session.
-use Rattle.mdb_cashless.proofs.Words.{common_steps, All, ◌≤◌, ◌≡◌, ◌≢◌, ◌↔◌, ◌⊎◌, inl, inr, ℕ, Bool, true, false, List, [], ◌∷◌, Option, Some, None, refl, ap, sym, ◌∙◌, arith, drop, length, if◌then◌else◌, drop-append_seam, take-append_seam, list_any, ReaderCommand, ReaderUnit, Reply, Act, Joined, Profile, Choice, Gains, device_gains, in_slots, IsNew, held, kept_of, Allows, AllowsKept, known_by, last_list, last_told, or_else, powers_on, unless_empty, ReaderActivity, ReaderState, Ended, Transaction, known_of, config_in, last_said, messages_of, parts_of, amounts, transaction_of, OfSome, keeping, length-take-le, take-append-drop, All-from_recursion, recursion_from_All, all_approved, StepKnowing, is_poll, is_repeated, sold_any, take_any, AllowsFacts, KnownFacts, asked_by, effect_of, ends_transactions, own_transaction, parts_by, taken_told, transaction_taken_by, Command, length-append}
-use Rattle.std.proofs.Common.{take, option_map}
+use Rattle.mdb_cashless.proofs.Words.{common_steps, All, ◌≤◌, ◌≡◌, ◌≢◌, ◌↔◌, ◌⊎◌, inl, inr, ℕ, Bool, true, false, List, [], ◌∷◌, Option, Some, None, refl, ap, sym, ◌∙◌, arith, drop, length, if◌then◌else◌, drop-append_seam, take-append_seam, list_any, ReaderCommand, ReaderUnit, Reply, Act, Joined, Profile, Choice, Gains, device_gains, in_slots, IsNew, held, kept_of, Allows, AllowsKept, known_by, last_list, last_told, or_else, powers_on, unless_empty, ReaderActivity, ReaderState, Ended, Transaction, known_of, config_in, last_said, messages_of, parts_of, amounts, transaction_of, OfSome, keeping, length-take-le, take-append-drop, All-from_recursion, recursion_from_All, all_approved, StepKnowing, is_poll, is_repeated, sold_any, take_any, AllowsFacts, KnownFacts, asked_by, effect_of, ends_transactions, own_transaction, parts_by, taken_told, transaction_taken_by, Command, length-append, take, option_map, VendDenied, AckStep, AskStep, ReaderStep, ReplyStep, before_messages, machine, read, taken, Facts, facts_of}
 use Rattle.mdb_msgs.specs.declared.setups.Setups.{Setups}
-use Rattle.mdb_cashless.specs.declared.reader.messages.ReaderActivity.TheVariants.{VendDenied}
-use Rattle.mdb_cashless.specs.Reader.{AckStep, AskStep, ReaderStep, ReplyStep, before_messages, machine, read, taken}
-use Rattle.mdb_cashless.specs.ReaderFacts.{Facts}
-use Rattle.mdb_cashless.specs.ReaderValues.{facts_of}
 use Rattle.mdb_cashless.specs.MidSession.{AckWay, AreHeld, IsSettled, MayBeAgain, ReplyWay, SendsNone, Takes, TakesNone, TellsNone, facts_recorded}
 use Rattle.mdb_machine.specs.shared.ToldWays.{allows_if, allows_told, as_allowed, asked_so, empty_unless, keeps_if, kept_so, kept_told, list_told, none_told, not_not, told_by_none}
 use Rattle.mdb_cashless.proofs.Guesses.{held_before, is_itself, repeats}

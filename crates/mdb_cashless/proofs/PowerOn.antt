@@ -1,9 +1,5 @@
 -- From power-on all is known of a reader.
-use Rattle.mdb_cashless.proofs.Words.{and-true, common_steps, arith, ◌≡◌, ◌∙◌, ◌↔◌, Bool, List, [], ◌∷◌, Option, Some, None, refl, ap, sym, unwrap_or, if◌then◌else◌, ReaderUnit, Act, PowerOn, Profile, Is, known_by, last_list, last_told, or_else, Choice, Gains, ReaderState, known_of, Transaction, same_past, StepKnowing, AllowsFacts, KnownFacts, asked_by, config_by, ends_transactions, parts_by, taken_told, transaction_taken_by, last_taken}
-use Rattle.std.proofs.Common.{option_map}
-use Rattle.mdb_cashless.specs.Reader.{ReaderStep}
-use Rattle.mdb_cashless.specs.ReaderFacts.{Facts}
-use Rattle.mdb_cashless.specs.ReaderValues.{facts_of}
+use Rattle.mdb_cashless.proofs.Words.{and-true, common_steps, arith, ◌≡◌, ◌∙◌, ◌↔◌, Bool, List, [], ◌∷◌, Option, Some, None, refl, ap, sym, unwrap_or, if◌then◌else◌, ReaderUnit, Act, PowerOn, Profile, Is, known_by, last_list, last_told, or_else, Choice, Gains, ReaderState, known_of, Transaction, same_past, StepKnowing, AllowsFacts, KnownFacts, asked_by, config_by, ends_transactions, parts_by, taken_told, transaction_taken_by, last_taken, option_map, ReaderStep, Facts, facts_of}
 use Rattle.mdb_cashless.proofs.Said.{or_none}
 
 -- all that acts tell is known

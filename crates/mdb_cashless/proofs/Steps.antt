@@ -1,8 +1,7 @@
 -- What the steps of a reader come to, for the functions of its code.
-use Rattle.mdb_cashless.proofs.Words.{◌≡◌, ◌∙◌, ◌↔◌, Bool, true, false, not, Some, refl, sym, ReaderCommand, ReaderUnit, Act, Choice, Lost, Gains, Stays, ReaderState, View, view_heard, no_end, OfSome, StepKnowing, asked, sold_to, KnownFacts, changes_view}
+use Rattle.mdb_cashless.proofs.Words.{◌≡◌, ◌∙◌, ◌↔◌, Bool, true, false, not, Some, refl, sym, ReaderCommand, ReaderUnit, Act, Choice, Lost, Gains, Stays, ReaderState, View, view_heard, no_end, OfSome, StepKnowing, asked, sold_to, KnownFacts, changes_view, Facts}
 use Rattle.std.specs.Bool.{OnFalse, OnTrue}
 use Rattle.mdb_cashless.specs.Reader.{AckStep, AskStep, ReaderStep, take}
-use Rattle.mdb_cashless.specs.ReaderFacts.{Facts}
 
 -- states with the same parts
 pub same_state : {one other : ReaderState} → one.device ≡ other.device → one.view ≡ other.view

@@ -1,5 +1,6 @@
--- The names of std, of the crates below and of this crate's specs that its proofs share.
-pub use Rattle.std.proofs.Common.{All, Bool, List, None, Option, Some, ap, arith, drop, false, if◌then◌else◌, inl, inr, length, map, not, refl, rules, subst, suc, sum_by, sym, true, unwrap_or, zero, ℕ, [], ◌&&◌, ◌*◌, ◌++◌, ◌+◌, ◌-◌, ◌<◌, ◌==◌, ◌||◌, ◌↔◌, ◌∙◌, ◌∷◌, ◌≡◌, ◌≢◌, ◌≤◌, ◌⊎◌, add-one, append_assoc, IfSome}
+-- The names of std, of the crates below and of the specs that the proofs share. Words such as
+-- `Facts`, `taken` and `ReplyStep` are those of the base reader.
+pub use Rattle.std.proofs.Common.{All, Bool, List, None, Option, Some, ap, arith, drop, false, if◌then◌else◌, inl, inr, length, map, not, refl, rules, subst, suc, sum_by, sym, true, unwrap_or, zero, ℕ, [], ◌&&◌, ◌*◌, ◌++◌, ◌+◌, ◌-◌, ◌<◌, ◌==◌, ◌||◌, ◌↔◌, ◌∙◌, ◌∷◌, ◌≡◌, ◌≢◌, ◌≤◌, ◌⊎◌, add-one, append_assoc, IfSome, take}
 pub use Rattle.std.proofs.Math.Bool.{and-true, or-true}
 pub use Rattle.std.proofs.Math.Nat.{eq-or-lt_of_le, zero-add}
 pub use Rattle.std.proofs.Math.Seq.{drop-append_seam, take-append_seam, take-length}
@@ -21,11 +22,11 @@ pub use Rattle.mdb_cashless.specs.ByProfile.{base_state, by_profile, extended_st
 pub use Rattle.mdb_cashless.specs.ByProfileFacts.{by_base, by_extended, config_of, unvalued}
 pub use Rattle.mdb_cashless.specs.ExtendedFacts.{approvals_in, facts_after, sale_all_heard, sale_asked, sale_heard}
 pub use Rattle.mdb_cashless.specs.ExtendedReader.{IsEarlier, MaySell, approved_to, IsSale, approve, effect, may_be_again, may_be_either, news}
-pub use Rattle.mdb_cashless.specs.Reader.{drops, view_heard, StepKnowing, all_approved, all_approved_to, asked, is_poll, is_repeated, last_transaction, owes_reset, power_on, sold_any, sold_to, take_any, view_answered, view_taken}
+pub use Rattle.mdb_cashless.specs.Reader.{drops, view_heard, StepKnowing, all_approved, all_approved_to, asked, is_poll, is_repeated, last_transaction, owes_reset, power_on, sold_any, sold_to, take_any, view_answered, view_taken, AckStep, AskStep, ReaderStep, ReplyStep, VmcAckStep, approved, before_messages, machine, read, taken}
 pub use Rattle.mdb_cashless.specs.ReaderDevice.{all_told, then_by}
-pub use Rattle.mdb_cashless.specs.ReaderFacts.{known_of, AllowsFacts, KnownFacts, asked_by, config_by, effect_of, effect_of_own, ends_transactions, own_messages, own_of, own_transaction, parts_by, taken_told, transaction_taken_by}
+pub use Rattle.mdb_cashless.specs.ReaderFacts.{known_of, AllowsFacts, KnownFacts, asked_by, config_by, effect_of, effect_of_own, ends_transactions, own_messages, own_of, own_transaction, parts_by, taken_told, transaction_taken_by, Facts}
 pub use Rattle.mdb_cashless.specs.ReaderMessages.{amount_in, begin_session, config_in, last_said, messages_of, part_of, parts_of, begins_session}
-pub use Rattle.mdb_cashless.specs.ReaderValues.{ToldFacts, known_with, told_in, told_with, changes_view, last_after, last_taken, tells_taken}
+pub use Rattle.mdb_cashless.specs.ReaderValues.{ToldFacts, known_with, told_in, told_with, changes_view, last_after, last_taken, tells_taken, facts_in, facts_of, known_in, settled}
 pub use Rattle.mdb_cashless.specs.ReaderView.{all_heard, sent}
 pub use Rattle.mdb_cashless.specs.Sales.{EndsInReply, IsRequested, IsUnrequested, LeavesSale, MayBeRequestedBefore}
 pub use Rattle.mdb_cashless.specs.Transactions.{amounts, is_again, is_same, no_end, transaction_of, is_request}
@@ -56,7 +57,7 @@ pub use Rattle.mdb_machine.proofs.StepCodes.{AreCoded, coded_below, steps_coded,
 pub use Rattle.mdb_machine.specs.Choices.{CanStand, is_approval}
 pub use Rattle.mdb_machine.specs.Gains.{Stays, controller_gains, device_gains, in_slots, no_gains}
 pub use Rattle.mdb_machine.specs.Kept.{IsNew, MayBeRead, held, holds_acked, is_reset, kept_of, HasNews, holds_after}
-pub use Rattle.mdb_machine.specs.Known.{Allows, AllowsKept, Is, Known, known_before, known_by}
+pub use Rattle.mdb_machine.specs.Known.{Allows, AllowsKept, Is, Known, known_before, known_by, Unknown}
 pub use Rattle.mdb_machine.specs.Machine.{Machine, StartsIn}
 pub use Rattle.mdb_machine.specs.Pair.{IsBreak, IsOnlyStep, IsStep, own_acts}
 pub use Rattle.mdb_machine.specs.Past.{effect_taken, last_list, last_told, or_else, powers_on, resets, tells_out_of_sequence, unless_empty, is_out_of_sequence}
@@ -74,3 +75,5 @@ pub use Rattle.mdb_msgs.specs.declared.command.ReaderUnit.TheVariants.{First, Se
 pub use Rattle.mdb_msgs.specs.declared.command.ReaderUnit.{ReaderUnit}
 pub use Rattle.mdb_msgs.specs.declared.reply.Reply.{Reply}
 pub use Rattle.mdb_msgs.specs.declared.reply.reader.ReaderMsg.{ReaderMsg}
+pub use Rattle.mdb_cashless.specs.declared.reader.messages.ReaderActivity.TheVariants.{VendDenied}
+pub use Rattle.mdb_cashless.specs.inner.PlainReader.{own_as}

@@ -1,5 +1,4 @@
-use Rattle.mdb_cashless.proofs.Words.{◌≡◌, ◌+◌, [], ◌∙◌, ap, arith, length, subst, take-length, take_more, Contains-get_or, READER_STATES, AreCoded, coded_more}
-use Rattle.std.proofs.Common.{take}
+use Rattle.mdb_cashless.proofs.Words.{◌≡◌, ◌+◌, [], ◌∙◌, ap, arith, length, subst, take-length, take_more, Contains-get_or, READER_STATES, AreCoded, coded_more, take}
 use Rattle.mdb_cashless.proofs.by_profile.raised.Goals as goal
 
 pub overflow_add-code : goal.overflow_add-code

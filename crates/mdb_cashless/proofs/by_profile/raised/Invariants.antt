@@ -1,5 +1,4 @@
-use Rattle.mdb_cashless.proofs.Words.{◌+◌, ◌≤◌, array_vec_len, READER_STATES, AreCoded}
-use Rattle.std.proofs.Common.{take}
+use Rattle.mdb_cashless.proofs.Words.{◌+◌, ◌≤◌, array_vec_len, READER_STATES, AreCoded, take}
 use Rattle.mdb_cashless.proofs.by_profile.raised.Given as goal
 
 abbrev pub invariant-loop-code : goal.invariant-loop-code

@@ -1,5 +1,4 @@
-use Rattle.mdb_cashless.proofs.Words.{◌≡◌, List, ◌∷◌, subst, ReaderUnit, Act, Beginning, known_of}
-use Rattle.mdb_cashless.specs.ReaderValues.{known_in}
+use Rattle.mdb_cashless.proofs.Words.{◌≡◌, List, ◌∷◌, subst, ReaderUnit, Act, Beginning, known_of, known_in}
 use Rattle.mdb_cashless.proofs.reader.ReaderPair.learn.Goals as goal
 
 pub returns : goal.returns

@@ -1,8 +1,5 @@
 -- An ACK where it isn't known which transaction the reader took last: it was this, or another.
-use Rattle.mdb_cashless.proofs.Words.{Option, ◌⊎◌, None, Some, Transaction, transaction_of}
-use Rattle.mdb_cashless.specs.Reader as spec
-use Rattle.mdb_cashless.specs.ReaderValues.{facts_in}
-use Rattle.mdb_cashless.specs.inner.Guesses as guesses
+use Rattle.mdb_cashless.proofs.Words.{Option, ◌⊎◌, None, Some, Transaction, transaction_of, AckStep, facts_in, again}
 use Rattle.mdb_cashless.proofs.Knowing.{acks_some}
 use Rattle.mdb_cashless.proofs.Listed.{adds_first, adds_one, adds_two, none_small, small_one}
 use Rattle.mdb_cashless.proofs.reader.guesses.add_acks.Goals as goal
@@ -10,9 +7,9 @@ use Rattle.mdb_cashless.proofs.reader.guesses.add_acks.Goals as goal
 pub returns-clause-steps : goal.returns-clause-steps
 returns-clause-steps c =
     let base = facts_in c.args.known.now.facts in
-    let Taking = λ (t : Option Transaction). spec.AckStep (record base { taken = t }) c.args.command
+    let Taking = λ (t : Option Transaction). AckStep (record base { taken = t }) c.args.command
     c.args.choice c.args.before in
-    let same = Some (guesses.again (transaction_of c.args.command)) in
+    let same = Some (again (transaction_of c.args.command)) in
     let first = rw c.taking-another.ensures at c.ack.ensures.step in
     let second = rw (c.taking-same.ensures, c.again.ensures, c.transaction_of.ensures) at
     c.ack-2.ensures.step in

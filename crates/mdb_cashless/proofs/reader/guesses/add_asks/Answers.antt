@@ -1,8 +1,5 @@
 -- An ask where it isn't known what was asked last: it was this.
-use Rattle.mdb_cashless.specs.Reader as spec
-use Rattle.mdb_cashless.specs.ReaderFacts.{Facts}
-use Rattle.mdb_cashless.specs.ReaderValues.{facts_in}
-use Rattle.mdb_cashless.proofs.Words.{transaction_of}
+use Rattle.mdb_cashless.proofs.Words.{transaction_of, AskStep, Facts, facts_in}
 use Rattle.mdb_cashless.proofs.Knowing.{asks_some}
 use Rattle.mdb_cashless.proofs.Listed.{adds_first, adds_one, none_small, small_one}
 use Rattle.mdb_cashless.proofs.reader.guesses.add_asks.Goals as goal
@@ -13,7 +10,7 @@ returns-clause-steps c =
       asked = transaction_of c.args.command;
     } in
     let step = rw (c.asking-facts.ensures, c.transaction_of.ensures) at c.ask.ensures.step in
-    adds_first _ _ (spec.AskStep facts c.args.command c.args.before) _ c.requires.room
+    adds_first _ _ (AskStep facts c.args.command c.args.before) _ c.requires.room
     (adds_one _ _ _ _ step c.add_step.ensures.items)
     (λ after gains. asks_some c.args.known.now _ after gains _ c.requires.unknown)
 

@@ -1,6 +1,5 @@
 -- A reply where the last kept list isn't known: it is a front of the reply's, or none of them.
-use Rattle.mdb_cashless.proofs.Words.{◌∙◌, arith}
-use Rattle.mdb_cashless.specs.ReaderValues.{facts_in}
+use Rattle.mdb_cashless.proofs.Words.{◌∙◌, arith, facts_in}
 use Rattle.mdb_cashless.proofs.Listed.{adds_one, fronts_found, no_front, one_front, small_one}
 use Rattle.mdb_cashless.proofs.reader.guesses.add_fronts.Goals as goal
 

@@ -1,5 +1,4 @@
-use Rattle.mdb_cashless.proofs.Words.{◌+◌, ◌≤◌, array_vec_len}
-use Rattle.mdb_cashless.specs.ReaderValues.{facts_in}
+use Rattle.mdb_cashless.proofs.Words.{◌+◌, ◌≤◌, array_vec_len, facts_in}
 use Rattle.mdb_cashless.proofs.Knowing.{OfFront}
 use Rattle.mdb_cashless.proofs.Listed.{Adds, AreSmall}
 use Rattle.mdb_cashless.proofs.reader.guesses.add_fronts.Given as goal

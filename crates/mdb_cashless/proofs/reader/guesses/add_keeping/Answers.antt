@@ -1,12 +1,11 @@
 -- A reply after facts of which the last kept list is known, or isn't.
-use Rattle.mdb_cashless.specs.Reader as spec
-use Rattle.mdb_cashless.specs.ReaderValues.{facts_in}
+use Rattle.mdb_cashless.proofs.Words.{ReplyStep, facts_in}
 use Rattle.mdb_cashless.proofs.Listed.{adds_as, adds_one, keeps_known, small_one}
 use Rattle.mdb_cashless.proofs.reader.guesses.add_keeping.Goals as goal
 
 pub returns-then-knows_kept-clause-items : goal.returns-then-knows_kept-clause-items
 returns-then-knows_kept-clause-items c = adds_as _ _ _ _
-    (adds_one _ _ (spec.ReplyStep (facts_in c.args.facts.now) c.args.command c.args.reply.now
+    (adds_one _ _ (ReplyStep (facts_in c.args.facts.now) c.args.command c.args.reply.now
     c.args.choice c.args.before) _ c.answer.ensures.step c.add_step.ensures.items)
     (λ after gains. keeps_known (facts_in c.args.facts.now) _ _ _ _ c.args.knows_kept after gains
     c.if-knows_kept.true)

@@ -1,9 +1,5 @@
 -- A reply where it isn't known which transaction the reader took last, or where it is.
-use Rattle.mdb_cashless.proofs.Words.{◌∙◌, ◌⊎◌, Option, None, Some, ap, subst, if_known, Transaction, own_transaction}
-use Rattle.mdb_cashless.specs.Reader as spec
-use Rattle.mdb_cashless.specs.ReaderFacts.{Facts}
-use Rattle.mdb_cashless.specs.ReaderValues.{facts_in}
-use Rattle.mdb_cashless.specs.inner.Guesses as guesses
+use Rattle.mdb_cashless.proofs.Words.{◌∙◌, ◌⊎◌, Option, None, Some, ap, subst, if_known, Transaction, own_transaction, taken, Facts, facts_in, again, IsReplyKeeping}
 use Rattle.mdb_cashless.proofs.Knowing.{replies_known, replies_some}
 use Rattle.mdb_cashless.proofs.Listed.{Adds, adds_first, adds_two, none_small}
 use Rattle.mdb_cashless.proofs.reader.guesses.add_replies.Goals as goal
@@ -19,20 +15,20 @@ pub returns-clause-steps : goal.returns-clause-steps
 returns-clause-steps c =
     let known = c.args.known.now in
     let base = facts_in known.facts in
-    let Keeps = λ (f : Facts). guesses.IsReplyKeeping f (if_known known.knows_kept f.past.last_kept)
+    let Keeps = λ (f : Facts). IsReplyKeeping f (if_known known.knows_kept f.past.last_kept)
     c.args.command c.args.reply.now c.args.choice c.args.before in
     let taking = λ (t : Option Transaction). record base { taken = t } in
-    let its = own_transaction (spec.taken c.args.command c.args.reply.now) in
+    let its = own_transaction (taken c.args.command c.args.reply.now) in
     let old = c.args.steps.now.items in
     let mid = c.add_keeping-2.new.steps.items in
     let new = c.add_keeping-3.new.steps.items in
     adds_first old new (λ after gains. Keeps (taking None) after gains
-    ⊎ Keeps (taking (Some (guesses.again its))) after gains) _ c.requires
+    ⊎ Keeps (taking (Some (again its))) after gains) _ c.requires
     (adds_two old mid new _ _
     (subst (λ (f : Facts). Adds old mid (Keeps f)) c.taking-other.ensures
     c.add_keeping-2.ensures.items)
     (subst (λ (f : Facts). Adds mid new (Keeps f)) (c.taking-same.ensures
-    ∙ ap (λ t. taking (Some t)) (c.again.ensures ∙ ap guesses.again c.taken_by.ensures))
+    ∙ ap (λ t. taking (Some t)) (c.again.ensures ∙ ap again c.taken_by.ensures))
     c.add_keeping-3.ensures.items))
     (λ after gains. replies_some known _ after gains _ _ _ c.if-known.false)
 

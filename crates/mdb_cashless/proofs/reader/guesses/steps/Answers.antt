@@ -1,14 +1,12 @@
 -- The steps are the one by a settled act, or those of the guesses.
-use Rattle.mdb_cashless.proofs.Words.{◌∙◌, ap, length, sym}
-use Rattle.mdb_cashless.specs.Reader as spec
-use Rattle.mdb_cashless.specs.ReaderValues.{known_in}
+use Rattle.mdb_cashless.proofs.Words.{◌∙◌, ap, length, sym, StepKnowing, known_in}
 use Rattle.mdb_cashless.proofs.Listed.{adds_first, adds_one, none_small, small_one}
 use Rattle.mdb_cashless.proofs.Steps.{knowing_of}
 use Rattle.mdb_cashless.proofs.reader.guesses.steps.Goals as goal
 
 pub returns-then-settles-clause-steps : goal.returns-then-settles-clause-steps
 returns-then-settles-clause-steps c =
-    let Step = spec.StepKnowing c.args.unit (known_in c.args.known.now) c.args.act.now c.args.choice
+    let Step = StepKnowing c.args.unit (known_in c.args.known.now) c.args.act.now c.args.choice
     c.args.before in
     adds_first _ _ Step Step (ap length c.new-steps.ensures)
     (adds_one _ _ Step _ c.step_settled.ensures.step c.add_step.ensures.items)

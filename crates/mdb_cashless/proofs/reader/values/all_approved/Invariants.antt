@@ -1,6 +1,4 @@
-use Rattle.mdb_cashless.proofs.Words.{◌≡◌, ◌*◌, ◌≤◌, sum_by}
-use Rattle.std.proofs.Common.{take}
-use Rattle.mdb_cashless.specs.Reader.{approved}
+use Rattle.mdb_cashless.proofs.Words.{◌≡◌, ◌*◌, ◌≤◌, sum_by, take, approved}
 use Rattle.mdb_cashless.proofs.reader.values.all_approved.Given as goal
 
 abbrev pub invariant-loop-message : goal.invariant-loop-message

@@ -1,5 +1,4 @@
-use Rattle.mdb_cashless.proofs.Words.{[], ◌∷◌, ◌++◌, ◌∙◌, ap, append_assoc, arith, sym}
-use Rattle.std.proofs.Common.{length-append}
+use Rattle.mdb_cashless.proofs.Words.{[], ◌∷◌, ◌++◌, ◌∙◌, ap, append_assoc, arith, sym, length-append}
 use Rattle.mdb_cashless.proofs.Said.{said_more}
 use Rattle.mdb_cashless.proofs.reader.messages.Said.read.Goals as goal
 
