@@ -1,15 +1,11 @@
 -- Texts that are written in parts.
-use Rattle.std.proofs.Common.{[], Bool, true, false, refl, sym, ◌≡◌, ℕ, List, ◌++◌, append_assoc, codes, Option, Result, Ok, Err, get_or, length, ◌+◌, ◌<◌, ◌≤◌, take}
+use Rattle.mdb_text.proofs.Words.{Appends, Bool, Err, List, Ok, Option, Result, [], append_assoc, codes, devices_text, false, flat_map, flat_map_more, get_or, length, line, line_of_devices, refl, sym, take, take_all, take_more, true, untimely_counts, ℕ, ◌++◌, ◌+◌, ◌<◌, ◌≡◌, ◌≤◌}
 use Rattle.std.proofs.KnownBytes.{Appends-trans}
-use Rattle.std.proofs.lemmas.List.{flat_map_more, take_all, take_more}
 use Rattle.std.specs.Fmt.{decimal}
-use Rattle.std.specs.List.{flat_map}
 use Rattle.std.specs.Prelude.{OnOk}
-use Rattle.std.specs.Io.KnownBytes.{Appends}
 use Rattle.mdb_msgs.specs.declared.device_set.DeviceSet.{DeviceSet}
 use Rattle.mdb_msgs.specs.declared.device_set.TheConstants.DeviceSet.{NONE}
 use Rattle.mdb_bus.specs.declared.untimely.Untimely.{Untimely}
-use Rattle.mdb_text.specs.Text.{devices_text, line, line_of_devices, untimely_counts}
 
 -- a part after what was written, where it was
 pub on_ok : {T E : Type 0} (r : Result T E) (P Q : Type 0) → (P → Q) → OnOk r P → OnOk r Q

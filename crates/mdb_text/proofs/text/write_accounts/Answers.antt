@@ -1,8 +1,6 @@
 -- The accounts have their lines, one after the other.
-use Rattle.std.proofs.Common.{[], ap}
+use Rattle.mdb_text.proofs.Words.{[], account_line, account_of, ap}
 use Rattle.mdb_follow.specs.declared.account_name.TheConstants.AccountName.{ALL}
-use Rattle.mdb_follow.specs.AccountNames.{account_of}
-use Rattle.mdb_text.specs.Text.{account_line}
 use Rattle.mdb_text.proofs.Texts.{all_parts, one_part_more}
 use Rattle.mdb_text.proofs.text.write_accounts.Goals as goal
 

@@ -1,8 +1,4 @@
-use Rattle.std.proofs.Common.{take}
-use Rattle.std.specs.Io.KnownBytes.{Appends}
-use Rattle.std.specs.List.{flat_map}
-use Rattle.mdb_follow.specs.AccountNames.{account_of}
-use Rattle.mdb_text.specs.Text.{account_line}
+use Rattle.mdb_text.proofs.Words.{Appends, account_line, account_of, flat_map, take}
 use Rattle.mdb_text.proofs.text.write_accounts.Given as goal
 
 -- the accounts so far have their lines

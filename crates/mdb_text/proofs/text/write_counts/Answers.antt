@@ -1,9 +1,5 @@
 -- The line of counts has a part for each device.
-use Rattle.std.proofs.Common.{ap, get_or}
-use Rattle.std.proofs.lemmas.List.{append-nil}
-use Rattle.mdb_follow.specs.declared.report.TheConstants.Report.{DEVICES}
-use Rattle.mdb_follow.specs.ReportedDevices.{device_place}
-use Rattle.mdb_text.specs.Text.{count_text}
+use Rattle.mdb_text.proofs.Words.{DEVICES, ap, append-nil, count_text, device_place, get_or}
 use Rattle.mdb_text.proofs.Texts.{all_parts, one_part_more, then_written}
 use Rattle.mdb_text.proofs.text.write_counts.Goals as goal
 

@@ -1,8 +1,4 @@
-use Rattle.std.proofs.Common.{◌++◌, get_or, take}
-use Rattle.std.specs.Io.KnownBytes.{Appends}
-use Rattle.std.specs.List.{flat_map}
-use Rattle.mdb_follow.specs.ReportedDevices.{device_place}
-use Rattle.mdb_text.specs.Text.{count_text}
+use Rattle.mdb_text.proofs.Words.{Appends, count_text, device_place, flat_map, get_or, take, ◌++◌}
 use Rattle.mdb_text.proofs.text.write_counts.Given as goal
 
 -- the devices so far have their counts

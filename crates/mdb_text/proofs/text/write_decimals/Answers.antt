@@ -1,8 +1,5 @@
 -- The line of decimal places has a part for each device.
-use Rattle.std.proofs.Common.{codes, ap}
-use Rattle.mdb_follow.specs.declared.report.TheConstants.Report.{DEVICES}
-use Rattle.mdb_follow.specs.Report.{device_decimals}
-use Rattle.mdb_text.specs.Text.{places_text}
+use Rattle.mdb_text.proofs.Words.{DEVICES, ap, codes, device_decimals, places_text}
 use Rattle.mdb_text.proofs.Texts.{all_parts, one_part_more, then_written}
 use Rattle.mdb_text.proofs.text.write_decimals.Goals as goal
 

@@ -1,8 +1,4 @@
-use Rattle.std.proofs.Common.{◌++◌, codes, take}
-use Rattle.std.specs.Io.KnownBytes.{Appends}
-use Rattle.std.specs.List.{flat_map}
-use Rattle.mdb_follow.specs.Report.{device_decimals}
-use Rattle.mdb_text.specs.Text.{places_text}
+use Rattle.mdb_text.proofs.Words.{Appends, codes, device_decimals, flat_map, places_text, take, ◌++◌}
 use Rattle.mdb_text.proofs.text.write_decimals.Given as goal
 
 -- the devices so far have their parts

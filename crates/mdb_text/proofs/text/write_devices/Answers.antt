@@ -1,8 +1,5 @@
 -- The line of devices has the word of each device in the set.
-use Rattle.std.proofs.Common.{rules, refl}
-use Rattle.std.proofs.lemmas.List.{append-nil}
-use Rattle.mdb_follow.specs.declared.report.TheConstants.Report.{DEVICES}
-use Rattle.mdb_text.specs.Text.{word_in}
+use Rattle.mdb_text.proofs.Words.{DEVICES, append-nil, refl, rules, word_in}
 use Rattle.mdb_text.proofs.Texts.{all_parts, one_part_more, then_written, with_line}
 use Rattle.mdb_text.proofs.text.write_devices.Goals as goal
 

@@ -1,7 +1,4 @@
-use Rattle.std.proofs.Common.{◌++◌, take}
-use Rattle.std.specs.Io.KnownBytes.{Appends}
-use Rattle.std.specs.List.{flat_map}
-use Rattle.mdb_text.specs.Text.{word_in}
+use Rattle.mdb_text.proofs.Words.{Appends, flat_map, take, word_in, ◌++◌}
 use Rattle.mdb_text.proofs.text.write_devices.Given as goal
 
 -- the devices so far have their words, where they are of the set
