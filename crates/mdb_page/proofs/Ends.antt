@@ -1,7 +1,5 @@
 -- How a line ends.
-use Rattle.std.proofs.Common.{◌≡◌, ◌≢◌, ◌≤◌, ℕ, List, [], ◌∷◌, ◌++◌, sym, ap, ◌∙◌, arith, length, length-append, get_or, Option, None, Some}
-use Rattle.std.proofs.lemmas.List.{get_or_past, same_from_push}
-use Rattle.std.specs.Option.{MatchOption}
+use Rattle.mdb_page.proofs.Words.{List, MatchOption, None, Option, Some, [], ap, arith, get_or, get_or_past, length, length-append, same_from_push, sym, ℕ, ◌++◌, ◌∙◌, ◌∷◌, ◌≡◌, ◌≢◌, ◌≤◌}
 
 -- no CR ends a line that another byte ends
 pub other_end : (line front : List ℕ) (byte : ℕ) → line ≡ front ++ byte ∷ [] → byte ≢ 13

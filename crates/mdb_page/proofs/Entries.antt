@@ -1,15 +1,8 @@
 -- How one entry more is listed.
-use Rattle.std.proofs.Common.{◌≡◌, ◌≢◌, ◌+◌, ◌<◌, ◌≤◌, ℕ, List, [], ◌∷◌, length, refl, ap, ◌∙◌, arith, inl, inr, get_or, set, get_or-set_same, get_or-set_other, length-set, Option, Some, None}
-use Rattle.mdb_bus.specs.declared.act.Act.{Act}
+use Rattle.mdb_page.proofs.Words.{Act, ActListing, AreOf, HasRows, IsKept, IsOfPiece, List, Moves, None, Option, PageAct, Piece, ROWS_MAX, Rows, Shows, ShowsAct, Some, [], act_in, ap, arith, events_of, get_or, get_or-set_other, get_or-set_same, inl, inr, length, length-set, piece_events, place_in, refl, set, with_rows, ℕ, ◌+◌, ◌<◌, ◌∙◌, ◌∷◌, ◌≡◌, ◌≢◌, ◌≤◌}
 use Rattle.mdb_bus.specs.declared.act.Act.TheVariants as acts
-use Rattle.mdb_bus.specs.ActLists.{Piece, events_of, piece_events}
-use Rattle.mdb_bus.specs.Pieces.{act_in}
-use Rattle.mdb_follow.specs.declared.follower.TheConstants.{ROWS_MAX}
-use Rattle.mdb_page.specs.Acts.{AreListed, HasRows, IsKept, IsOfPiece, Shows, ShowsAct, place_in}
-use Rattle.mdb_page.specs.inner.Listing.{AreOf, HasListed, Moves, with_rows}
-use Rattle.mdb_page.specs.declared.acts.ActListing.{ActListing}
-use Rattle.mdb_page.specs.declared.acts.PageAct.{PageAct}
-use Rattle.mdb_page.specs.declared.rows.Rows.{Rows}
+use Rattle.mdb_page.specs.Acts.{AreListed}
+use Rattle.mdb_page.specs.inner.Listing.{HasListed}
 use Rattle.mdb_page.proofs.Ring.{goes_on, kept_apart, kept_before, less_or_not, place_low, stays_full}
 
 -- an entry stays that of its piece when pieces come after it

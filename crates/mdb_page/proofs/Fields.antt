@@ -1,10 +1,6 @@
 -- The fields of a line.
-use Rattle.std.proofs.Common.{◌≡◌, ◌≢◌, ◌==◌, ◌<◌, ℕ, List, [], ◌∷◌, ◌++◌, All, length, refl, ap, ◌∙◌, arith, inl, inr, true, Option, None, Some, IfSome}
-use Rattle.std.specs.Option.{is_some}
-use Rattle.std.proofs.lemmas.Bool.{cases_Bool, eq-eqb, eqb-true}
-use Rattle.std.proofs.lemmas.List.Elements.{All-cons, All-head, All-nil, All-tail}
+use Rattle.mdb_page.proofs.Words.{All, All-cons, All-head, All-nil, All-tail, AreAllFields, AreNoRow, IfSome, IsCut, List, None, Option, Some, [], ap, arith, cases_Bool, eq-eqb, eqb-true, inl, inr, is_some, length, refl, true, ℕ, ◌++◌, ◌<◌, ◌==◌, ◌∙◌, ◌∷◌, ◌≡◌, ◌≢◌}
 use Rattle.mdb_words.specs.declared.row.RowFault.TheVariants.{FieldCount}
-use Rattle.mdb_page.specs.Lines.{AreAllFields, AreNoRow, IsCut}
 use Rattle.mdb_words.specs.RowsWritten.{joined_by_commas}
 
 -- a byte that is no comma, and a field without one

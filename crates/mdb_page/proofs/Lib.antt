@@ -11,3 +11,4 @@ pub mod Rising
 pub mod Surveys
 pub mod Turns
 pub mod Walks
+mod Words

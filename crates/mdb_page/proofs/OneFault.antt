@@ -1,16 +1,7 @@
 -- How one fault more of a survey is listed, or not.
-use Rattle.std.proofs.Common.{◌≡◌, ◌+◌, ◌<◌, ◌⊎◌, ℕ, All, true, false, List, [], ◌∷◌, ◌++◌, length, map, take, set, length-set, refl, sym, subst, ap, ◌∙◌, arith}
-use Rattle.std.proofs.lemmas.List.Elements.{All-push}
-use Rattle.std.proofs.lemmas.List.{length-append, map-append, take_more_set}
-use Rattle.mdb_stretches.specs.declared.stretch.Ended.{Ended}
+use Rattle.mdb_page.proofs.Words.{All, All-push, Ended, FaultListing, HasNoRoom, IsPlace, LINES_ROOM, List, PageFault, PageLines, [], ap, arith, false, length, length-append, length-set, map, map-append, refl, rows_of_faults, set, subst, sym, take, take_more_set, text_lines, true, written_lines, ℕ, ◌++◌, ◌+◌, ◌<◌, ◌∙◌, ◌∷◌, ◌≡◌, ◌⊎◌}
 use Rattle.mdb_survey_text.specs.Lines.{ended_lines, lines_of}
-use Rattle.mdb_survey_text.specs.SurveyText.{text_lines}
-use Rattle.mdb_page.specs.Surveys.{HasNoRoom, IsPlace, rows_of_faults, written_lines}
 use Rattle.mdb_page.specs.inner.Surveying.{HasListed}
-use Rattle.mdb_page.specs.declared.faults.FaultListing.{FaultListing}
-use Rattle.mdb_page.specs.declared.faults.PageFault.{PageFault}
-use Rattle.mdb_page.specs.declared.sheet.PageLines.{PageLines}
-use Rattle.mdb_page.specs.declared.sheet.TheConstants.{LINES_ROOM}
 
 -- The faults of a survey are listed, and one comes more.
 module _ {body : List ℕ} {skip : ℕ} {earlier : List Ended} {listing : FaultListing}

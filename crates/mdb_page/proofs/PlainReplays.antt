@@ -1,11 +1,8 @@
 -- What a replay without marks tells.
-use Rattle.std.specs.Prelude.{◌≡◌, List, [], None, ℕ}
-use Rattle.mdb_words.specs.declared.event.Event.{Event}
-use Rattle.mdb_bus.specs.declared.scope.Scope.{Scope}
+use Rattle.mdb_page.proofs.Words.{Event, List, None, Offence, Scope, [], ℕ, ◌≡◌}
 use Rattle.mdb_explained_runs.specs.ReplayFaults.{IsReplayFault}
 use Rattle.mdb_explained_runs.specs.declared.replay.ReplayFault.{ReplayFault}
 use Rattle.mdb_explained_runs.specs.declared.replay.ReplayFault.TheVariants as faults
-use Rattle.mdb_follow.specs.declared.offence.Offence.{Offence}
 use Rattle.mdb_page.specs.Replays.{IsPlainOffence}
 
 -- without a mark there is none that may not stand

@@ -1,16 +1,8 @@
 -- A row that ends no act leaves all sums as they are.
-use Rattle.std.proofs.Common.{◌≡◌, List, [], ◌∷◌, ◌++◌, length, refl, sym, subst, ap, ◌∙◌, None}
-use Rattle.mdb_words.specs.declared.event.Event.{Event}
-use Rattle.mdb_bus.specs.declared.act.Act.{Act}
+use Rattle.mdb_page.proofs.Words.{Act, ArePieces, Event, IsActList, IsEndedAct, IsReport, List, None, Piece, Report, Scope, [], acts_of, ap, length, refl, report_of, subst, sums_of, sym, ◌++◌, ◌∙◌, ◌∷◌, ◌≡◌}
 use Rattle.mdb_bus.specs.declared.scope.Beginning.{Beginning}
-use Rattle.mdb_bus.specs.declared.scope.Scope.{Scope}
-use Rattle.mdb_bus.specs.ActLists.{ArePieces, IsActList, Piece, acts_of}
 use Rattle.mdb_bus.specs.Loss.{Loss, LossFits}
-use Rattle.mdb_follow.specs.declared.report.Report.{Report}
-use Rattle.mdb_follow.specs.AccountNames.{sums_of}
 use Rattle.mdb_follow.specs.Tables.{EachArrives}
-use Rattle.mdb_follow.specs.EndedActs.{IsEndedAct}
-use Rattle.mdb_follow.specs.Report.{IsReport, report_of}
 use Rattle.mdb_follow.specs.Runs.{AllSums, IsWay, Run, States}
 use Rattle.mdb_follow.proofs.Ends.{account-moves}
 

@@ -1,10 +1,7 @@
 -- Where pieces stand in an array, of which the first stay and the others come round.
-use Rattle.std.proofs.Common.{◌≡◌, ◌≢◌, ◌+◌, ◌-◌, ◌*◌, ◌/◌, ◌%◌, ◌<◌, ◌≤◌, ◌⊎◌, ℕ, suc, sym, ap, ◌∙◌, arith, inl, inr, add-one}
-use Rattle.std.proofs.Math.Nat.{mod-eq_of_lt, mod-le, mod-lt, mod_self, mul-le-mul_right, suc-mod, zero-mod}
-use Rattle.std.proofs.lemmas.Bool.{le-ltb, lt-ltb}
+use Rattle.mdb_page.proofs.Words.{IsKept, IsNextPlace, add-one, ap, arith, inl, inr, le-ltb, lt-ltb, mod-eq_of_lt, mod-le, mod-lt, mod_self, mul-le-mul_right, suc, suc-mod, sym, zero-mod, ℕ, ◌%◌, ◌*◌, ◌+◌, ◌-◌, ◌/◌, ◌<◌, ◌∙◌, ◌≡◌, ◌≢◌, ◌≤◌, ◌⊎◌}
 use Rattle.std.proofs.lemmas.Nat.{div-add-mod'}
-use Rattle.mdb_page.specs.Acts.{IsKept, place_in}
-use Rattle.mdb_page.specs.inner.Listing.{IsNextPlace}
+use Rattle.mdb_page.specs.Acts.{place_in}
 
 pub less_or_not : (a b : ℕ) → (a < b) ⊎ (b ≤ a)
 less_or_not a b = grind arith

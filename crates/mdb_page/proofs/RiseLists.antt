@@ -1,19 +1,9 @@
 -- How entries of rises are listed.
-use Rattle.std.proofs.Common.{◌≡◌, ◌+◌, ◌<◌, ◌≤◌, ◌⊎◌, ℕ, List, [], ◌∷◌, ◌++◌, length, refl, sym, subst, ap, ◌∙◌, arith, inl, inr, get_or, set, get_or-set_same, get_or-set_other, length-set, length-append, ◌^◌, ◌-ℤ◌, ◌≤ℤ◌, ℤ, pos, negsuc, neg_ℤ, SFits, of_z, to_z, w64, true, false, cond, append-nil, append_assoc, flat_map, take, Some, None}
+use Rattle.mdb_page.proofs.Words.{Account, AccountName, HasListed, IsRangeWithin, List, None, PageRise, Range, Report, RiseListing, SFits, Some, [], account_of, account_place, ap, append-nil, append_assoc, arith, cond, false, flat_map, flat_map_more, get_or, get_or-set_other, get_or-set_same, get_or_append_left, inl, inr, ints, length, length-append, length-set, neg_ℤ, negsuc, of_z, pos, refl, rise, rise_of, rises_in, set, subst, sym, take, take_all, take_more, to_z, to_z-of_z, true, w64, ℕ, ℤ, ◌++◌, ◌+◌, ◌-ℤ◌, ◌<◌, ◌^◌, ◌∙◌, ◌∷◌, ◌≡◌, ◌≤ℤ◌, ◌≤◌, ◌⊎◌}
 use Rattle.std.proofs.Math.Seq.{get_or-append_seam}
-use Rattle.std.proofs.lemmas.Int.{ints, to_z-of_z}
-use Rattle.std.proofs.lemmas.List.{flat_map_more, get_or_append_left, take_all, take_more}
 use Rattle.std.specs.Ordering.{int_eq}
-use Rattle.mdb_follow.specs.declared.account.Account.{Account}
-use Rattle.mdb_follow.specs.declared.account_name.AccountName.{AccountName}
-use Rattle.mdb_follow.specs.declared.range.Range.{Range}
-use Rattle.mdb_follow.specs.declared.report.Report.{Report}
-use Rattle.mdb_follow.specs.AccountNames.{account_of, account_place}
-use Rattle.mdb_follow.specs.Limits.{IsRangeWithin}
-use Rattle.mdb_page.specs.Rises.{AreListed, rise, rise_of, rises_in}
-use Rattle.mdb_page.specs.inner.Rising.{HasListed, Moves}
-use Rattle.mdb_page.specs.declared.rises.PageRise.{PageRise}
-use Rattle.mdb_page.specs.declared.rises.RiseListing.{RiseListing}
+use Rattle.mdb_page.specs.Rises.{AreListed}
+use Rattle.mdb_page.specs.inner.Rising.{Moves}
 use Rattle.mdb_page.proofs.Ring.{less_or_not}
 
 -- nothing is listed at first

@@ -1,35 +1,11 @@
 -- How the rows of a text are followed, and what they do to the ranges is listed.
-use Rattle.std.proofs.Common.{◌≡◌, ◌≢◌, ◌*◌, ◌^◌, ◌≤◌, ◌-ℤ◌, ℕ, Bool, true, false, List, [], ◌∷◌, ◌++◌, append-nil, flat_map, refl, sym, subst, ap, ◌∙◌, arith, None}
+use Rattle.mdb_page.proofs.Words.{ALL, Account, AccountName, Act, AreRises, Bool, EndsSo, Event, HasFollowed, HasListed, HasRead, HasTakenRow, IsEndedAct, IsLine, IsNear, IsRangeWithin, IsReport, LineFault, List, None, Offence, PageRise, PageTold, ROWS_MAX, Range, Report, RiseListing, Scope, StandsFor, TellsRow, [], account_in, account_place, ap, append-nil, arith, blank, broken, ended_act, false, flat_map, ints, no_row, none, refl, rise_of, rises_between, row, rows_of, scope_of, start, subst, sym, too_long, true, unread, whole, ℕ, ◌*◌, ◌++◌, ◌-ℤ◌, ◌^◌, ◌∙◌, ◌∷◌, ◌≡◌, ◌≢◌, ◌≤◌}
 use Rattle.std.proofs.lemmas.Bool.Decides.{Decides-int_eq}
-use Rattle.std.proofs.lemmas.Int.{ints}
-use Rattle.mdb_words.specs.declared.event.Event.{Event}
-use Rattle.mdb_bus.specs.declared.act.Act.{Act}
-use Rattle.mdb_bus.specs.declared.scope.Scope.{Scope}
-use Rattle.mdb_bus.specs.Bus.{ended_act}
-use Rattle.mdb_follow.specs.declared.account.Account.{Account}
-use Rattle.mdb_follow.specs.declared.account_name.AccountName.{AccountName}
-use Rattle.mdb_follow.specs.declared.account_name.TheConstants.AccountName.{ALL}
 use Rattle.mdb_follow.specs.declared.follower.Follower.{Follower}
-use Rattle.mdb_follow.specs.declared.follower.TheConstants.{ROWS_MAX}
-use Rattle.mdb_follow.specs.declared.offence.Offence.{Offence}
-use Rattle.mdb_follow.specs.declared.range.Range.{Range}
-use Rattle.mdb_follow.specs.declared.report.Report.{Report}
-use Rattle.mdb_follow.specs.AccountNames.{account_in, account_place}
-use Rattle.mdb_follow.specs.EndedActs.{IsEndedAct}
-use Rattle.mdb_follow.specs.Follower.{StandsFor, rows_of, scope_of}
-use Rattle.mdb_follow.specs.Limits.{IsRangeWithin}
 use Rattle.mdb_follow.specs.Offences.{IsOffence}
-use Rattle.mdb_follow.specs.Report.{IsReport}
 use Rattle.mdb_follow.specs.ReportLimits.{IsReportWithin}
-use Rattle.mdb_page.specs.Lines.{HasRead, IsLine, TellsRow, blank, row, start}
-use Rattle.mdb_page.specs.Rises.{AreRises, EndsSo, broken, no_row, none, rise_of, rises_between, too_long, unread, whole}
 use Rattle.mdb_page.specs.Rises as rises
-use Rattle.mdb_page.specs.inner.Rising.{HasFollowed, HasListed, HasTakenRow, IsNear}
-use Rattle.mdb_page.specs.declared.answer.PageTold.{PageTold}
-use Rattle.mdb_page.specs.declared.lines.LineFault.{LineFault}
 use Rattle.mdb_page.specs.declared.lines.LineFault.TheVariants as faults
-use Rattle.mdb_page.specs.declared.rises.PageRise.{PageRise}
-use Rattle.mdb_page.specs.declared.rises.RiseListing.{RiseListing}
 use Rattle.mdb_page.proofs.QuietRows.{Laws, stays}
 use Rattle.mdb_page.proofs.RiseLists.{starts_empty}
 use Rattle.mdb_page.proofs.Walks.{IsFaultOf, IsLineAnswer}

@@ -1,29 +1,15 @@
 -- What the survey of a text comes to, by how its reading ended.
-use Rattle.std.proofs.Common.{◌≡◌, ◌≢◌, ◌+◌, ◌-◌, ◌<◌, ◌≤◌, ◌⊎◌, ℕ, Bool, true, false, List, [], ◌∷◌, ◌++◌, length, min, refl, sym, subst, ap, ◌∙◌, arith, inl, inr, zero, suc}
-use Rattle.std.proofs.Math.Nat.{min-eq_left, min-eq_right}
-use Rattle.std.proofs.lemmas.List.{length-append, length-map}
-use Rattle.mdb_words.specs.declared.event.Event.{Event}
-use Rattle.mdb_bus.specs.declared.scope.Scope.{Scope}
-use Rattle.mdb_follow.specs.declared.follower.TheConstants.{ROWS_MAX}
-use Rattle.mdb_stretches.specs.declared.stretch.Ended.{Ended}
+use Rattle.mdb_page.proofs.Words.{AreListed, Bool, Ended, Event, FaultListing, HasNoRoom, HasRead, IsLine, IsPlace, IsSurveyed, IsUnmarked, IsWhole, LineFault, List, PageFault, PageLines, PageTold, ROWS_MAX, Scope, TellsRow, [], ap, arith, false, faultless, faulty, inl, inr, length, length-append, length-map, min, min-eq_left, min-eq_right, refl, stretch_text, subst, suc, summary_text, sym, true, written, zero, ℕ, ◌++◌, ◌+◌, ◌-◌, ◌<◌, ◌∙◌, ◌∷◌, ◌≡◌, ◌≢◌, ◌≤◌, ◌⊎◌}
 use Rattle.mdb_stretches.specs.declared.stretch.Stretch.{Stretch}
 use Rattle.mdb_stretches.specs.declared.summary.Summary.{Summary}
 use Rattle.mdb_stretches.specs.declared.surveyor.Surveyor.{Surveyor}
 use Rattle.mdb_stretches.specs.Stretches.{IsSurvey}
 use Rattle.mdb_stretches.specs.Summaries.{summary_of}
 use Rattle.mdb_stretches.specs.Surveyor.{StandsFor, rows_of}
-use Rattle.mdb_survey_text.specs.SurveyText.{stretch_text, summary_text}
-use Rattle.mdb_page.specs.Answers.{written}
 use Rattle.mdb_page.specs.Lines as texts
-use Rattle.mdb_page.specs.Lines.{HasRead, IsLine, IsUnmarked, TellsRow}
-use Rattle.mdb_page.specs.Surveys.{AreListed, EndsSo, HasNoRoom, IsPlace, IsSurveyed, IsWhole, faultless, faulty, no_row, too_long, unread}
+use Rattle.mdb_page.specs.Surveys.{EndsSo, no_row, too_long, unread}
 use Rattle.mdb_page.specs.inner.Surveying.{AreLater, EndsWith, HasListed, HasSurveyed, StopsFor}
-use Rattle.mdb_page.specs.declared.answer.PageTold.{PageTold}
-use Rattle.mdb_page.specs.declared.faults.FaultListing.{FaultListing}
-use Rattle.mdb_page.specs.declared.faults.PageFault.{PageFault}
-use Rattle.mdb_page.specs.declared.lines.LineFault.{LineFault}
 use Rattle.mdb_page.specs.declared.lines.LineFault.TheVariants.{BadRow, Unread}
-use Rattle.mdb_page.specs.declared.sheet.PageLines.{PageLines}
 use Rattle.mdb_page.specs.declared.sheet.PageText.{PageText}
 use Rattle.mdb_page.specs.declared.survey.Stop.{Stop}
 use Rattle.mdb_page.specs.declared.survey.Stop.TheVariants.{Text, Line, TooLong, NoRoom}

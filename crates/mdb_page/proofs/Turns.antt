@@ -1,20 +1,9 @@
 -- How a row goes on with pieces.
-use Rattle.std.proofs.Common.{◌≡◌, ◌≢◌, ◌+◌, ◌<◌, ◌≤◌, ℕ, List, [], ◌∷◌, ◌++◌, length, map, refl, sym, ap, ◌∙◌, arith, inl, inr, Option, Some, None, length-append}
-use Rattle.std.proofs.lemmas.List.{append-nil, map-append, nil_from_length}
-use Rattle.mdb_words.specs.declared.event.Event.{Event}
-use Rattle.mdb_words.specs.Event.{start_of}
-use Rattle.mdb_bus.specs.declared.act.Act.{Act}
+use Rattle.mdb_page.proofs.Words.{Act, ActListing, AreOf, ArePieces, AskTail, BlockMayCome, Event, HasAdded, HasBegun, HasTakenPieces, InAsk, InRepeat, InReply, IsSaid, IsTail, Lengthens, List, MayCome, MayStand, None, Option, PageAct, Piece, Position, Rows, Scope, Some, Whole, [], act_in, ap, append-nil, arith, closed_pieces, events_of, inl, inr, left_by, length, length-append, map, map-append, nil_from_length, open_events, piece_events, refl, start_of, sym, ℕ, ◌++◌, ◌+◌, ◌<◌, ◌∙◌, ◌∷◌, ◌≡◌, ◌≢◌, ◌≤◌}
 use Rattle.mdb_bus.specs.declared.act.Act.TheVariants as acts
 use Rattle.mdb_bus.specs.declared.scope.Profile.{Profile}
-use Rattle.mdb_bus.specs.declared.scope.Scope.{Scope}
-use Rattle.mdb_bus.specs.ActLists.{Piece, Whole, AskTail, Position, InAsk, InReply, InRepeat, ArePieces, BlockMayCome, IsSaid, MayCome, MayStand, events_of, piece_events, left_by}
-use Rattle.mdb_bus.specs.Pieces.{IsTail, act_in}
 use Rattle.mdb_follow.proofs.Asks.{no-act}
-use Rattle.mdb_page.specs.Acts.{closed_pieces}
-use Rattle.mdb_page.specs.inner.Listing.{AreOf, HasAdded, HasBegun, HasListed, HasTakenPieces, Lengthens, open_events}
-use Rattle.mdb_page.specs.declared.acts.ActListing.{ActListing}
-use Rattle.mdb_page.specs.declared.acts.PageAct.{PageAct}
-use Rattle.mdb_page.specs.declared.rows.Rows.{Rows}
+use Rattle.mdb_page.specs.inner.Listing.{HasListed}
 
 -- A break comes everywhere, and nothing else comes inside a block.
 

@@ -1,29 +1,13 @@
 -- How a walk over the lines of a text goes on, and how it ends.
-use Rattle.std.proofs.Common.{◌≡◌, ◌≢◌, ◌==◌, ◌+◌, ◌<◌, ◌≤◌, ℕ, Bool, true, false, true≢false, List, [], ◌∷◌, ◌++◌, length, refl, sym, ap, ◌∙◌, arith, Option, Some}
-use Rattle.std.proofs.lemmas.Bool.{eq-eqb, eqb-true}
-use Rattle.std.proofs.lemmas.List.{nil_from_length}
-use Rattle.mdb_words.specs.declared.event.Event.{Event}
+use Rattle.mdb_page.proofs.Words.{Act, ActListing, ArePieces, Bool, Event, GoesOn, HasRead, HasTakenPieces, HasWalked, IsBare, IsFirstLine, IsLine, IsNext, IsUnread, Lengthens, LineFault, List, NamesAReply, Option, PageAct, PageTold, Piece, ROWS_MAX, Rows, Scope, Some, TellsNoRow, TellsRow, Whole, [], ap, arith, blank, closed_pieces, ended_act, eq-eqb, eqb-true, events_of, false, length, nil_from_length, number_of, piece_events, refl, row, start, start_of, sym, true, true≢false, ℕ, ◌++◌, ◌+◌, ◌<◌, ◌==◌, ◌∙◌, ◌∷◌, ◌≡◌, ◌≢◌, ◌≤◌}
 use Rattle.mdb_words.specs.declared.row.RowFault.{RowFault}
-use Rattle.mdb_words.specs.Event.{start_of}
-use Rattle.mdb_bus.specs.declared.act.Act.{Act}
 use Rattle.mdb_bus.specs.declared.bus.Bus.{Bus}
 use Rattle.mdb_bus.specs.declared.fault.LinkFault.{LinkFault}
-use Rattle.mdb_bus.specs.declared.scope.Scope.{Scope}
-use Rattle.mdb_bus.specs.Pieces.{NamesAReply}
-use Rattle.mdb_bus.specs.ActLists.{ArePieces, Piece, Whole, events_of, piece_events}
-use Rattle.mdb_bus.specs.Bus.{GoesOn, StandsFor, ended_act, scope_of}
+use Rattle.mdb_bus.specs.Bus.{StandsFor, scope_of}
 use Rattle.mdb_bus.specs.LinkFaults.{IsLinkFault}
-use Rattle.mdb_follow.specs.declared.follower.TheConstants.{ROWS_MAX}
-use Rattle.mdb_page.specs.Acts.{EndsSo, IsNext, broken, closed_pieces, no_row, too_long, unread, whole}
-use Rattle.mdb_page.specs.Answers.{number_of}
-use Rattle.mdb_page.specs.Lines.{HasRead, IsBare, IsFirstLine, IsLine, IsUnread, TellsNoRow, TellsRow, blank, row, start}
-use Rattle.mdb_page.specs.inner.Listing.{HasListed, HasTakenPieces, HasWalked, Lengthens}
-use Rattle.mdb_page.specs.declared.acts.ActListing.{ActListing}
-use Rattle.mdb_page.specs.declared.acts.PageAct.{PageAct}
-use Rattle.mdb_page.specs.declared.answer.PageTold.{PageTold}
-use Rattle.mdb_page.specs.declared.lines.LineFault.{LineFault}
+use Rattle.mdb_page.specs.Acts.{EndsSo, broken, no_row, too_long, unread, whole}
+use Rattle.mdb_page.specs.inner.Listing.{HasListed}
 use Rattle.mdb_page.specs.declared.lines.LineFault.TheVariants as faults
-use Rattle.mdb_page.specs.declared.rows.Rows.{Rows}
 use Rattle.mdb_page.proofs.Turns.{last_row, whole_of}
 
 -- Some first lines were walked over: the bus stands for the pieces of their rows, which were taken.

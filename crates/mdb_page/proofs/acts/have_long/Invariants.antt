@@ -1,6 +1,5 @@
 -- No message so far is long.
-use Rattle.std.proofs.Common.{◌≡◌}
-use Rattle.std.specs.List.{list_any}
+use Rattle.mdb_page.proofs.Words.{list_any, ◌≡◌}
 use Rattle.mdb_msgs.specs.Reader.{has_long}
 use Rattle.mdb_page.proofs.acts.have_long.Given as goal
 

@@ -1,7 +1,5 @@
 -- No message so far has options.
-use Rattle.std.proofs.Common.{◌≡◌}
-use Rattle.std.specs.List.{list_any}
-use Rattle.mdb_page.specs.Acts.{has_options}
+use Rattle.mdb_page.proofs.Words.{has_options, list_any, ◌≡◌}
 use Rattle.mdb_page.proofs.acts.have_options.Given as goal
 
 abbrev pub invariant-loop-message : goal.invariant-loop-message

@@ -1,7 +1,5 @@
 -- The lines so far tell rows for which the judge stands, and where this ends.
-use Rattle.std.proofs.Common.{◌≡◌, [], ◌∷◌, ◌++◌, length, arith}
-use Rattle.std.proofs.Math.Nat.{le_refl}
-use Rattle.mdb_page.specs.Lines.{start, blank, row}
+use Rattle.mdb_page.proofs.Words.{[], arith, blank, le_refl, length, row, start, ◌++◌, ◌∷◌, ◌≡◌}
 use Rattle.mdb_page.proofs.Walks.{blank_line_of, has_bytes, line_of}
 use Rattle.mdb_page.proofs.answer.follow.Goals as goal
 

@@ -1,7 +1,5 @@
 -- The lines so far tell rows, and the judge stands for them.
-use Rattle.std.proofs.Common.{length, ◌≤◌, List}
-use Rattle.mdb_words.specs.declared.event.Event.{Event}
-use Rattle.mdb_page.specs.Lines.{HasRead}
+use Rattle.mdb_page.proofs.Words.{Event, HasRead, List, length, ◌≤◌}
 use Rattle.mdb_page.proofs.answer.follow.Given as goal
 
 abbrev pub invariant-loop-line : goal.invariant-loop-line

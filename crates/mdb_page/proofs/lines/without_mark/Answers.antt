@@ -1,6 +1,5 @@
 -- A byte order mark in front is left out.
-use Rattle.std.proofs.Common.{arith}
-use Rattle.mdb_page.specs.Lines.{marked, unmarked}
+use Rattle.mdb_page.proofs.Words.{arith, marked, unmarked}
 use Rattle.mdb_page.proofs.Ends.{no_third}
 use Rattle.mdb_page.proofs.lines.without_mark.Goals as goal
 use Rattle.mdb_page.proofs.lines.without_mark.Goals.{else-text-ge3-via-then-text-ge3+then-text+then-text-2+else-text-3, else-text-ge3-via-then-text-ge3+then-text+else-text-2, else-text-ge3-via-then-text-ge3+else-text, else-text-ge3-via-else-text-ge3}

@@ -1,8 +1,6 @@
 -- The rows of the lines so far are followed, by what each line is.
-use Rattle.std.proofs.Common.{arith, length}
-use Rattle.std.proofs.Math.Nat.{le_refl}
+use Rattle.mdb_page.proofs.Words.{act_of, arith, le_refl, length, offence_of}
 use Rattle.mdb_follow.specs.Feeding.{HasRefused}
-use Rattle.mdb_follow.specs.Follower.{act_of, offence_of}
 use Rattle.mdb_follow.proofs.Following.{by-some}
 use Rattle.mdb_page.proofs.Rising as rising
 use Rattle.mdb_page.proofs.Walks.{blank_line_of, has_bytes, has_none, line_of}

@@ -1,8 +1,5 @@
 -- The entries of the lines so far are listed.
-use Rattle.std.proofs.Common.{length, ◌*◌, ◌≤◌}
-use Rattle.mdb_follow.specs.declared.follower.TheConstants.{ROWS_MAX}
-use Rattle.mdb_follow.specs.Follower.{rows_of, scope_of}
-use Rattle.mdb_page.specs.inner.Rising.{IsNear}
+use Rattle.mdb_page.proofs.Words.{IsNear, ROWS_MAX, length, rows_of, scope_of, ◌*◌, ◌≤◌}
 use Rattle.mdb_page.proofs.Rising.{Follows}
 use Rattle.mdb_page.proofs.rises.follow.Given as goal
 

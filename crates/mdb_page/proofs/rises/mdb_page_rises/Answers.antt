@@ -1,6 +1,5 @@
 -- The first report is near, and is that of no rows.
-use Rattle.std.proofs.Common.{[], arith}
-use Rattle.mdb_follow.specs.Follower.{rows_of}
+use Rattle.mdb_page.proofs.Words.{[], arith, rows_of}
 use Rattle.mdb_page.proofs.Rising.{near}
 use Rattle.mdb_page.proofs.rises.mdb_page_rises.Goals as goal
 

@@ -1,6 +1,5 @@
 -- The lines so far are surveyed, by what each line is.
-use Rattle.std.proofs.Common.{◌∙◌, arith, length, refl}
-use Rattle.std.proofs.Math.Nat.{le_refl}
+use Rattle.mdb_page.proofs.Words.{arith, le_refl, length, refl, ◌∙◌}
 use Rattle.mdb_page.proofs.Surveys.{goes_on_blank, goes_on_fault, goes_on_row, starts, stops_at_line}
 use Rattle.mdb_page.proofs.Walks.{blank_line_of, has_bytes, line_of}
 use Rattle.mdb_page.proofs.survey.survey_lines.Goals as goal

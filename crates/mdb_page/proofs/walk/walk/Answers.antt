@@ -1,6 +1,5 @@
 -- A walk lists the acts of the lines so far, by what each line is.
-use Rattle.std.proofs.Common.{length, arith, refl}
-use Rattle.std.proofs.Math.Nat.{le_refl}
+use Rattle.mdb_page.proofs.Words.{arith, le_refl, length, refl}
 use Rattle.mdb_page.proofs.Walks as walks
 use Rattle.mdb_page.proofs.walk.walk.Goals as goal
 

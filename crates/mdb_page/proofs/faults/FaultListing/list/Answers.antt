@@ -1,6 +1,5 @@
 -- A fault is listed, or has no room.
-use Rattle.std.proofs.Common.{◌++◌, ◌∙◌, ap, arith, inl, inr, refl}
-use Rattle.mdb_page.specs.Surveys.{written_lines}
+use Rattle.mdb_page.proofs.Words.{ap, arith, inl, inr, refl, written_lines, ◌++◌, ◌∙◌}
 use Rattle.mdb_page.proofs.OneFault.{fills, lists_one, too_long}
 use Rattle.mdb_page.proofs.faults.FaultListing.list.Goals as goal
 

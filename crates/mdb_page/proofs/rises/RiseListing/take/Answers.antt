@@ -1,8 +1,6 @@
 -- The entries of the accounts so far are listed, and so those of all.
-use Rattle.std.proofs.Common.{◌++◌, ◌∙◌, ap, arith, flat_map, get_or, refl, take}
+use Rattle.mdb_page.proofs.Words.{ALL, ap, arith, flat_map, get_or, refl, rises_in, take, ◌++◌, ◌∙◌}
 use Rattle.mdb_follow.specs.declared.account_name.AccountName.TheVariants.{CoinsIn}
-use Rattle.mdb_follow.specs.declared.account_name.TheConstants.AccountName.{ALL}
-use Rattle.mdb_page.specs.Rises.{rises_in}
 use Rattle.mdb_page.proofs.RiseLists.{all_names, one_name_more}
 use Rattle.mdb_page.proofs.rises.RiseListing.take.Goals as goal
 

@@ -1,8 +1,5 @@
 -- The entries of the accounts so far are listed.
-use Rattle.std.proofs.Common.{◌≡◌, ◌≤◌, ◌+◌, ◌*◌, ◌++◌, ℕ, List, flat_map, take}
-use Rattle.mdb_page.specs.Rises.{rises_in}
-use Rattle.mdb_page.specs.inner.Rising.{HasListed}
-use Rattle.mdb_page.specs.declared.rises.PageRise.{PageRise}
+use Rattle.mdb_page.proofs.Words.{HasListed, List, PageRise, flat_map, rises_in, take, ℕ, ◌*◌, ◌++◌, ◌+◌, ◌≡◌, ◌≤◌}
 use Rattle.mdb_page.proofs.rises.RiseListing.take.Given as goal
 
 abbrev pub invariant-loop-name : goal.invariant-loop-name

@@ -1,6 +1,5 @@
 -- Both sides of an account are listed.
-use Rattle.std.proofs.Common.{◌++◌, refl}
-use Rattle.mdb_page.specs.Rises.{rise_of}
+use Rattle.mdb_page.proofs.Words.{refl, rise_of, ◌++◌}
 use Rattle.mdb_page.proofs.RiseLists.{lists_account}
 use Rattle.mdb_page.proofs.rises.RiseListing.take_account.Goals as goal
 
