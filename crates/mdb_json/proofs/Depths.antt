@@ -1,22 +1,6 @@
 -- How deep an answer nests: six objects at most.
-use Rattle.std.proofs.Common.{arith, refl, ◌≡◌, ◌≤◌, ℕ, List, Option, Some, None}
-use Rattle.std.specs.List.{filter}
-use Rattle.serde_json.specs.Data.{depth}
+use Rattle.mdb_json.proofs.Words.{ALL, Account, Base, DEVICES, Device, Extended, List, No, None, Option, Outcome, Profile, Report, Scope, Some, Untimely, Yes, account_member, accounts_data, arith, depth, device_data, device_decimals, device_member, devices_data, filter, keeps, offence_data, outcome_data, places_data, profile_of, refl, untimely_data, yes_by, ℕ, ◌≡◌, ◌≤◌}
 use Rattle.serde_json.specs.Read.{max_depth}
-use Rattle.mdb_msgs.specs.declared.command.Device.{Device}
-use Rattle.mdb_bus.specs.declared.scope.Profile.{Profile}
-use Rattle.mdb_bus.specs.declared.scope.Profile.TheVariants.{Base, Extended}
-use Rattle.mdb_bus.specs.declared.scope.Scope.{Scope}
-use Rattle.mdb_bus.specs.declared.untimely.Untimely.{Untimely}
-use Rattle.mdb_bus.specs.Scopes.{profile_of}
-use Rattle.mdb_follow.specs.declared.account.Account.{Account}
-use Rattle.mdb_follow.specs.declared.account_name.TheConstants.AccountName.{ALL}
-use Rattle.mdb_follow.specs.declared.report.Report.{Report}
-use Rattle.mdb_follow.specs.declared.report.TheConstants.Report.{DEVICES}
-use Rattle.mdb_follow.specs.Report.{device_decimals}
-use Rattle.mdb_text.specs.declared.outcome.Outcome.{Outcome}
-use Rattle.mdb_text.specs.declared.outcome.Outcome.TheVariants.{Yes, No}
-use Rattle.mdb_json.specs.Reports.{account_member, accounts_data, device_data, device_member, devices_data, keeps, offence_data, outcome_data, places_data, untimely_data, yes_by}
 use Rattle.mdb_json.proofs.Objects.{one_deeper}
 
 of_places : (places : Option ℕ) → depth (places_data places) ≡ 0

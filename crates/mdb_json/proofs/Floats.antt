@@ -1,26 +1,10 @@
 -- An answer has no float.
-use Rattle.std.proofs.Common.{refl, ◌≡◌, ℤ, pos, negsuc, false, ℕ, List, Option, Some, None}
-use Rattle.std.specs.List.{filter}
+use Rattle.mdb_json.proofs.Words.{ALL, Account, Base, DEVICES, Device, Extended, List, No, None, Option, Outcome, Profile, Report, Scope, Some, Untimely, Yes, account_data, account_member, accounts_data, device_data, device_decimals, device_member, devices_data, false, filter, has_float, keeps, negsuc, outcome_data, places_data, pos, profile_of, range_data, refl, untimely_data, yes_by, yes_data, ℕ, ℤ, ◌≡◌}
 use Rattle.serde_json.specs.Find.{is_float, of_integer}
-use Rattle.serde_json.specs.Written.{has_float}
-use Rattle.mdb_msgs.specs.declared.command.Device.{Device}
-use Rattle.mdb_bus.specs.declared.scope.Profile.{Profile}
-use Rattle.mdb_bus.specs.declared.scope.Profile.TheVariants.{Base, Extended}
-use Rattle.mdb_bus.specs.declared.scope.Scope.{Scope}
-use Rattle.mdb_bus.specs.declared.untimely.Untimely.{Untimely}
-use Rattle.mdb_bus.specs.Scopes.{profile_of}
-use Rattle.mdb_follow.specs.declared.account.Account.{Account}
-use Rattle.mdb_follow.specs.declared.account_name.TheConstants.AccountName.{ALL}
 use Rattle.mdb_follow.specs.declared.goal.AccountSide.TheVariants as sides
 use Rattle.mdb_follow.specs.declared.range.Range.{Range}
-use Rattle.mdb_follow.specs.declared.report.Report.{Report}
-use Rattle.mdb_follow.specs.declared.report.TheConstants.Report.{DEVICES}
 use Rattle.mdb_follow.specs.Ends.{side_range}
-use Rattle.mdb_follow.specs.Report.{device_decimals}
 use Rattle.mdb_follow.specs.AccountNames.{account_in}
-use Rattle.mdb_text.specs.declared.outcome.Outcome.{Outcome}
-use Rattle.mdb_text.specs.declared.outcome.Outcome.TheVariants.{Yes, No}
-use Rattle.mdb_json.specs.Reports.{account_data, account_member, accounts_data, device_data, device_member, devices_data, keeps, outcome_data, places_data, range_data, untimely_data, yes_by, yes_data}
 use Rattle.mdb_json.proofs.Objects.{without_float}
 
 no_float : (n : ℤ) → is_float (of_integer n) ≡ false

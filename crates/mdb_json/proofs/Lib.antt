@@ -1,3 +1,4 @@
 pub mod Depths
 pub mod Floats
 pub mod Objects
+mod Words

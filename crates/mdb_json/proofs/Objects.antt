@@ -1,15 +1,11 @@
 -- Objects whose members are made of a list.
-use Rattle.std.proofs.Common.{arith, refl, ap, ◌∙◌, ◌≡◌, ◌+◌, ◌<◌, ◌≤◌, ℕ, suc, Bool, true, false, List, [], ◌∷◌, ◌++◌, cond, get_or, length, map, take, nat_cmp, Ordering, Less, Equal, Greater}
+use Rattle.mdb_json.proofs.Words.{Bool, Data, Equal, Greater, Less, List, Members, Ordering, [], ap, arith, cond, depth, false, filter, fold, get_or, has_float, length, map, member, members, members_depth, members_have_float, nat_cmp, no_members, object, put, refl, suc, take, true, with_member, ℕ, ◌++◌, ◌+◌, ◌<◌, ◌∙◌, ◌∷◌, ◌≡◌, ◌≤◌}
 use Rattle.std.proofs.lemmas.Bool.{or_parts}
 use Rattle.std.proofs.lemmas.List.{append-nil, map-append}
 use Rattle.std.proofs.lemmas.List.Elements.{filter_more}
 use Rattle.std.proofs.lemmas.List.Sums.{fold-append}
 use Rattle.std.specs.Cmp.Lexicographic.{slice_cmp}
-use Rattle.std.specs.List.{filter, fold}
 use Rattle.std.specs.Ordering.{match_ordering}
-use Rattle.serde_json.specs.Data.{Data, depth, member, Members, members_depth, no_members, object, put}
-use Rattle.serde_json.specs.Written.{has_float, members_have_float}
-use Rattle.mdb_json.specs.Reports.{members, with_member}
 
 -- what each of three has, the one that an order chooses has
 by_order : {X : Type 0} (Has : X → Type 0) (order : Ordering) (less same more : X) → Has less

@@ -1,6 +1,4 @@
-use Rattle.std.proofs.Common.{sym, ◌∙◌}
-use Rattle.mdb_follow.specs.declared.account_name.TheConstants.AccountName.{ALL}
-use Rattle.mdb_json.specs.Reports.{account_member, keeps}
+use Rattle.mdb_json.proofs.Words.{ALL, account_member, keeps, sym, ◌∙◌}
 use Rattle.mdb_json.proofs.Objects.{one_passed_over, one_taken}
 use Rattle.mdb_json.proofs.account.accounts_of.Goals as goal
 use Rattle.mdb_json.proofs.account.accounts_of.Goals.{then-keeps+in_ok-value+in_ok-put, else-keeps}

@@ -1,7 +1,4 @@
-use Rattle.std.proofs.Common.{◌≡◌, map, take}
-use Rattle.std.specs.List.{filter}
-use Rattle.serde_json.specs.View.{members_view}
-use Rattle.mdb_json.specs.Reports.{account_member, keeps, members}
+use Rattle.mdb_json.proofs.Words.{account_member, filter, keeps, map, members, members_view, take, ◌≡◌}
 use Rattle.mdb_json.proofs.account.accounts_of.Given as goal
 
 -- those of the accounts so far that the device keeps are members

@@ -1,6 +1,4 @@
-use Rattle.std.proofs.Common.{◌≡◌, map, take}
-use Rattle.serde_json.specs.View.{members_view}
-use Rattle.mdb_json.specs.Reports.{device_member, members}
+use Rattle.mdb_json.proofs.Words.{device_member, map, members, members_view, take, ◌≡◌}
 use Rattle.mdb_json.proofs.device.devices.Given as goal
 
 -- the devices so far are members
