@@ -33,21 +33,15 @@ module _ {facts : Facts} {command : ReaderCommand} {reply : Reply} {choice : Cho
     {holding kept : List ReaderActivity}
     (looked : Looked facts command reply choice before poll owed reset early middle holding kept)
   where
-    -- what the reply tells, in the words of the definition and in those of the code
-    abbrev Tells : List ReaderActivity → Type 0
-    Tells news = HasNews (is_poll command) choice (owes_reset facts (taken command reply))
-        (held (before_messages facts command reply choice before).holds facts.past.last_kept)
-        (parts_of reply) news
-
+    -- what the reply tells, in the words of the code
     abbrev Telling : List (Part ReaderActivity) → List ReaderActivity → Type 0
     Telling parts news = HasNews poll choice owed holding parts news
 
-    telling : {news : List ReaderActivity} → Tells news → Telling (parts_of reply) news
-    telling tells = rw (looked.polls, looked.owed_is, looked.holding_is, looked.middle_is) tells
-
-    told_back : {news : List ReaderActivity} → Telling (parts_of reply) news → Tells news
-    told_back tells =
-        rw (looked.polls, looked.owed_is, looked.holding_is, looked.middle_is) at tells
+    telling : {after : ReaderState} {gains : Gains}
+        (step : ReplyStep facts command reply choice before after gains)
+        → Telling (parts_of reply) step.news
+    telling step =
+        rw (looked.polls, looked.owed_is, looked.holding_is, looked.middle_is) step.has_news
 
     -- a reply that the reader can't tell: it doesn't tell what is held
     pub untold : ((parts : List (Part ReaderActivity)) (other : List ReaderActivity)
@@ -55,7 +49,7 @@ module _ {facts : Facts} {command : ReaderCommand} {reply : Reply} {choice : Cho
         → (after : ReaderState) (gains : Gains)
         → ReplyStep facts command reply choice before after gains → ⊥
     untold none after gains step =
-        none (parts_of reply) step.news looked.summary (telling step.has_news)
+        none (parts_of reply) step.news looked.summary (telling step)
 
     -- a reply that it can tell, and what that is
     pub told : {news : List ReaderActivity} {last : Option Transaction} {device : DeviceState}
@@ -78,17 +72,19 @@ module _ {facts : Facts} {command : ReaderCommand} {reply : Reply} {choice : Cho
         gains_are =
         let tells = rw (last_is, looked.middle_is) at told_is in
         let holds = rw (looked.summary.kept_is, looked.middle_is) at after_holds_is in
+        let found = found (parts_of reply) looked.summary in
         let gained = rw (approved_is, config_is, sold_is) at gains_are in (
           record {
             news = _;
-            has_news = told_back (found (parts_of reply) looked.summary);
+            has_news =
+                rw (looked.polls, looked.owed_is, looked.holding_is, looked.middle_is) at found;
             told = tells;
             view = refl;
             holds = holds;
             gained = gained;
           },
           λ other more step.
-              let same = only (parts_of reply) step.news looked.summary (telling step.has_news) in
+              let same = only (parts_of reply) step.news looked.summary (telling step) in
               let both : Some other.device ≡ Some device = sym (rw same at step.told) ∙ tells in
               let devices : other.device ≡ device = cc in (
                 same_state devices step.view (step.holds ∙ sym holds),

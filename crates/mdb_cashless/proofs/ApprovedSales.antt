@@ -5,7 +5,7 @@ use Rattle.mdb_cashless.specs.declared.approvals.sale.Sale.TheVariants.{Unknown,
 use Rattle.mdb_cashless.specs.ExtendedFacts.{Facts, facts_of}
 use Rattle.mdb_cashless.specs.ExtendedSales.{AcksAreOfReplies, IsApproved, SalesAreApproved, asks_request, hears_approval, is_open, leaves_asked, leaves_sale}
 use Rattle.mdb_cashless.specs.Sales as base
-use Rattle.mdb_cashless.proofs.Sales.{approved_by, own_is, own_of_unit, requests, same_is, still_approved, still_requested}
+use Rattle.mdb_cashless.proofs.Sales.{IsAgain, approved_by, own_is, own_of_unit, requests, same_is, still_approved, still_requested, still_unrequested}
 
 -- whether an approval makes a sale approved, and whether VEND SUCCESS of an item may be told of it
 abbrev awaits : Sale → Bool
@@ -139,17 +139,11 @@ module _ (unit : ReaderUnit) where
   from_earlier (Joined setups profile) (act ∷ so_far) is =
       let after = (after_act act (facts_of (Joined setups profile) unit so_far)).2 in
       let parts = and_parts _ _ (sym after ∙ is) in
-      by parts.0 (from_earlier (Joined setups profile) so_far parts.1)
-    where
-      by : not (asks_request unit act) ≡ true
-          → MayBeRequestedBefore (Joined setups profile) unit so_far
-          → MayBeRequestedBefore (Joined setups profile) unit (act ∷ so_far)
-      by none before price item (zero, few, same) =
-          let asks : asks_request unit act ≡ true =
-          rw same (rw (own_of_unit unit (ReaderCommand.VendRequest price item)) refl) in
-          absurd cc
-      by none before price item (suc n, few, same) =
-          before price item (n, omega (arith, few), same)
+      still_unrequested unit act so_far (λ price item same.
+      let none : not (asks_request unit act) ≡ true = parts.0 in
+      let asks : asks_request unit act ≡ true =
+      rw same (rw (own_of_unit unit (ReaderCommand.VendRequest price item)) refl) in
+      absurd cc) (from_earlier (Joined setups profile) so_far parts.1)
 
 module _ (unit : ReaderUnit) (begins : Beginning) where
   abbrev facts : List Act → Facts
@@ -281,17 +275,14 @@ module _ (unit : ReaderUnit) where
         (leaves Cancel _ act parts.0 (λ t same. inr (sym (same_is Cancel t same))))
   ]
 
-  abbrev Repeats : Command → Reply → Act → Type 0
-  Repeats command reply act = (act ≡ Act.VmcRet command reply) ⊎ (act ≡ Act.Repeat command reply)
-
   replied : (command : Command) (reply : Reply) (again before : List Act)
-      → All (Repeats command reply) again
+      → All (IsAgain command reply) again
       → is_open unit (again ++ (Act.Reply command reply ∷ before)) ≡ is_open unit before
   replied command reply [] before all = refl
   replied command reply (act ∷ again) before all =
       let rest = replied command reply again before
-      (All-tail (Repeats command reply) act again all) in
-      elim (All-head (Repeats command reply) act again all) [
+      (All-tail (IsAgain command reply) act again all) in
+      elim (All-head (IsAgain command reply) act again all) [
         | inl is ↦ rw is rest
         | inr is ↦ rw is rest
       ]

@@ -41,36 +41,28 @@ module _ {State : Type 0} (its_state : StateByProfile → Option State) (part : 
   abbrev StepIn : StateByProfile → StateByProfile → Gains → Type 0
   StepIn = (machine_in its_state power_on machine).Step so_far act choice
 
-  abbrev StepFrom : State → StateByProfile → Gains → Option State → Type 0
-  StepFrom its after gains two =
-      StepOf Step (Stays (strayed power_on act (part.into its)) after gains) (Some its) two gains
-
-  pub no_step : (its : State) (after : StateByProfile) (gains : Gains)
-      → ((to : State) (gains : Gains) → Step its to gains → ⊥)
-      → StepIn (part.into its) after gains → ⊥
-  no_step its after gains none = rw (part.again its) (by (its_state after))
+  -- a step from one of its states is one by the machine
+  its_step : (its : State) (after : StateByProfile) (gains : Gains)
+      → StepIn (part.into its) after gains
+      → (to : State) × (after ≡ part.into to) × Step its to gains
+  its_step its after gains = rw (part.again its) (by (its_state after) refl)
     where
-      by : (two : Option State) → StepFrom its after gains two → ⊥
-      by (Some to) step = none to gains step
-      by None step = step
+      by : (two : Option State) → its_state after ≡ two
+          → StepOf Step (Stays (strayed power_on act (part.into its)) after gains) (Some its) two
+          gains → (to : State) × (after ≡ part.into to) × Step its to gains
+      by (Some to) gone step = (to, part.only after to gone, step)
+      by None gone step = absurd step
 
-  -- its steps are those of the machine
   pub only_step : (its : State) (found : Option (State × Gains)) → IsOnlyStep (Step its) found
       → IsOnlyStep (StepIn (part.into its)) (option_map (λ step. (part.into step.0, step.1)) found)
-  only_step its None none = λ after gains. no_step its after gains none
-  only_step its (Some one) only = rw (part.again its) (
-    rw (part.again one.0) only.0,
-    λ after gains.
-        by after gains (its_state after) refl,
+  only_step its None none = λ after gains step.
+      let own = its_step its after gains step in none own.0 gains own.2
+  only_step its (Some one) only = (
+    rw (part.again its, part.again one.0) only.0,
+    λ after gains step.
+        let own = its_step its after gains step in
+        let same = only.1 own.0 gains own.2 in (own.1 ∙ ap part.into same.0, same.1),
   )
-    where
-      by : (after : StateByProfile) (gains : Gains) (two : Option State) → its_state after ≡ two
-          → StepFrom its after gains two
-          → (after ≡ part.into one.0) × (gains ≡ one.1)
-      by after gains (Some to) gone step =
-          let same = only.1 to gains step in
-          (part.only after to gone ∙ ap part.into same.0, same.1)
-      by after gains None gone step = absurd step
 
   -- Steps by codes: those of the machine have a place among all.
   pub placed_steps : (its_code : State → ℕ) (place : ℕ → ℕ)
@@ -96,23 +88,19 @@ module _ {State : Type 0} (its_state : StateByProfile → Option State) (part : 
             step = rw (part.again is.before, part.again is.after) is.step;
           }
 
-      by : (after : StateByProfile) (two : Option State) → its_state after ≡ two
-          → code_of after ≡ next → StepFrom its after gains two → Contains coded (next, gains)
-      by after (Some to) gone ends step = (are_placed next gains).1 (
-        its_code to,
-        sym (placed to) ∙ ap code_of (sym (part.only after to gone)) ∙ ends,
-        (are (its_code to) gains).1
-            (record { before = its; after = to; starts = of; ends = refl; step = step }),
-      )
-      by after None gone ends step = absurd step
-
       back : IsStep code_of StepIn all next gains → Contains coded (next, gains)
       back is =
-          let same =
-          apart is.before (part.into its) (is.starts ∙ of_all ∙ ap place (sym of)
-          ∙ sym (placed its)) in
-          by is.after (its_state is.after) refl is.ends
-          (rw (← part.again its) (subst (λ before. StepIn before is.after gains) same is.step))
+          let same = apart is.before (part.into its)
+          (is.starts ∙ of_all ∙ ap place (sym of) ∙ sym (placed its)) in
+          let own = its_step its is.after gains
+          (subst (λ before. StepIn before is.after gains) same is.step) in
+          let ends = sym (placed own.0) ∙ ap code_of (sym own.1) ∙ is.ends in
+          (are_placed next gains).1 (
+            its_code own.0,
+            ends,
+            (are (its_code own.0) gains).1
+                (record { before = its; after = own.0; starts = of; ends = refl; step = own.2 }),
+          )
 
 -- what holds of a state by both machines, for each profile
 module _ (unit : ReaderUnit) (begins : Beginning) (so_far : List Act) (act : Act) where

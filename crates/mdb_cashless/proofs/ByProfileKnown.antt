@@ -12,11 +12,8 @@ use Rattle.mdb_cashless.specs.shared.ReaderWays as base_ways
 
 module _ (begins : Beginning) (unit : ReaderUnit) where
   abbrev counted : List Act → extended_facts.Facts × ℕ
-  counted so_far = (
-    extended_facts.facts_of begins unit so_far,
-    extended.unvalued unit begins
-        so_far,
-  )
+  counted so_far =
+      (extended_facts.facts_of begins unit so_far, extended.unvalued unit begins so_far)
 
   counted_of_own : IsOfOwn (devices.Reader unit) counted
   counted_of_own = record {
@@ -61,9 +58,7 @@ module _ (begins : Beginning) (unit : ReaderUnit) where
 
   pub no_config : (so_far : List Act) → All IsBreak (own_acts (devices.Reader unit) so_far)
       → config_of (facts_of begins unit so_far) ≡ config_of (facts_of begins unit [])
-  no_config so_far alone = one_config (profile_of begins)
-      (base_facts.known_of begins unit so_far) (base_facts.known_of begins unit [])
-      (extended_facts.facts_of begins unit so_far) (extended_facts.facts_of begins unit [])
+  no_config so_far alone = one_config (profile_of begins) _ _ _ _
       (base_ways.no_config begins unit so_far alone)
       (part_of_none (extended_facts.facts_of begins unit) (λ facts. facts.config)
       (extended_ways.of_own unit begins) (λ length before. refl) so_far alone)

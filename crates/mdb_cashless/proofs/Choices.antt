@@ -1,12 +1,6 @@
 -- Where it is of no matter what is chosen of an act of a reader.
-use Rattle.mdb_cashless.proofs.Words.{◌≡◌, false, Some, Command, ReaderCommand, ReaderUnit, First, Second, Reply, Act, Choice, Plain, Lost, Restart, Gains, CanStand, MayBeRead, kept_of, free_acked, ReaderState, parts_of, own, view_taken, AckStep, ReaderStep, ReplyStep, VmcAckStep, Facts, own_as}
-
--- the command that is meant, where it is to this reader
-the_own : (unit of : ReaderUnit) (command other : ReaderCommand)
-    → own unit (Command.Reader of command) ≡ Some other → command ≡ other
-the_own First First command other found = cc
-the_own Second Second command other found = cc
-the_own unit of command other found = cc
+use Rattle.mdb_cashless.proofs.Words.{◌≡◌, false, Command, ReaderCommand, ReaderUnit, Reply, Act, Choice, Plain, Lost, Restart, Gains, CanStand, MayBeRead, kept_of, free_acked, ReaderState, parts_of, own, view_taken, AckStep, ReaderStep, ReplyStep, VmcAckStep, Facts, own_as}
+use Rattle.mdb_cashless.proofs.Sales.{own_is}
 
 module _ (unit : ReaderUnit) (facts : Facts) (before after : ReaderState) (gains : Gains) where
   -- a step by an act leads nowhere else under a choice than the plain one
@@ -29,7 +23,10 @@ module _ (unit : ReaderUnit) (facts : Facts) (before after : ReaderState) (gains
       → Unheeded (Act.Ack (Command.Reader of command)) choice
   untaken of command choice still = own_as (own unit (Command.Reader of command))
       (λ its. AckStep facts its choice) (λ its. AckStep facts its Plain) before after gains
-      (λ its found. ack_still its choice (rw (the_own unit of command its found) at still))
+      (λ its found.
+      let meant = own_is unit (Command.Reader of command) its found in
+      let same : command ≡ its = cc in
+      ack_still its choice (rw same at still))
 
   -- a reply that tells of no restart
   pub unread : (command : Command) (reply : Reply) (choice : Choice)

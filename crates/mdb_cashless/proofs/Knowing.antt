@@ -84,10 +84,6 @@ itself_allowed knows x = grind arith
 any_allowed : {X : Type 0} (knows : Bool) (x y : X) → knows ≡ false → Allows (if_known knows x) y
 any_allowed knows x y unknown = rw unknown tt
 
-is_known : {X : Type 0} (knows : Bool) (x y : X) → knows ≡ true → Allows (if_known knows x) y
-    → y ≡ x
-is_known knows x y known allows = rw known at allows
-
 some_allowed : (knows : Bool) (kept : List ReaderActivity) (holds : Bool)
     → AllowsKept (if_known knows kept) holds (if knows then kept else VendDenied ∷ [])
 some_allowed true kept holds = refl
@@ -175,8 +171,9 @@ module _ (known : ReaderKnown) where
       one_guess : known.knows_taken ≡ true → Way base.taken ↔ Some_of Holds
       one_guess knows = (
         one base.taken its_taken,
-        λ some. ways some base.taken (meets_itself its
-            (sym (is_known known.knows_taken base.taken some.0.taken knows some.1.taken))),
+        λ some.
+            let same : some.0.taken ≡ base.taken = rw knows at some.1.taken in
+            ways some base.taken (meets_itself its (sym same)),
       )
 
     -- an ACK

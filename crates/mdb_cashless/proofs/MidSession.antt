@@ -1,5 +1,5 @@
 -- The ways that an act of a reader may go in a recording that begins in mid-session.
-use Rattle.mdb_cashless.proofs.Words.{common_steps, All, ◌≤◌, ◌≡◌, ◌≢◌, ◌↔◌, ◌⊎◌, inl, inr, ℕ, Bool, true, false, List, [], ◌∷◌, Option, Some, None, refl, ap, sym, ◌∙◌, arith, drop, length, if◌then◌else◌, drop-append_seam, take-append_seam, list_any, ReaderCommand, ReaderUnit, Reply, Act, Joined, Profile, Choice, Gains, device_gains, in_slots, IsNew, held, kept_of, Allows, AllowsKept, known_by, last_list, last_told, or_else, powers_on, unless_empty, ReaderActivity, ReaderState, Ended, Transaction, known_of, config_in, last_said, messages_of, parts_of, amounts, transaction_of, OfSome, keeping, length-take-le, take-append-drop, All-from_recursion, recursion_from_All, all_approved, StepKnowing, is_poll, is_repeated, sold_any, take_any, AllowsFacts, KnownFacts, asked_by, effect_of, ends_transactions, own_transaction, parts_by, taken_told, transaction_taken_by, Command, length-append, take, option_map, VendDenied, AckStep, AskStep, ReaderStep, ReplyStep, before_messages, machine, read, taken, Facts, facts_of}
+use Rattle.mdb_cashless.proofs.Words.{common_steps, All, ◌≤◌, ◌≡◌, ◌≢◌, ◌↔◌, ◌⊎◌, inl, inr, ℕ, Bool, true, false, List, [], ◌∷◌, Option, Some, None, refl, ap, sym, ◌∙◌, arith, drop, length, if◌then◌else◌, drop-append_seam, take-append_seam, list_any, ReaderCommand, ReaderUnit, Reply, Act, Joined, Profile, Choice, Gains, device_gains, in_slots, IsNew, held, kept_of, Allows, AllowsKept, known_by, last_list, last_told, or_else, powers_on, unless_empty, ReaderActivity, ReaderState, Ended, Transaction, known_of, config_in, last_said, messages_of, parts_of, amounts, transaction_of, keeping, length-take-le, take-append-drop, All-from_recursion, recursion_from_All, all_approved, StepKnowing, is_poll, is_repeated, sold_any, take_any, AllowsFacts, KnownFacts, asked_by, effect_of, ends_transactions, own_transaction, parts_by, taken_told, transaction_taken_by, Command, length-append, take, option_map, VendDenied, AskStep, ReaderStep, before_messages, machine, read, taken, Facts, facts_of}
 use Rattle.mdb_msgs.specs.declared.setups.Setups.{Setups}
 use Rattle.mdb_cashless.specs.MidSession.{AckWay, AreHeld, IsSettled, MayBeAgain, ReplyWay, SendsNone, Takes, TakesNone, TellsNone, facts_recorded}
 use Rattle.mdb_machine.specs.shared.ToldWays.{allows_if, allows_told, as_allowed, asked_so, empty_unless, keeps_if, kept_so, kept_told, list_told, none_told, not_not, told_by_none}
@@ -123,19 +123,6 @@ module _ (unit : ReaderUnit) (setups : Setups) (profile : Profile) (so_far : Lis
         by (Some list) is may = λ empty.
             list_told (λ act. kept_of (parts_by unit act)) so_far list is (sym may ∙ empty)
 
-    same_kept : (last : List ReaderActivity) → MayKeep last → (TellsNone unit so_far → ⊥)
-        → last ≡ (facts_of unit so_far).past.last_kept
-    same_kept last allows told =
-        kept_so setups profile holds (last_list (parts_by unit) so_far) last allows
-        (λ none. told ((none_kept unit so_far).1 none))
-
-    kept_allows : (last : List ReaderActivity) → last ≢ []
-        → ((TellsNone unit so_far → ⊥) → last ≡ (facts_of unit so_far).past.last_kept)
-        → MayKeep last
-    kept_allows last some is =
-        keeps_if setups profile holds (last_list (parts_by unit) so_far) last (λ none. some)
-        (λ told. is (λ none. told ((none_kept unit so_far).0 none)))
-
     a_list : (kept : List ReaderActivity) × MayKeep kept
     a_list =
         let some = kept_told VendDenied setups profile holds (last_list (parts_by unit) so_far) in
@@ -167,15 +154,6 @@ module _ (unit : ReaderUnit) (setups : Setups) (profile : Profile) (so_far : Lis
       before after gains refl
       (guess_allowed before.holds its base.taken kept.0 may its_taken kept.1)))
 
-  -- and each way is one after some guess of the last transaction, which may be; where no
-  -- transaction is taken, any that may be does
-  abbrev TakesAfter : Option ReaderCommand → ReaderState → ReaderState → Ended
-      → Option Transaction → Option Transaction → Type 0
-  TakesAfter its before after sold guess t = Allows known.taken t
-      × (or_else (own_transaction its) t ≡ or_else (own_transaction its) guess)
-      × (take_any (record base { taken = t }) its before ≡ after)
-      × (sold_any (record base { taken = t }) its before ≡ sold)
-
   held_from : (poll holds before : Bool) (kept : List ReaderActivity) (count : ℕ)
       → AreHeld unit so_far poll holds kept count → (last : List ReaderActivity)
       × (MayKeep before last × IsNew poll (held holds last) kept (drop count kept))
@@ -188,7 +166,8 @@ module _ (unit : ReaderUnit) (setups : Setups) (profile : Profile) (so_far : Lis
       omega (arith, size, none_left, first.0) in (
         take count kept,
         (
-          kept_allows before (take count kept) some first.2,
+          keeps_if setups profile before (last_list (parts_by unit) so_far) (take count kept)
+              (λ none. some) (λ told. first.2 (λ none. told ((none_kept unit so_far).0 none))),
           inl (sym (take-append-drop count kept)),
         ),
       )
@@ -205,14 +184,11 @@ module _ (unit : ReaderUnit) (setups : Setups) (profile : Profile) (so_far : Lis
   takes_to facts holds allowed (Some command) before =
       by (is_repeated facts command before.holds) refl
     where
-      its : Option Transaction
-      its = transaction_of command
-
       by : (r : Bool) → is_repeated facts command before.holds ≡ r
           → Takes unit so_far base (Some command) before (take_any facts (Some command) before)
           (sold_any facts (Some command) before)
       by true is =
-          let so = repeated_so facts.taken its before.holds is in
+          let so = repeated_so facts.taken (transaction_of command) before.holds is in
           let again : MayBeAgain unit so_far (Some command) before.holds = record {
             transaction = so.0;
             is = so.1;
@@ -223,8 +199,8 @@ module _ (unit : ReaderUnit) (setups : Setups) (profile : Profile) (so_far : Lis
       by false is = inr (
         λ t is_own held told same.
             let last = taken_so facts.taken allowed.taken told ∙ same in
-            let clash : true ≡ false = sym (repeated t its before.holds is_own held)
-            ∙ (sym (ap (λ l. repeats l its before.holds) last) ∙ is) in
+            let clash : true ≡ false = sym (repeated t _ before.holds is_own held)
+            ∙ (sym (ap (λ l. repeats l (transaction_of command) before.holds) last) ∙ is) in
             absurd cc,
         rw is refl,
         rw (is, allowed.config, allowed.amount) refl,
@@ -254,10 +230,15 @@ module _ (unit : ReaderUnit) (setups : Setups) (profile : Profile) (so_far : Lis
     )
   ]
 
+  -- and each way is one after some guess of the last transaction, which may be; where no
+  -- transaction is taken, any that may be does
   takes_from : (its : Option ReaderCommand) (before after : ReaderState) (sold : Ended)
       (guess : Option Transaction) → Allows known.taken guess
       → Takes unit so_far base its before after sold
-      → (t : Option Transaction) × TakesAfter its before after sold guess t
+      → (t : Option Transaction) × (Allows known.taken t
+      × (or_else (own_transaction its) t ≡ or_else (own_transaction its) guess)
+      × (take_any (record base { taken = t }) its before ≡ after)
+      × (sold_any (record base { taken = t }) its before ≡ sold))
   takes_from None before after sold guess may (inl again) = absurd cc
   takes_from (Some command) before after sold guess may (inl again) =
       let t = again.0.transaction in
@@ -284,7 +265,14 @@ module _ (unit : ReaderUnit) (setups : Setups) (profile : Profile) (so_far : Lis
         (Act.Ack (Command.Reader unit command)) choice before after gains
         ↔ AckWay unit so_far base command choice before after gains
     acked = as_found (rw (own_of_unit unit command) (
-      forth,
+      λ way.
+          let one = takes_from (Some command) before way.middle way.sold base.taken its_taken
+          way.takes in
+          let kept = a_list before.holds in (
+            keeping (record base { taken = one.0 }) kept.0,
+            guess_allowed before.holds base.asked one.0 kept.0 its_asked one.1.0 kept.1,
+            record { poll = way.poll; to = rw one.1.2 way.to; gained = rw one.1.3 way.gained },
+          ),
       λ some. record {
         middle = take_any some.0 (Some command) before;
         sold = sold_any some.0 (Some command) before;
@@ -294,89 +282,68 @@ module _ (unit : ReaderUnit) (setups : Setups) (profile : Profile) (so_far : Lis
         gained = some.2.gained;
       },
     ))
-      where
-        forth : AckWay unit so_far base command choice before after gains
-            → OfSome known before.holds (λ facts. AckStep facts command choice before after gains)
-        forth way =
-            let one = takes_from (Some command) before way.middle way.sold base.taken its_taken
-            way.takes in
-            let kept = a_list before.holds in (
-              keeping (record base { taken = one.0 }) kept.0,
-              guess_allowed before.holds base.asked one.0 kept.0 its_asked one.1.0 kept.1,
-              record {
-                poll = way.poll;
-                to = rw one.1.2 way.to;
-                gained = rw one.1.3 way.gained;
-              },
-            )
 
   -- a reply
   module _ (command : ReaderCommand) (reply : Reply) (choice : Choice)
       (before after : ReaderState) (gains : Gains) where
-    abbrev Way : Type 0
-    Way = ReplyWay unit so_far base command reply choice before after gains
-
-    abbrev Replies : Facts → Type 0
-    Replies facts = ReplyStep facts command reply choice before after gains
-
     abbrev kept : List ReaderActivity
     kept = kept_of (parts_of reply)
 
-    to_way : OfSome known before.holds Replies → Way
-    to_way some =
-        let facts = some.0 in
-        let may = some.1 in
-        let step = some.2 in
-        let middle = before_messages facts command reply choice before in
-        let is = held_to unit so_far (is_poll command) middle.holds facts.past.last_kept kept
-        step.news
-        (λ holds. some_kept before.holds facts.past.last_kept may.past.last_kept
-        (held_before facts command reply choice before holds))
-        (same_kept before.holds facts.past.last_kept may.past.last_kept) step.has_news.new in
-        record {
-          middle = middle;
-          sold = sold_any facts (taken command reply) (read choice before);
-          count = is.0;
-          last = facts.taken;
-          may_be_read = step.has_news.read;
-          takes = takes_to facts before.holds may (taken command reply) (read choice before);
-          held = is.1.0;
-          reset = rw (may.past.reset_owed ∙ same_owed) at step.has_news.reset;
-          known = taken_so facts.taken may.taken;
-          told = rw is.1.1 at step.told;
-          view = step.view;
-          holds = step.holds;
-          gained = (rw is.1.1 at step.gained)
-              ∙ ap (λ c. device_gains (in_slots (amounts (all_approved
-              (or_else (last_said config_in (messages_of reply)) c) (drop is.0 kept))
-              (sold_any facts (taken command reply) (read choice before))))) may.config;
-        }
-
-    from_way : Way → OfSome known before.holds Replies
-    from_way way =
-        let one = takes_from (taken command reply) (read choice before) way.middle way.sold
-        way.last (taken_allows way.last way.known) way.takes in
-        let list = held_from (is_poll command) way.middle.holds before.holds kept way.count
-        way.held in (
-          keeping (record base { taken = one.0 }) list.0,
-          guess_allowed before.holds base.asked one.0 list.0 its_asked one.1.0 list.1.0,
-          record {
-            news = drop way.count kept;
-            has_news = record {
-              read = way.may_be_read;
-              reset = way.reset;
-              new = rw one.1.2 list.1.1;
-            };
-            told = rw (one.1.1, one.1.2) way.told;
-            view = way.view;
-            holds = rw one.1.2 way.holds;
-            gained = rw one.1.3 way.gained;
-          },
-        )
-
     pub replied : (machine unit (Joined setups profile)).Step so_far
-        (Act.Reply (Command.Reader unit command) reply) choice before after gains ↔ Way
-    replied = as_found (rw (own_of_unit unit command) (from_way, to_way))
+        (Act.Reply (Command.Reader unit command) reply) choice before after gains
+        ↔ ReplyWay unit so_far base command reply choice before after gains
+    replied = as_found (rw (own_of_unit unit command) (
+      λ way.
+          let one = takes_from (taken command reply) (read choice before) way.middle way.sold
+          way.last (taken_allows way.last way.known) way.takes in
+          let list = held_from (is_poll command) way.middle.holds before.holds kept way.count
+          way.held in (
+            keeping (record base { taken = one.0 }) list.0,
+            guess_allowed before.holds base.asked one.0 list.0 its_asked one.1.0 list.1.0,
+            record {
+              news = drop way.count kept;
+              has_news = record {
+                read = way.may_be_read;
+                reset = way.reset;
+                new = rw one.1.2 list.1.1;
+              };
+              told = rw (one.1.1, one.1.2) way.told;
+              view = way.view;
+              holds = rw one.1.2 way.holds;
+              gained = rw one.1.3 way.gained;
+            },
+          ),
+      λ some.
+          let facts = some.0 in
+          let may = some.1 in
+          let step = some.2 in
+          let middle = before_messages facts command reply choice before in
+          let is = held_to unit so_far (is_poll command) middle.holds facts.past.last_kept kept
+          step.news
+          (λ holds. some_kept before.holds facts.past.last_kept may.past.last_kept
+          (held_before facts command reply choice before holds))
+          (λ told. kept_so setups profile before.holds (last_list (parts_by unit) so_far)
+          facts.past.last_kept may.past.last_kept (λ none. told ((none_kept unit so_far).1 none)))
+          step.has_news.new in
+          record {
+            middle = middle;
+            sold = sold_any facts (taken command reply) (read choice before);
+            count = is.0;
+            last = facts.taken;
+            may_be_read = step.has_news.read;
+            takes = takes_to facts before.holds may (taken command reply) (read choice before);
+            held = is.1.0;
+            reset = rw (may.past.reset_owed ∙ same_owed) at step.has_news.reset;
+            known = taken_so facts.taken may.taken;
+            told = rw is.1.1 at step.told;
+            view = step.view;
+            holds = step.holds;
+            gained = (rw is.1.1 at step.gained)
+                ∙ ap (λ c. device_gains (in_slots (amounts (all_approved
+                (or_else (last_said config_in (messages_of reply)) c) (drop is.0 kept))
+                (sold_any facts (taken command reply) (read choice before))))) may.config;
+          },
+    ))
 
   -- any other act leads where it does after the facts that were told
   settled_same : (act : Act) → IsSettled unit so_far act → (holds : Bool) (facts : Facts)

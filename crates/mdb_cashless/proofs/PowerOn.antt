@@ -42,25 +42,23 @@ module _ (unit : ReaderUnit) (profile : Profile) (so_far : List Act) where
   taken_known = known_is profile None (last_told (taken_told unit) so_far)
       ∙ ap Is (sym (last_taken_is unit so_far))
 
-  owed_known : known.past.reset_owed ≡ (facts_of unit so_far).past.reset_owed
-  owed_known = and-true (facts_of unit so_far).past.reset_owed
-
   kept_known : known.past.last_kept ≡ Is (facts_of unit so_far).past.last_kept
   kept_known = known_is profile [] (last_list (parts_by unit) so_far)
 
   pub power_on_known : (holds : Bool) (facts : Facts)
       → AllowsFacts known holds facts ↔ (facts ≡ facts_of unit so_far)
   power_on_known holds facts =
-      let config = or_none (last_told (config_by unit) so_far) in (
+      let config = or_none (last_told (config_by unit) so_far) in
+      let owed = and-true (facts_of unit so_far).past.reset_owed in (
         λ is. same_facts (is.config ∙ config) (rw asked_known at is.asked)
             (rw taken_known at is.taken) is.amount
-            (same_past (is.past.reset_owed ∙ owed_known) (rw kept_known at is.past.last_kept)),
+            (same_past (is.past.reset_owed ∙ owed) (rw kept_known at is.past.last_kept)),
         λ same. rw same (record {
           config = sym config;
           asked = rw asked_known refl;
           taken = rw taken_known refl;
           amount = refl;
-          past = record { reset_owed = sym owed_known; last_kept = rw kept_known refl };
+          past = record { reset_owed = sym owed; last_kept = rw kept_known refl };
         }),
       )
 

@@ -31,6 +31,7 @@ use mdb_msgs::{ReaderCommand, ReaderUnit, Reply};
 
 /// The step by an act that is settled, under a choice and from a state.
 #[inline(always)]
+#[tactic(auto, using(crate::proofs::Knowing::settled_only))]
 pub(crate) fn step_settled(
     unit: ReaderUnit,
     known: &ReaderKnown,
