@@ -1,5 +1,7 @@
 -- A replay blames no device that is left out, and tells nothing of one.
-use Rattle.mdb_explained_runs.proofs.Words.{ap, subst, sym, ◌∙◌, ◌≡◌, inl, inr, ℤ, ℕ, pos, ◌-ℤ◌, List, [], ◌∷◌, ◌++◌, ◌&&◌, Option, Some, All, All-from_recursion, Event, Device, Blame, Rule, Scope, ArePieces, Piece, Whole, acts_of, haste_of, is_excused, sender_of, acts_with, breaks_among, IsLeftOut, IsLinkFault, blame_on, IsFollowed, IsBreak, own_acts, Account, AccountName, Offence, Range, Report, account_device, account_of, account_slot, sums_of, HasNothingLeftOut, IsRange, no_account, no_range, IsAccount, device_report, device_report_of, AllSums, Run, Sums, no_sums, are_breaks, BreaksTellNothing, blamed_in, not_early, NamesFollowed, nothing_counted, listed, Mark, MarkedRun, IsReplayOffence, IsReplayReport}
+use Rattle.mdb_explained_runs.proofs.Words.{ap, sym, ◌∙◌, ◌≡◌, inl, inr, ℕ, List, [], ◌∷◌, ◌++◌, ◌&&◌, Option, Some, All, All-from_recursion, Event, Device, Blame, Rule, Scope, ArePieces, Piece, Whole, acts_of, haste_of, is_excused, sender_of, acts_with, breaks_among, IsLeftOut, IsLinkFault, blame_on, IsFollowed, IsBreak, own_acts, Offence, Report, account_device, account_slot, sums_of, HasNothingLeftOut, device_report, device_report_of, AllSums, Run, Sums, no_sums, are_breaks, BreaksTellNothing, blamed_in, not_early, NamesFollowed, nothing_counted, listed, Mark, MarkedRun, IsReplayOffence, IsReplayReport}
+use Rattle.mdb_follow.proofs.Ends.{account-none}
+use Rattle.mdb_follow.proofs.OneAnswer.{one-account}
 use Rattle.mdb_explained_runs.proofs.ReplayReports.{named_in_replay}
 
 -- no offence of a replay is blamed on a device that is left out
@@ -12,11 +14,9 @@ pub offends_followed : ((scope : Scope) → NamesFollowed scope)
     → IsReplayOffence scope rows marks row mark offence
     → offence.blame ≡ blame_on (Some device) → IsFollowed scope device
 offends_followed names faults scope rows marks row mark offence device is blamed = elim is.why [
-  | inl link ↦
-      faults scope link.pieces row offence.rule offence.blame device link.act_list.in_order
-      link.fault blamed
-  | inr machine ↦
-      names scope machine.act (machine.begun ++ row ∷ []) machine.earlier device
+  | inl link ↦ faults scope link.pieces row offence.rule offence.blame device
+      link.act_list.in_order link.fault blamed
+  | inr machine ↦ names scope machine.act (machine.begun ++ row ∷ []) machine.earlier device
       machine.act_list.in_order
       (blamed_in machine.act device
       (not_early (haste_of scope (Whole machine.act (machine.begun ++ row ∷ []) ∷ machine.earlier)
@@ -24,31 +24,6 @@ offends_followed names faults scope rows marks row mark offence device is blamed
       (record { rule = machine.own; blame = sender_of machine.act }) device
       (sym machine.blame ∙ blamed)))
 ]
-
--- What is told of a device that is left out.
-
--- a range of values that are all nothing
-range_of_none : (Kind : AllSums → Type 0) (value : AllSums → ℤ) (range : Range)
-    → ((sums : AllSums) → Kind sums → value sums ≡ pos 0) → IsRange Kind value range
-    → range ≡ no_range
-range_of_none Kind value range nothing is =
-    let least = sym is.least.2 ∙ nothing is.least.0 is.least.1 in
-    let greatest = sym is.greatest.2 ∙ nothing is.greatest.0 is.greatest.1 in
-    λ i. record { least = least i; greatest = greatest i }
-
-account_of_none : (Kind : AllSums → Type 0) (account : AccountName) (ranges : Account)
-    → ((sums : AllSums) → Kind sums → sums (account_device account) ≡ no_sums)
-    → IsAccount Kind (sums_of account) ranges → ranges ≡ no_account
-account_of_none Kind account ranges nothing is =
-    let none = λ (sums : AllSums) (its : Kind sums).
-    ap (λ (s : Sums). s (account_slot account)) (nothing sums its) in
-    let device = range_of_none Kind _ ranges.device
-    (λ sums its. ap (λ a. pos a.device) (none sums its)) is.device in
-    let controller = range_of_none Kind _ ranges.controller
-    (λ sums its. ap (λ a. pos a.controller) (none sums its)) is.controller in
-    let difference = range_of_none Kind _ ranges.difference
-    (λ sums its. ap (λ a. pos a.device -ℤ pos a.controller) (none sums its)) is.difference in
-    λ i. record { device = device i; controller = controller i; difference = difference i }
 
 -- what the laws say that this needs
 pub record LeftOutLaws : Type 0 where
@@ -66,26 +41,23 @@ pub nothing_in_replay : LeftOutLaws → (scope : Scope) (rows : List Event)
 nothing_in_replay laws scope rows marks report is =
     let alone : (device : Device) → IsLeftOut scope device
     → All IsBreak (own_acts device (acts_of is.pieces)) = λ device left.
-    subst (All IsBreak) (sym (laws.alone scope is.pieces device is.act_list.in_order left))
-    (All-from_recursion IsBreak (breaks_among (acts_of is.pieces))
-    (are_breaks (acts_of is.pieces))) in
+    rw (laws.alone scope is.pieces device is.act_list.in_order left)
+    (All-from_recursion IsBreak _ (are_breaks (acts_of is.pieces))) in
     let told : (device : Device)
     → device_report device report ≡ device_report_of scope.begins device is.pieces = λ device.
     ap (device_report device) is.telling
     ∙ listed (λ d. device_report_of scope.begins d is.pieces) _ device in
     record {
-      accounts = λ account left.
-          account_of_none (MarkedRun scope rows marks) account (account_of account report)
-          (λ sums marked. laws.adds scope rows sums marked.run (account_device account) left)
-          (named_in_replay scope rows marks report is account);
-      decimals = λ device left none.
-          ap (λ r. r.facts.decimals) (told device)
-          ∙ laws.facts.decimals scope.begins device (acts_of is.pieces) (alone device left) none;
-      asks = λ device left.
-          ap (λ r. r.asks) (told device)
+      accounts = λ account left. one-account (MarkedRun scope rows marks) (sums_of account) _ _
+          (named_in_replay scope rows marks report is account)
+          (account-none (MarkedRun scope rows marks) (sums_of account) is.sums is.reached
+          (λ sums marked. ap (λ (s : Sums). s (account_slot account))
+          (laws.adds scope rows sums marked.run (account_device account) left)));
+      decimals = λ device left none. ap (λ r. r.facts.decimals) (told device)
+          ∙ laws.facts.decimals scope.begins device _ (alone device left) none;
+      asks = λ device left. ap (λ r. r.asks) (told device)
           ∙ nothing_counted scope.begins scope (laws.names scope) device left is.pieces
           is.act_list.in_order;
-      unvalued = λ device left.
-          ap (λ r. r.facts.unvalued) (told device)
-          ∙ laws.facts.unvalued scope.begins device (acts_of is.pieces) (alone device left);
+      unvalued = λ device left. ap (λ r. r.facts.unvalued) (told device)
+          ∙ laws.facts.unvalued scope.begins device _ (alone device left);
     }
