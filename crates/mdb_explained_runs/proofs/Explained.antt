@@ -1,10 +1,11 @@
 -- The best marks of each device towards a goal, as one list: they explain it.
-use Rattle.mdb_explained_runs.proofs.Words.{arith, refl, sym, ap, ◌∙◌, ◌≡◌, ℕ, ◌+◌, ◌≤◌, inl, inr, [], List, length, Event, Device, IsActList, Piece, acts_of, profile_of, PowerOn, Profile, Scope, Seeker, Goal, Mark, account_device, Choices, device_place, Explains, machine_of, marks_of, own_marks, from_power_on, AllSums, States, AreAllPaths, AreBestMarks, IsMergeOf, IsOfBoth, IsSeeker, below, earlier, same_or_not, follows_as, merged, merged_agrees, OneActList, is_machine_of, AreBestBelow, ℤ, ◌≤ℤ◌, ints, false_from_ne_true, same_device, Bound, Least, Greatest, IsAsFar, goal_value, weight_for, towards, weigh, is_one, itself}
+use Rattle.mdb_explained_runs.proofs.Words.{arith, refl, sym, ap, ◌∙◌, ◌≡◌, ℕ, ◌+◌, ◌≤◌, inl, inr, [], List, length, Event, Device, IsActList, Piece, acts_of, profile_of, PowerOn, Profile, Scope, Seeker, Goal, Mark, account_device, Choices, device_place, Explains, machine_of, marks_of, own_marks, from_power_on, AllSums, States, AreAllPaths, AreBestMarks, IsMergeOf, IsOfBoth, IsSeeker, below, earlier, same_or_not, follows_as, merged, merged_agrees, OneActList, is_machine_of, AreBestBelow, ℤ, ◌≤ℤ◌, ints, false_from_ne_true, same_device, Bound, Least, Greatest, IsAsFar, goal_value, weight_for, towards, weigh, is_one, itself, HasWay, IsReached}
 use Rattle.mdb_msgs.specs.declared.device_set.DeviceSet.{DeviceSet}
 use Rattle.mdb_bus.specs.Bus as link
 use Rattle.mdb_explained_runs.proofs.MarkedRuns.{JoinWithChoices, marked-run, marks_rise, rising_one, ways-of}
 use Rattle.mdb_explained_runs.proofs.Merging.{all_merged, anothers, its_own, merged_more, merged_enough, merged_none, with_own}
 use Rattle.mdb_explained_runs.proofs.OwnMarks.{PartsAreTold, all_together, in_own, own_apart, own_in, own_of_merged, own_rise, together_most}
+use Rattle.mdb_explained_runs.proofs.Seeking.{has-way}
 
 -- what the sums of the goal's device count is the goal's value, towards its end
 goal-weighed : (goal : Goal) (sums : AllSums)
@@ -151,17 +152,18 @@ module _ {profile : Profile} {goal : Goal} {pieces : List Piece} {count : ℕ}
   }
 
 module _ {goal : Goal} {events : List Event} {seeker : Seeker}
-    (on : IsSeeker goal events seeker) where
+    (on : IsSeeker goal events seeker) (profile : Profile) (without : DeviceSet)
+    (same : link.scope_of seeker.bus ≡ from_power_on profile without) where
   -- the pieces of a seeker are the act list of its rows
-  pub list-of-seeker : {scope : Scope} → link.scope_of seeker.bus ≡ scope
-      → IsActList scope on.pieces events
-  list-of-seeker same = record { in_order = rw same at on.on_bus.in_order; whole = on.whole }
+  pub list-of-seeker : IsActList (from_power_on profile without) on.pieces events
+  list-of-seeker = record { in_order = rw same at on.on_bus.in_order; whole = on.whole }
 
-  -- and its paths are those by the profile of the scope
-  pub paths-of-seeker : (profile : Profile) (without : DeviceSet)
-      → link.scope_of seeker.bus ≡ from_power_on profile without
+  -- its paths are those by the profile of the scope, and where its rows are reached there are some
+  pub ways-of-seeker : OneActList (from_power_on profile without)
+      → IsReached (from_power_on profile without) events
       → AreAllPaths profile goal on.pieces seeker.all
-  paths-of-seeker profile without same =
+      × ((device : Device) → HasWay profile on.pieces device)
+  ways-of-seeker one reached =
       let by : on.profile ≡ profile =
       ap profile_of (sym on.begins ∙ ap (λ (s : Scope). s.begins) same) in
-      rw by at on.paths
+      (rw by at on.paths, has-way profile refl one list-of-seeker reached)
