@@ -1,10 +1,8 @@
 -- The last mark of a run that stands at its last row: the act that this row ends is one on which it
 -- may stand.
-use Rattle.mdb_explained_runs.proofs.Words.{arith, sym, ap, ◌∙◌, ◌≡◌, ℕ, List, [], ◌∷◌, ◌++◌, All, length, length-append, Some, same_from_push, ReaderCommand, ReaderUnit, Reply, Act, Beginning, Profile, Scope, profile_of, ArePieces, Piece, Whole, acts_of, events_of, piece_events, Choice, CanStand, MayBeRead, StateByProfile, Mark, AllFollow, Choices, Follows, choice_by, marks_at, marks_of, MayStandOnNewest, AllSums, States, Sums, All-nil, base_state, by_profile, extended_state, machine_in, MayStandOn, append-nil}
+use Rattle.mdb_explained_runs.proofs.Words.{arith, sym, ap, ◌∙◌, ◌≡◌, ℕ, List, [], ◌∷◌, ◌++◌, All, length, length-append, Some, same_from_push, ReaderCommand, ReaderUnit, Reply, Act, Beginning, Profile, Scope, profile_of, ArePieces, Piece, Whole, acts_of, events_of, piece_events, Choice, CanStand, MayBeRead, StateByProfile, Mark, AllFollow, Choices, Follows, choice_by, marks_at, marks_of, MayStandOnNewest, AllSums, States, Sums, All-nil, base_state, by_profile, extended_state, machine_in, MayStandOn, append-nil, Bill, Changer, Reader, Base, Extended}
 use Rattle.mdb_msgs.specs.declared.command.Command.TheVariants as commands
-use Rattle.mdb_msgs.specs.declared.command.Device.TheVariants as devices
 use Rattle.mdb_bus.specs.declared.act.Act.TheVariants as acts
-use Rattle.mdb_bus.specs.declared.scope.Profile.TheVariants.{Base, Extended}
 use Rattle.mdb_machine.specs.declared.choice.Choice.TheVariants as choices
 use Rattle.mdb_cashless.specs.declared.by_profile.state.StateByProfile.TheVariants as variants
 use Rattle.mdb_cashless.specs.ExtendedReader as extended
@@ -73,11 +71,11 @@ module _ (begins : Beginning) (so_far : List Act) where
   may-stand (acts.Ack command) chosen states sums marks.Lost is can ways = tt
   may-stand (acts.VmcAck command reply) chosen states sums marks.Lost is can ways = tt
   may-stand (acts.Reply (commands.Changer c) reply) chosen states sums marks.Restart is can ways =
-      rw is at (ways devices.Changer).step.step.has_news.read
+      rw is at (ways Changer).step.step.has_news.read
   may-stand (acts.Reply (commands.Bill c) reply) chosen states sums marks.Restart is can ways =
-      rw is at (ways devices.Bill).step.step.has_news.read
+      rw is at (ways Bill).step.step.has_news.read
   may-stand (acts.Reply (commands.Reader unit c) reply) chosen states sums mark is can ways =
-      let device = devices.Reader unit in
+      let device = Reader unit in
       reader-stands (profile_of begins) mark unit c reply can
       (rw is at (reads (profile_of begins) unit c reply chosen (states device) (sums device)
       (ways device)))

@@ -1,10 +1,11 @@
 -- Fronts of rows that have a run with given marks: each has one with the marks there.
-use Rattle.mdb_explained_runs.proofs.Words.{IsActList, Piece, Whole, acts_of, events_of, piece_events, IsTail, Beginning, Scope, choices_in, marks_at, marks_of, HasMarkedRun, SplitAt, Mark, split_with_choices, AllFollow, Choices, AllSums, States, Event, All, List, [], ap, append_assoc, arith, inl, inr, length, length-append, subst, sym, ℕ, ◌++◌, ◌+◌, ◌<◌, ◌∙◌, ◌∷◌, ◌≡◌, ◌≤◌, ◌⊎◌, append-nil, All-append, All-nil}
+use Rattle.mdb_explained_runs.proofs.Words.{IsActList, Piece, Whole, acts_of, events_of, IsTail, Beginning, Scope, choices_in, marks_at, marks_of, HasMarkedRun, SplitAt, Mark, split_with_choices, AllFollow, Choices, AllSums, States, Event, All, List, [], ap, append_assoc, arith, length, length-append, subst, sym, ℕ, ◌++◌, ◌+◌, ◌<◌, ◌∙◌, ◌∷◌, ◌≡◌, ◌≤◌, ◌↔◌, append-nil, All-append, All-nil}
 use Rattle.mdb_bus.specs.shared.Grammar.{OpenIsAFront}
 use Rattle.mdb_bus.proofs.Backward.{backward}
 use Rattle.mdb_bus.proofs.Forward.{forward}
 use Rattle.mdb_bus.proofs.Lists.{not_empty}
 use Rattle.mdb_explained_runs.proofs.MarkedRuns.{IsAt, JoinWithChoices, all_within, at_row, marked-run}
+use Rattle.mdb_explained_runs.proofs.Replaying.{before-newest}
 
 -- Ways through pieces without the last row, and the marks: those of the ways, and then some at that
 -- row.
@@ -18,13 +19,13 @@ record Kept (begins : Beginning) (number : ℕ) (marks : List (ℕ × Mark)) (be
   are : marks ≡ marks_of before chosen ++ back
   at : All (IsAt number) back
 
-module _ (begins : Beginning) (number : ℕ) (rest : List Piece) where
+module _ (begins : Beginning) (number : ℕ) where
   -- without the newest piece
-  kept_rest : (newest : Piece) → length (events_of (newest ∷ rest)) ≡ number
+  kept_rest : (rest : List Piece) (newest : Piece) → length (events_of (newest ∷ rest)) ≡ number
       → (chosen : Choices (acts_of (newest ∷ rest))) (states : States) (sums : AllSums)
       → AllFollow begins (acts_of (newest ∷ rest)) chosen states sums
       → Kept begins number (marks_of (newest ∷ rest) chosen) rest
-  kept_rest (Whole act events) count chosen states sums ways = record {
+  kept_rest rest (Whole act events) count chosen states sums ways = record {
     chosen = chosen.before;
     states = λ device. (ways device).before;
     sums = λ device. (ways device).sums_before;
@@ -33,7 +34,7 @@ module _ (begins : Beginning) (number : ℕ) (rest : List Piece) where
     are = rw count;
     at = at_row number chosen.choice;
   }
-  kept_rest tail count chosen states sums ways = record {
+  kept_rest rest tail count chosen states sums ways = record {
     chosen = chosen;
     states = states;
     sums = sums;
@@ -44,18 +45,10 @@ module _ (begins : Beginning) (number : ℕ) (rest : List Piece) where
   }
 
   -- a tail adds nothing
-  kept_tail : {marks : List (ℕ × Mark)} (tail : Piece) → IsTail tail
-      → Kept begins number marks rest → Kept begins number marks (tail ∷ rest)
-  kept_tail (Whole act events) is kept = absurd is
-  kept_tail tail is kept = search kept
-
-  -- so they are ways through what the last row goes on from: these pieces, or a tail after them
-  kept_from : {marks : List (ℕ × Mark)} {before : List Piece} {begun : List Event}
-      → ((begun ≡ []) × (before ≡ rest))
-      ⊎ ((tail : Piece) × IsTail tail × (piece_events tail ≡ begun) × (before ≡ tail ∷ rest))
-      → Kept begins number marks rest → Kept begins number marks before
-  kept_from (inl (none, same)) kept = rw same kept
-  kept_from (inr (tail, is, events, same)) kept = rw same (kept_tail tail is kept)
+  kept_tail : {marks : List (ℕ × Mark)} (tail : Piece) (rest : List Piece) → IsTail tail
+      → Kept begins number marks rest ↔ Kept begins number marks (tail ∷ rest)
+  kept_tail (Whole act events) rest is = absurd is
+  kept_tail tail rest is = (λ kept. search kept, λ kept. search kept)
 
 -- what the laws of runs and of the bus say
 pub record FrontLaws (scope : Scope) : Type 0 where
@@ -85,7 +78,8 @@ module _ (scope : Scope) (laws : FrontLaws scope) where
       let same : newest ∷ rest ≡ grown.newest ∷ grown.earlier = back.is ∙ grown.are in
       let its : rest ≡ grown.earlier = cc same in
       let marks = marks_of (newest ∷ rest) chosen in
-      let kept = kept_from scope.begins (length rows + 1) grown.earlier grown.from
+      let kept = (before-newest (Kept scope.begins (length rows + 1) marks)
+      (kept_tail scope.begins (length rows + 1)) grown).0
       (subst (Kept scope.begins (length rows + 1) marks) its
       (kept_rest scope.begins (length rows + 1) rest newest
       (ap length list.whole ∙ length-append rows (row ∷ [])) chosen states sums ways)) in

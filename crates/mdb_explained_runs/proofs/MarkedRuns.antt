@@ -29,8 +29,7 @@ module _ (scope : Scope) where
       let within = all_within pieces chosen.before are.2 in
       All-append (StandsWithin row) (marks_of pieces chosen.before) (marks_at row chosen.choice)
       (λ k d inside. let is = within k d inside in omega (arith, is, rows))
-      (λ k d inside.
-      let is = at_row row chosen.choice k d inside in omega (arith, is, rows, some))
+      (λ k d inside. omega (arith, at_row row chosen.choice k d inside, rows, some))
   all_within (tail ∷ pieces) chosen are =
       let rows = length-append (events_of pieces) (piece_events tail) in
       λ k d inside.
@@ -93,8 +92,7 @@ pub at-mark : (row : ℕ) (mark : Option Mark) (so_far : List (ℕ × Mark))
     → so_far ++ marks_at row (choice_by mark) ≡ with_mark row mark so_far
 at-mark row None so_far = append-nil so_far
 at-mark row (Some marks.Lost) so_far = refl
-at-mark row (Some marks.Restart) so_far = refl
-at-mark row (Some marks.Again) so_far = refl
+at-mark row mark so_far = refl
 
 -- a mark at a row is none of those before it
 pub none_at : (row : ℕ) (mark : Mark) (so_far others : List (ℕ × Mark)) → All (IsBefore row) so_far

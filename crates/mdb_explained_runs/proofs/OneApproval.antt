@@ -1,6 +1,5 @@
 -- A reader by the extended profile has one step at most from power-on, by an act under a choice.
 use Rattle.mdb_explained_runs.proofs.Words.{arith, rules, ◌≡◌, ℕ, false, List, sym, ◌∙◌, ReaderCommand, ReaderUnit, Reply, Act, PowerOn, Profile, Choice, own}
-use Rattle.mdb_msgs.specs.declared.command.ReaderCommand.TheVariants as readers
 use Rattle.mdb_bus.specs.declared.act.Act.TheVariants as acts
 use Rattle.mdb_machine.specs.Known.{Is}
 use Rattle.mdb_cashless.specs.declared.approvals.sale.Sale.{Sale}

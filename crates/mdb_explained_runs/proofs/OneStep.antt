@@ -1,9 +1,6 @@
 -- From power-on a machine has one step at most by an act under a choice, from a state: so it has
 -- one way through acts with given choices.
-use Rattle.mdb_explained_runs.proofs.Words.{arith, rules, sym, ap, refl, ◌∙◌, ◌≡◌, ◌↔◌, Bool, true, false, List, [], ◌∷◌, Option, Some, IsSomeAnd, append_cancel_left, Device, ReaderCommand, ReaderUnit, Reply, Act, PowerOn, Profile, Choice, Gains, Stays, IsNew, Machine, StateByProfile, own, Choices, Follows, machine_of, Sums, StepOf, base_state, extended_state, machine_in, strayed}
-use Rattle.mdb_msgs.specs.declared.command.ChangerCommand.TheVariants as changer_commands
-use Rattle.mdb_msgs.specs.declared.command.BillCommand.TheVariants as bill_commands
-use Rattle.mdb_msgs.specs.declared.command.Device.TheVariants as devices
+use Rattle.mdb_explained_runs.proofs.Words.{arith, rules, sym, ap, refl, ◌∙◌, ◌≡◌, ◌↔◌, Bool, true, false, List, [], ◌∷◌, Option, Some, IsSomeAnd, append_cancel_left, Device, ReaderCommand, ReaderUnit, Reply, Act, PowerOn, Profile, Choice, Gains, Stays, IsNew, Machine, StateByProfile, own, Choices, Follows, machine_of, Sums, StepOf, base_state, extended_state, machine_in, strayed, Bill, Changer, Reader}
 use Rattle.mdb_bus.specs.declared.act.Act.TheVariants as acts
 use Rattle.mdb_bus.specs.declared.scope.Profile.TheVariants as profiles
 use Rattle.mdb_cash.specs.declared.bill.activity.BillActivity.{BillActivity}
@@ -233,19 +230,19 @@ reader_is_one known profiles.Extended unit =
 
 pub machine_is_one : AllIsKnown → (profile : Profile) (device : Device)
     → IsOneMachine (machine_of (PowerOn profile) device)
-machine_is_one known profile devices.Changer = record {
+machine_is_one known profile Changer = record {
   starts = λ one other p q. p ∙ sym q;
   steps = one_after (λ profile. changer.machine (PowerOn profile))
       changer_values.facts_of changer_values.ChangerStep known.changer
       (keeper_one changer_facts.tables changer.conduct changer_is_one) profile;
 }
-machine_is_one known profile devices.Bill = record {
+machine_is_one known profile Bill = record {
   starts = λ one other p q. p ∙ sym q;
   steps = one_after (λ profile. bill.machine (PowerOn profile))
       bill_values.facts_of bill_values.BillStep known.bill
       (keeper_one bill_facts.tables bill.conduct bill_is_one) profile;
 }
-machine_is_one known profile (devices.Reader unit) = reader_is_one known profile unit
+machine_is_one known profile (Reader unit) = reader_is_one known profile unit
 
 -- so it has one way with given choices
 module _ {State : Type 0} (machine : Machine State) (is : IsOneMachine machine) where

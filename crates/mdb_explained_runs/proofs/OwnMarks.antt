@@ -1,6 +1,5 @@
 -- The marks of a run by devices: each is of one device.
-use Rattle.mdb_explained_runs.proofs.Words.{is_one, itself, arith, refl, sym, ap, ◌∙◌, ◌≡◌, ◌↔◌, ◌⊎◌, inl, inr, ℕ, ◌+◌, ◌<◌, ◌≤◌, Bool, true, false, if◌then◌else◌, List, [], ◌∷◌, ◌++◌, get_or, length, length-append, All, Contains, All-contains, Contains-get_or, Contains-append_left, Event, device_of, same_device, Device, First, Second, Act, Scope, ArePieces, Piece, Whole, acts_of, events_of, has_part, Choice, Plain, Lost, Again, CanStand, IsActOf, Mark, Choices, Rise, marks_at, marks_of, own_marks, AgreeFor, merged, merged_agrees, contains-none, append-nil, Contains-append_cases, Contains-append_right}
-use Rattle.mdb_msgs.specs.declared.command.Device.TheVariants as devices
+use Rattle.mdb_explained_runs.proofs.Words.{is_one, itself, arith, refl, sym, ap, ◌∙◌, ◌≡◌, ◌↔◌, ◌⊎◌, inl, inr, ℕ, ◌+◌, ◌<◌, ◌≤◌, Bool, true, false, if◌then◌else◌, List, [], ◌∷◌, ◌++◌, get_or, length, length-append, All, Contains, All-contains, Contains-get_or, Contains-append_left, Event, device_of, same_device, Device, First, Second, Act, Scope, ArePieces, Piece, Whole, acts_of, events_of, has_part, Choice, Plain, Lost, Again, CanStand, IsActOf, Mark, Choices, Rise, marks_at, marks_of, own_marks, AgreeFor, merged, merged_agrees, contains-none, append-nil, Contains-append_cases, Contains-append_right, Bill, Changer, Reader}
 use Rattle.mdb_bus.specs.declared.act.Act.TheVariants as kinds
 use Rattle.mdb_explained_runs.proofs.MarkedRuns.{IsAt, IsBefore, all_before, at_row, rise-more}
 
@@ -37,8 +36,8 @@ act_of_one _ _ stands = absurd stands
 -- how many marks the devices have together of these, each where it has them
 abbrev pub together : (Device → List (ℕ × Mark)) → ℕ
 together own =
-    length (own devices.Changer) + length (own devices.Bill) + length (own (devices.Reader First))
-    + length (own (devices.Reader Second))
+    length (own Changer) + length (own Bill) + length (own (Reader First))
+    + length (own (Reader Second))
 
 -- no more, where none has more
 pub together_most : (one other : Device → List (ℕ × Mark))
@@ -49,10 +48,8 @@ together_most one other most = omega arith
 -- what is of one device is counted once
 of_one : (device : Device) (here : List (ℕ × Mark))
     → length here ≡ together (λ other. kept_if (same_device other device) here)
-of_one devices.Changer here = omega arith
-of_one devices.Bill here = omega arith
-of_one (devices.Reader First) here = omega arith
-of_one (devices.Reader Second) here = omega arith
+of_one (Reader First) here = omega arith
+of_one device here = omega arith
 
 -- nothing is counted as nothing
 kept_none : (has : Bool) → length (kept_if has []) ≡ 0

@@ -63,13 +63,11 @@ module _ {State : Type 0} {number : ℕ} {code_of : State → ℕ} {machine : Ma
   pub start-within : AreEntriesWithin number 0 links entries
   start-within k d within =
       let one = are.sound (get_or entries k d) (Contains-get_or entries k d within) in
-      let value = ap (λ b. b.value) one.4 in
-      let marks = ap (λ b. b.marks) one.4 in
       record {
         code = one.3;
-        low = omega (arith, ints);
-        high = omega (arith, ints);
-        marks = omega arith;
+        low = omega (arith, ints, ap (λ b. b.value) one.4);
+        high = omega (arith, ints, ap (λ b. b.value) one.4);
+        marks = omega (arith, ap (λ b. b.marks) one.4);
         chain = ([], rw one.4 nothing);
       }
 

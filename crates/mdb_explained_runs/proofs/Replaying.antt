@@ -1,14 +1,11 @@
 -- What a replay that stands for events and marks goes on to, and what it answers.
-use Rattle.mdb_explained_runs.proofs.Words.{refl, sym, ap, subst, ◌∙◌, ◌≡◌, inl, inr, ℕ, ◌+◌, List, [], ◌∷◌, ◌++◌, ◌↔◌, length, length-append, Option, Some, None, Event, Device, First, Second, Act, Bus, LinkFault, PowerOn, Profile, Scope, profile_of, IsActList, Piece, Whole, acts_of, events_of, IsTail, GoesOn, Grown, IsLinkFault, Choice, CanStand, Mark, Offence, ReplayFault, Report, Tracks, account_by, AllFollow, Choices, MarkedRun, choice_by, marks_of, with_mark, machine_of, IsMarkFault, IsReplayFault, IsReplayOffence, MayStandAt, MayStandOnNewest, IsReplayReport, report_of, AllSums, HasNoStepFrom, track_in, OneActList, whole-piece, AreFew, times_of, HasActList, act_in, StandsFor, AreTracks, chosen_more, TracksLead, accounts-of-cells, cell-of-runs, list-on}
-use Rattle.mdb_msgs.specs.declared.command.Device.TheVariants as devices
+use Rattle.mdb_explained_runs.proofs.Words.{refl, sym, ap, subst, ◌∙◌, ◌≡◌, inl, inr, ℕ, ◌+◌, List, [], ◌∷◌, ◌++◌, ◌↔◌, length, length-append, Option, Some, None, Event, Device, First, Second, Act, Bus, LinkFault, PowerOn, Profile, Scope, profile_of, IsActList, Piece, Whole, acts_of, events_of, IsTail, GoesOn, Grown, IsLinkFault, Choice, CanStand, Mark, Offence, ReplayFault, Report, Tracks, account_by, AllFollow, Choices, MarkedRun, choice_by, marks_of, with_mark, machine_of, IsMarkFault, IsReplayFault, IsReplayOffence, MayStandAt, MayStandOnNewest, IsReplayReport, report_of, AllSums, HasNoStepFrom, track_in, OneActList, whole-piece, AreFew, times_of, HasActList, act_in, StandsFor, AreTracks, chosen_more, TracksLead, accounts-of-cells, cell-of-runs, list-on, Reader, scope_of, Extended}
 use Rattle.mdb_bus.specs.declared.act.Act.TheVariants as acts
-use Rattle.mdb_bus.specs.declared.scope.Profile.TheVariants.{Extended}
 use Rattle.mdb_bus.specs.Bus as link
 use Rattle.mdb_bus.specs.declared.untimely.Untimely.{Untimely}
 use Rattle.mdb_follow.specs.declared.cell.Cell.{Cell}
 use Rattle.mdb_explained_runs.specs.declared.mark.Mark.TheVariants as mark_kinds
 use Rattle.mdb_explained_runs.specs.declared.replay.Replay.{Replay}
-use Rattle.mdb_explained_runs.specs.Replays.{scope_of}
 use Rattle.mdb_follow.specs.Silences.{asks_of}
 use Rattle.mdb_follow.specs.SilencesKept.{AllStandForAsks}
 use Rattle.mdb_explained_runs.specs.inner.ReplaySteps.{HasReplayed, HasStopped}
@@ -28,18 +25,20 @@ record Known (profile : Profile) (tracks : Tracks) (marks : List (ℕ × Mark))
 module _ (P : List Piece → Type 0)
     (tails : (tail : Piece) (rest : List Piece) → IsTail tail → P rest ↔ P (tail ∷ rest))
     {pieces longer : List Piece} {row : Event} where
-  -- is so of the pieces before the newest of those that went on
-  pub before-newest : {act : Option Act} (grown : Grown pieces row act longer) → P pieces
-      → P grown.earlier
-  before-newest grown had = elim grown.from [
-    | inl alone ↦ rw alone.1 at had
-    | inr more ↦ (tails more.0 grown.earlier more.1).1 (rw more.3 at had)
+  -- is so of pieces that went on where it is so of those before the newest
+  pub before-newest : {act : Option Act} (grown : Grown pieces row act longer)
+      → P grown.earlier ↔ P pieces
+  before-newest grown = elim grown.from [
+    | inl alone ↦ (λ had. rw alone.1 had, λ had. rw alone.1 at had)
+    | inr more ↦
+        let same = tails more.0 grown.earlier more.1 in
+        (λ had. rw more.3 (same.0 had), λ had. same.1 (rw more.3 at had))
   ]
 
   -- and of all of them, where no act ended
   pub after-none : Grown pieces row None longer → P pieces → P longer
   after-none grown had = rw grown.are ((tails grown.newest grown.earlier
-      (no-act grown.newest grown.ends)).0 (before-newest grown had))
+      (no-act grown.newest grown.ends)).0 ((before-newest grown).1 had))
 
 -- a tail adds nothing to what is known
 tail-known : {profile : Profile} {tracks : Tracks} {marks : List (ℕ × Mark)} (tail : Piece)
@@ -72,7 +71,7 @@ more-known : {profile : Profile} {old new : Tracks} {marks : List (ℕ × Mark)}
     → CanStand act (choice_by mark) → TracksLead old act (choice_by mark) new
     → Known profile old marks pieces → Known profile new (with_mark number mark marks) longer
 more-known {profile} {old} {marks = marks} {row = row} {act = act} mark grown rows can led known =
-    let earlier = before-newest (Known profile old marks) tail-known grown known in
+    let earlier = (before-newest (Known profile old marks) tail-known grown).1 known in
     let are = newest-whole grown in
     rw are (record {
       chosen = chosen_more act (acts_of grown.earlier) (choice_by mark) can earlier.chosen;
@@ -165,7 +164,7 @@ stands-on {old} {new = new} {events} {row = row} {act} mark on goes scope tracks
     (more-known mark goes.grown count can led (known-of on))
     (λ device. rw (asks-go-on (PowerOn on.profile) device on.pieces row act goes.longer
     new.tracks.first_reader.facts new.tracks.second_reader.facts goes.grown
-    (stand (devices.Reader First)).facts (stand (devices.Reader Second)).facts)
+    (stand (Reader First)).facts (stand (Reader Second)).facts)
     at ((has.silences device).stands (asks_of (PowerOn on.profile) device on.pieces)
     (rw silences (on.silences device))))
 
@@ -234,7 +233,7 @@ module _ (joins : JoinWithChoices) (one : (scope : Scope) → OneActList scope) 
       let choice = choice_by mark in
       let has = rw same_choice at had in
       let grown = goes.grown in
-      let earlier = before-newest (Known on.profile old.tracks marks) tail-known grown
+      let earlier = (before-newest (Known on.profile old.tracks marks) tail-known grown).1
       (known-of on) in
       let more : Choices (act ∷ acts_of grown.earlier) =
       chosen_more act (acts_of grown.earlier) choice can earlier.chosen in

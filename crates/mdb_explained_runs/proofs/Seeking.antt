@@ -32,8 +32,8 @@ module _ (profile : Profile) (goal : Goal) (all : AllPaths) {pieces longer : Lis
   -- the paths are those through the pieces that come before the newest of those that have gone on
   earlier-paths : {act : Option Act} (grown : Grown pieces row act longer)
       → AreAllPaths profile goal pieces all → AreAllPaths profile goal grown.earlier all
-  earlier-paths = before-newest (λ ps. AreAllPaths profile goal ps all)
-      (tail-paths profile goal all)
+  earlier-paths grown = (before-newest (λ ps. AreAllPaths profile goal ps all)
+      (tail-paths profile goal all) grown).1
 
   -- where no act ended
   pub still-paths : Grown pieces row None longer → AreAllPaths profile goal pieces all

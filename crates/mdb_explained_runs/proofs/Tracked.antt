@@ -1,7 +1,6 @@
 -- Tracks go on by the only step of their machine: that of one device, those of all, and those that
 -- have no part in an act.
-use Rattle.mdb_explained_runs.proofs.Words.{arith, refl, sym, ap, ◌∙◌, ◌≡◌, ◌≤◌, ◌+◌, ◌*◌, ◌^◌, ℕ, List, ◌∷◌, Some, ◌<◌, get_or, inl, inr, Ok, Err, Result, IfErr, IfOk, OnErr, Device, Act, Rule, PowerOn, Profile, Choice, Gains, no_gains, IsSmall, Machine, IsActOf, IsOnlyStep, Tracks, moved_cell, added, DEVICES, Choices, machine_of, rule_of, HasNoStepFrom, IsTrackOf, TrackOf, track_in, Front, front-next, same_or_not, is_machine_of, unmoved, untold, AreTracksWithin, IsTrackWithin, Leads, LeadsOf, OneLeads, TrackStops, TracksLead, TracksStop}
-use Rattle.mdb_bus.specs.declared.scope.Profile.TheVariants.{Base}
+use Rattle.mdb_explained_runs.proofs.Words.{arith, refl, sym, ap, ◌∙◌, ◌≡◌, ◌≤◌, ◌+◌, ◌*◌, ◌^◌, ℕ, List, ◌∷◌, Some, ◌<◌, get_or, inl, inr, Ok, Err, Result, IfErr, IfOk, OnErr, Device, Act, Rule, PowerOn, Profile, Choice, Gains, no_gains, IsSmall, Machine, IsActOf, IsOnlyStep, Tracks, moved_cell, added, DEVICES, Choices, machine_of, rule_of, HasNoStepFrom, IsTrackOf, TrackOf, track_in, Front, front-next, same_or_not, is_machine_of, unmoved, untold, AreTracksWithin, IsTrackWithin, Leads, LeadsOf, OneLeads, TrackStops, TracksLead, TracksStop, Base}
 use Rattle.mdb_explained_runs.specs.declared.track.Track.{Track}
 use Rattle.mdb_follow.proofs.Ways.{no-gains}
 use Rattle.mdb_follow.proofs.Ends.{Moved, cell-moved, cell-moved-within, cell-same, cell-within-weaker}

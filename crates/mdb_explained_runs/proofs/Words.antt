@@ -14,6 +14,7 @@ pub use Rattle.mdb_words.specs.declared.event.Event.{Event}
 pub use Rattle.mdb_msgs.specs.Commands.{device_of}
 pub use Rattle.mdb_msgs.specs.Devices.{same_device}
 pub use Rattle.mdb_msgs.specs.declared.command.Device.{Device}
+pub use Rattle.mdb_msgs.specs.declared.command.Device.TheVariants.{Bill, Changer, Reader}
 pub use Rattle.mdb_msgs.specs.declared.command.ReaderCommand.{ReaderCommand}
 pub use Rattle.mdb_msgs.specs.declared.command.ReaderUnit.{ReaderUnit}
 pub use Rattle.mdb_msgs.specs.declared.command.ReaderUnit.TheVariants.{First, Second}
@@ -34,6 +35,7 @@ pub use Rattle.mdb_bus.specs.declared.fault.Rule.{Rule}
 pub use Rattle.mdb_bus.specs.declared.scope.Beginning.{Beginning}
 pub use Rattle.mdb_bus.specs.declared.scope.Beginning.TheVariants.{PowerOn}
 pub use Rattle.mdb_bus.specs.declared.scope.Profile.{Profile}
+pub use Rattle.mdb_bus.specs.declared.scope.Profile.TheVariants.{Base, Extended}
 pub use Rattle.mdb_bus.specs.declared.scope.Scope.{Scope}
 pub use Rattle.mdb_machine.specs.Choices.{CanStand, approves}
 pub use Rattle.mdb_machine.specs.Gains.{Stays, no_gains}
@@ -86,7 +88,7 @@ pub use Rattle.mdb_follow.specs.declared.report.TheConstants.Report.{DEVICES}
 pub use Rattle.mdb_explained_runs.specs.Goals.{Explains}
 pub use Rattle.mdb_explained_runs.specs.Marks.{MarkedRun, Rise, StandsWithin, choice_by, choices_in, marks_at, marks_of, own_marks, with_mark, MayStandOn}
 pub use Rattle.mdb_explained_runs.specs.ReplayFaults.{BreaksMarkedMachine, HasMarkedRun, HasNoMarkedStep, IsMarkFault, IsReplayFault, IsReplayOffence, MayStandAt, MayStandOnNewest, SplitAt}
-pub use Rattle.mdb_explained_runs.specs.Replays.{IsReplayReport, StandsFor}
+pub use Rattle.mdb_explained_runs.specs.Replays.{IsReplayReport, StandsFor, scope_of}
 pub use Rattle.mdb_explained_runs.specs.Tracks.{HasNoStepFrom, IsTrackOf, TrackOf, track_in, AreTracks, chosen_more}
 pub use Rattle.mdb_explained_runs.specs.declared.explain.all_paths.AllPaths.{AllPaths}
 pub use Rattle.mdb_explained_runs.specs.declared.explain.best.Best.{Best}

@@ -2,7 +2,6 @@
 use Rattle.mdb_explained_runs.proofs.Words.{no_path, take_all, take_more}
 use Rattle.mdb_explained_runs.proofs.Bests.{best-alone, best-goes, best-stays}
 use Rattle.mdb_explained_runs.proofs.explain.paths.best_of.Goals as goal
-use Rattle.mdb_explained_runs.proofs.explain.paths.best_of.Goals.{then-is_worse_than, else-is_worse_than}
 
 pub loop-other-init : goal.loop-other-init
 loop-other-init g c code = best-alone code _
@@ -10,9 +9,9 @@ loop-other-init g c code = best-alone code _
 pub loop-other-preserved : goal.loop-other-preserved
 loop-other-preserved g c code =
     rw (take_more _ _ (0, no_path) c.loop-other-test.true) (elim c.if-is_worse_than.branch [
-      | then-is_worse_than w ↦ rw w.best-is (best-goes _ _ (c.loop-other.invariant code)
+      | goal.then-is_worse_than w ↦ rw w.best-is (best-goes _ _ (c.loop-other.invariant code)
           w.if-is_worse_than.ensures.worse)
-      | else-is_worse_than w ↦ rw w.best-is (best-stays _ _ (c.loop-other.invariant code)
+      | goal.else-is_worse_than w ↦ rw w.best-is (best-stays _ _ (c.loop-other.invariant code)
           w.if-is_worse_than.ensures.not)
     ])
 

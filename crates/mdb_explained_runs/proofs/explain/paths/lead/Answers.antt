@@ -4,7 +4,6 @@ use Rattle.mdb_machine.specs.shared.OwnWays.{decides}
 use Rattle.mdb_explained_runs.proofs.Paths.{all-led-within, entries-within-kept, no-way, paths-led, paths-still}
 use Rattle.mdb_explained_runs.proofs.Chains.{keep-same}
 use Rattle.mdb_explained_runs.proofs.explain.paths.lead.Goals as goal
-use Rattle.mdb_explained_runs.proofs.explain.paths.lead.Goals.{then-matters+in_ok-fill+else-is_empty, else-matters}
 
 pub fill-requires : goal.fill-requires
 fill-requires g c = (
@@ -40,18 +39,18 @@ returns-clause-led g c profile pieces events at are =
     let p = g.P.Pair in
     let act = c.args.act.now in
     let still : c.if-matters.paths.facts ≡ c.args.paths.now.facts = elim c.if-matters.branch [
-      | then-matters+in_ok-fill+else-is_empty w ↦ ap (λ v. v.facts) w.paths-is
-      | else-matters w ↦ ap (λ v. v.facts) w.paths-is
+      | goal.then-matters+in_ok-fill+else-is_empty w ↦ ap (λ v. v.facts) w.paths-is
+      | goal.else-matters w ↦ ap (λ v. v.facts) w.paths-is
     ] in
     record {
       facts = c.learn.ensures (PowerOn profile) (acts_of pieces) (rw still are.facts);
       best = elim c.if-matters.branch [
-        | then-matters+in_ok-fill+else-is_empty w ↦
+        | goal.then-matters+in_ok-fill+else-is_empty w ↦
             rw (w.paths-is, w.swap.ensures.x_after, w.chains-is)
             (paths-led (rw (← w.deref.ensures.value) at are.best)
             (w.in_ok-fill.ensures.led profile (acts_of pieces) are.facts) events
             g.met.P.Pair.apart ((decides p.device act).1 w.if-matters.ensures.own) at)
-        | else-matters w ↦ rw (w.paths-is, w.chains-is)
+        | goal.else-matters w ↦ rw (w.paths-is, w.chains-is)
             (paths-still act events (w.if-matters.ensures.still profile) are.best)
       ];
     }
@@ -60,10 +59,10 @@ pub returns-clause-within : goal.returns-clause-within
 returns-clause-within g c limit within =
     let stands = c.requires.stands in
     elim c.if-matters.branch [
-      | then-matters+in_ok-fill+else-is_empty w ↦
+      | goal.then-matters+in_ok-fill+else-is_empty w ↦
           rw (w.paths-is, w.swap.ensures.x_after, w.chains-is)
           (all-led-within (w.in_ok-fill.ensures.led stands.0 stands.1 stands.2)
           (rw (← w.deref.ensures.value) at within))
-      | else-matters w ↦ rw (w.paths-is, w.chains-is)
+      | goal.else-matters w ↦ rw (w.paths-is, w.chains-is)
           (entries-within-kept _ (omega arith) keep-same within)
     ]

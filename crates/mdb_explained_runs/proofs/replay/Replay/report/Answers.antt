@@ -1,6 +1,5 @@
 -- A replay reports the run that it stands for.
-use Rattle.mdb_explained_runs.specs.Replays.{scope_of}
-use Rattle.mdb_explained_runs.proofs.Words.{acts_of, cell_in}
+use Rattle.mdb_explained_runs.proofs.Words.{acts_of, cell_in, scope_of}
 use Rattle.mdb_explained_runs.proofs.Replaying.{reported}
 use Rattle.mdb_explained_runs.proofs.replay.Replay.report.Goals as goal
 

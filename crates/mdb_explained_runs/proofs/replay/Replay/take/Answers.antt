@@ -1,6 +1,5 @@
 -- A replay stands for one row more, or tells the fault of that row.
-use Rattle.mdb_explained_runs.proofs.Words.{List, ◌+◌, ℕ, Some, None, ap, arith, refl, sym, ◌∙◌, Event, GoesOn, profile_of, Mark, IsReplayFault, false≢true, untimely_of, StandsFor, is-some-weaker, times-on}
-use Rattle.mdb_explained_runs.specs.Replays.{scope_of}
+use Rattle.mdb_explained_runs.proofs.Words.{List, ◌+◌, ℕ, Some, None, ap, arith, refl, sym, ◌∙◌, Event, GoesOn, profile_of, Mark, IsReplayFault, false≢true, untimely_of, StandsFor, is-some-weaker, times-on, scope_of}
 use Rattle.mdb_follow.specs.Counted.{counted_with}
 use Rattle.mdb_explained_runs.proofs.Replaying.{link-offence, machine-offence, mark-fault, no-mark, stands-on, stands-still}
 use Rattle.mdb_explained_runs.proofs.Tracked.{tracks-within-weaker}

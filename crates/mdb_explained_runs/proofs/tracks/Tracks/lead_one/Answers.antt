@@ -1,6 +1,5 @@
 -- The track of a device is led, those of the others stay.
-use Rattle.mdb_explained_runs.proofs.Words.{each, ap, refl, ◌∙◌}
-use Rattle.mdb_msgs.specs.declared.command.Device.TheVariants as devices
+use Rattle.mdb_explained_runs.proofs.Words.{each, ap, refl, ◌∙◌, Reader}
 use Rattle.mdb_explained_runs.proofs.Tracked.{one-leads, one-stops}
 use Rattle.mdb_explained_runs.proofs.tracks.Tracks.lead_one.Goals as goal
 
@@ -29,7 +28,7 @@ lead-requires-in-First c = rw (c.in-Reader.is, c.in-First.is) at c.requires
 
 pub returns-in-First : goal.returns-in-First
 returns-in-First c =
-    let is = c.in-Reader.is ∙ ap devices.Reader c.in-First.is in record {
+    let is = c.in-Reader.is ∙ ap Reader c.in-First.is in record {
       led = one-leads _ _ _ is _ _ c.lead-in-First.ensures.led
           (each _ (λ not. refl) (λ not. refl) (λ not. absurd (not refl)) (λ not. refl));
       stopped = one-stops _ _ _ is _ c.lead-in-First.ensures.none c.lead-in-First.ensures.its;
@@ -40,7 +39,7 @@ lead-requires-in-Second c = rw (c.in-Reader.is, c.in-Second.is) at c.requires
 
 pub returns-in-Second : goal.returns-in-Second
 returns-in-Second c =
-    let is = c.in-Reader.is ∙ ap devices.Reader c.in-Second.is in record {
+    let is = c.in-Reader.is ∙ ap Reader c.in-Second.is in record {
       led = one-leads _ _ _ is _ _ c.lead-in-Second.ensures.led
           (each _ (λ not. refl) (λ not. refl) (λ not. refl) (λ not. absurd (not refl)));
       stopped = one-stops _ _ _ is _ c.lead-in-Second.ensures.none c.lead-in-Second.ensures.its;

@@ -1,6 +1,5 @@
 -- A break leads the paths of each device, one after the other.
-use Rattle.mdb_explained_runs.proofs.Words.{◌^◌}
-use Rattle.mdb_msgs.specs.declared.command.Device.TheVariants.{Changer}
+use Rattle.mdb_explained_runs.proofs.Words.{◌^◌, Changer}
 use Rattle.mdb_explained_runs.proofs.AllPaths.{all-led, all-within, front-all, front-fits, front-more, front-none, front-stands}
 use Rattle.mdb_explained_runs.proofs.Chains.{keep-then}
 use Rattle.mdb_explained_runs.proofs.explain.all_paths.AllPaths.lead_all.Goals as goal

@@ -1,6 +1,5 @@
 -- The paths of a device are led, those of the others stay.
-use Rattle.mdb_explained_runs.proofs.Words.{each, ap, refl, rules, ◌∙◌}
-use Rattle.mdb_msgs.specs.declared.command.Device.TheVariants as devices
+use Rattle.mdb_explained_runs.proofs.Words.{each, ap, refl, rules, ◌∙◌, Reader}
 use Rattle.mdb_explained_runs.proofs.AllPaths.{one-leads, one-none}
 use Rattle.mdb_explained_runs.proofs.explain.all_paths.AllPaths.lead_one.Goals as goal
 
@@ -41,7 +40,7 @@ lead-requires-in-First c =
 
 pub returns-in-First : goal.returns-in-First
 returns-in-First c =
-    let is = c.in-Reader.is ∙ ap devices.Reader c.in-First.is in record {
+    let is = c.in-Reader.is ∙ ap Reader c.in-First.is in record {
       led = one-leads _ _ _ is c.weight_of-weight.ensures _ _ _ c.lead-in-First.ensures.led
           c.lead-in-First.ensures.within
           (each _ (λ not. refl) (λ not. refl) (λ not. absurd (not refl)) (λ not. refl));
@@ -57,7 +56,7 @@ lead-requires-in-Second c =
 
 pub returns-in-Second : goal.returns-in-Second
 returns-in-Second c =
-    let is = c.in-Reader.is ∙ ap devices.Reader c.in-Second.is in record {
+    let is = c.in-Reader.is ∙ ap Reader c.in-Second.is in record {
       led = one-leads _ _ _ is c.weight_of-weight.ensures _ _ _ c.lead-in-Second.ensures.led
           c.lead-in-Second.ensures.within
           (each _ (λ not. refl) (λ not. refl) (λ not. refl) (λ not. absurd (not refl)));
