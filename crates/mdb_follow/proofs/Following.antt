@@ -1,5 +1,5 @@
 -- What a follower that stands for events goes on to, and what it answers.
-use Rattle.mdb_follow.proofs.Words.{same_Some, refl, sym, ap, ◌∙◌, ◌≡◌, inl, inr, ℕ, ◌+◌, List, [], ◌∷◌, ◌++◌, length, ◌<◌, ◌≤◌, arith, map, Option, Some, None, OnTrue, Bool, true, false, Result, Ok, Err, IfErr, IfOk, IsErrAnd, IsSomeAnd, Event, Device, First, Second, Act, Blame, LinkFault, Rule, ArePieces, IsActList, Piece, Whole, acts_of, events_of, piece_events, HasActList, act_in, GoesOn, IsLinkFault, profile_of, Profile, Beginning, SLOTS, AccountName, ALL, Cell, Offence, account_by, IsCell, slot_account, counted_with, HasTakenRows, IsAccountWithin, IsCellWithin, IsAccount, Sums, ArrivesAnywhere, EachArrives, IsOffence, NoStep, rule_of, AreAccounts, Account, AllSums, IsReached, Run, Arrives, machine_of, AreSides, asks_of, AreStanding, SidesStay, Scope, IfOk-weaker, account_device, account_in, account_slot, SalesFollowApprovals, HasFollowedAct, HasStopped, IsLike}
+use Rattle.mdb_follow.proofs.Words.{same_Some, refl, sym, ap, ◌∙◌, ◌≡◌, inl, inr, ℕ, ◌+◌, List, [], ◌∷◌, ◌++◌, length, ◌<◌, ◌≤◌, arith, map, Option, Some, None, OnTrue, Bool, true, false, Result, Ok, Err, IfErr, IfOk, IsErrAnd, IsSomeAnd, Event, Device, First, Second, Act, Blame, LinkFault, Rule, ArePieces, IsActList, Piece, Whole, acts_of, events_of, piece_events, HasActList, act_in, GoesOn, IsLinkFault, profile_of, Profile, Beginning, SLOTS, AccountName, ALL, Cell, Offence, account_by, IsCell, slot_account, counted_with, HasTakenRows, IsAccountWithin, IsCellWithin, IsAccount, Sums, ArrivesAnywhere, EachArrives, IsOffence, NoStep, rule_of, AreAccounts, Account, AllSums, IsReached, Run, Arrives, machine_of, AreSides, asks_of, AreStanding, SidesStay, Scope, IfOk-weaker, account_device, account_in, account_slot, HasFollowedAct, HasStopped, IsLike}
 use Rattle.std.proofs.Common.{length-append}
 use Rattle.mdb_msgs.specs.declared.command.Device.TheVariants as devices
 use Rattle.mdb_bus.specs.declared.bus.Bus.{Bus}
@@ -15,7 +15,8 @@ use Rattle.mdb_follow.specs.Follower.{HasAccepted, StandsFor, is_late, rows_of, 
 use Rattle.mdb_follow.proofs.Accounts.{listed, slot-below}
 use Rattle.mdb_follow.proofs.Asks.{asks-go-on, asks-stay}
 use Rattle.mdb_follow.proofs.Machines.{with_one, with_one-same}
-use Rattle.mdb_follow.proofs.Reaching.{Joins, SomeArrive, SomeWay, run_of}
+use Rattle.mdb_follow.proofs.Sales.{sales_follow}
+use Rattle.mdb_follow.proofs.Reaching.{SomeArrive, SomeWay, run_of}
 use Rattle.mdb_follow.proofs.Joining.{split}
 use Rattle.mdb_follow.proofs.Sided.{by-stay}
 use Rattle.mdb_follow.proofs.Ends.{account-moves}
@@ -108,50 +109,46 @@ module _ (follower : Follower) (events : List Event) where
       let some = (has.sides device).table.some in
       record { state = some.0; sums = some.1; way = some.2 }
 
-module _ (joins : (scope : Scope) → Joins scope) where
   -- so its rows are reached
-  pub accepted-reached : (follower : Follower) (events : List Event)
-      → HasAccepted follower events → IsReached (scope_of follower) events
-  accepted-reached follower events has =
-      let some = some-ways follower events has in (
+  pub accepted-reached : HasAccepted follower events → IsReached (scope_of follower) events
+  accepted-reached has =
+      let some = some-ways has in (
         (λ device. (some device).sums),
-        run_of (scope_of follower) (joins (scope_of follower)) events has.pieces has.act_list some,
+        run_of (scope_of follower) events has.pieces has.act_list some,
       )
 
-  pub reached-by : (follower : Follower) (events : List Event)
-      → StandsFor follower events → IsReached (scope_of follower) events
-  reached-by follower events on = accepted-reached follower events (accepted follower events on)
+  pub reached_by : StandsFor follower events → IsReached (scope_of follower) events
+  reached_by on = accepted-reached (accepted on)
 
-  -- a row breaks a rule of the link
-  pub link-offence : (old : Follower) (events : List Event) (row : Event)
-      (on : StandsFor old events) (fault : LinkFault) (offence : Offence)
-      → IsLinkFault (scope_of old) on.pieces row fault.rule fault.blame
-      → (HasActList (scope_of old) (events_of on.pieces ++ row ∷ []) → ⊥)
-      → offence.row ≡ old.rows + 1 → offence.rule ≡ fault.rule → offence.blame ≡ fault.blame
-      → IsOffence (scope_of old) events row offence
-  link-offence old events row on fault offence is impossible number rule blame = record {
-    reached = reached-by old events on;
-    not_reached = λ reached. impossible (reached.1.pieces, rw on.whole reached.1.act_list);
-    number = number ∙ ap (λ n. n + 1) on.rows;
-    why = inl (record {
-      pieces = on.pieces;
-      act_list = (accepted old events on).act_list;
-      fault = rw (rule, blame) is;
-    });
-  }
+-- a row breaks a rule of the link
+pub link-offence : (old : Follower) (events : List Event) (row : Event)
+    (on : StandsFor old events) (fault : LinkFault) (offence : Offence)
+    → IsLinkFault (scope_of old) on.pieces row fault.rule fault.blame
+    → (HasActList (scope_of old) (events_of on.pieces ++ row ∷ []) → ⊥)
+    → offence.row ≡ old.rows + 1 → offence.rule ≡ fault.rule → offence.blame ≡ fault.blame
+    → IsOffence (scope_of old) events row offence
+link-offence old events row on fault offence is impossible number rule blame = record {
+  reached = reached_by old events on;
+  not_reached = λ reached. impossible (reached.1.pieces, rw on.whole reached.1.act_list);
+  number = number ∙ ap (λ n. n + 1) on.rows;
+  why = inl (record {
+    pieces = on.pieces;
+    act_list = (accepted old events on).act_list;
+    fault = rw (rule, blame) is;
+  });
+}
 
-  -- a follower that stands for rows after others has taken them
-  pub taken-by : ((scope : Scope) (rows : List Event) → SalesFollowApprovals scope rows)
-      → (old new : Follower) (rows : List Event) → scope_of new ≡ scope_of old
-      → rows_of new ≡ rows_of old + length rows
-      → ((events : List Event) → StandsFor old events → StandsFor new (events ++ rows))
-      → HasTakenRows old new rows
-  taken-by sales old new rows same counted stands = record {
-    stands = stands;
-    reached = λ events on. rw same at (reached-by new (events ++ rows) (stands events on));
-    sales = λ events on. sales (scope_of old) (events ++ rows);
-    counted = counted;
-  }
+-- a follower that stands for rows after others has taken them
+pub taken-by : (old new : Follower) (rows : List Event) → scope_of new ≡ scope_of old
+    → rows_of new ≡ rows_of old + length rows
+    → ((events : List Event) → StandsFor old events → StandsFor new (events ++ rows))
+    → HasTakenRows old new rows
+taken-by old new rows same counted stands = record {
+  stands = stands;
+  reached = λ events on. rw same at (reached_by new (events ++ rows) (stands events on));
+  sales = λ events on. sales_follow (scope_of old) (events ++ rows);
+  counted = counted;
+}
 
 -- a rule of a device isn't that of what isn't followed, nor that of a word that comes too late
 abbrev IsOfActs : Rule → Type 0
@@ -336,11 +333,11 @@ module _ (scope : Scope) (one : OneActList scope) (rows : List Event) (pieces : 
       (reached.1.states stops.device) way.gains way.step
 
   -- A way of one device is one of all, beside some way of each other device.
-  pub device-is : Joins scope → SomeArrive scope.begins (acts_of pieces) → (device : Device)
+  pub device-is : SomeArrive scope.begins (acts_of pieces) → (device : Device)
       → AreOf (Run scope rows)
       (ArrivesAnywhere (Arrives (machine_of scope.begins device) (acts_of pieces)))
       (λ sums. sums device)
-  device-is joins some device =
+  device-is some device =
       let Some_way : Device → Type 0 = λ d. SomeWay (machine_of scope.begins d) (acts_of pieces) in
       record {
         lift = λ sums at.
@@ -348,12 +345,12 @@ module _ (scope : Scope) (one : OneActList scope) (rows : List Event) (pieces : 
             let all = with_one Some_way device its some in (
               (λ d. (all d).sums),
               ap (λ way. way.sums) (with_one-same Some_way device its some),
-              run_of scope joins rows pieces list all,
+              run_of scope rows pieces list all,
             );
         lower = λ all run. record { state = run.states device; way = arrived all run device };
       }
 
-module _ (one : (scope : Scope) → OneActList scope) (joins : (scope : Scope) → Joins scope) where
+module _ (one : (scope : Scope) → OneActList scope) where
   -- a machine has no step by an act
   pub machine-offence : (old mid new : Follower) (events : List Event) (row : Event) (act : Act)
       (offence : Offence) (on : StandsFor old events)
@@ -376,7 +373,7 @@ module _ (one : (scope : Scope) → OneActList scope) (joins : (scope : Scope) �
       let same : acts_of on.pieces ≡ acts_of grown.earlier =
       cc (sym goes.acts ∙ ap acts_of are) in
       record {
-        reached = reached-by joins old events on;
+        reached = reached_by old events on;
         not_reached = unreached scope (one scope) (events ++ row ∷ []) goes.longer list goes.acts
             none;
         number = has.number ∙ ap (λ n. n + 1) (like.3 ∙ on.rows);

@@ -2,7 +2,8 @@
 use Rattle.mdb_follow.proofs.Words.{arith, refl, sym, ap, ◌∙◌, ◌≡◌, ◌↔◌, ◌<◌, cond, nat_eq, ℕ, Bool, true, false, List, [], ◌∷◌, length, nat_tests, Device, ArePieces, Piece, Whole, acts_of, events_of, piece_events, IsHeard, Loss, LossFits, Beginning, Choice, Lost, EachArrives, machine_of, AllSums, IsWay, States, AllFollow, Choices, choices_of, Scope}
 use Rattle.std.proofs.Common.{length-append}
 use Rattle.mdb_bus.specs.Acts.{IsAck}
-use Rattle.mdb_bus.specs.Wish.{HearsAsWished}
+use Rattle.mdb_bus.specs.Wish.{HearsAsWished, nothing_told}
+use Rattle.mdb_bus.proofs.Fitting.{acks_wished, fitting}
 use Rattle.mdb_follow.specs.SameAcks.{HearSameAcks}
 use Rattle.mdb_follow.proofs.Choosing.{arrives, chosen, follows_as, merged, merged_agrees}
 use Rattle.mdb_follow.proofs.Machines.{is_machine_of}
@@ -27,12 +28,6 @@ unfolding is_heard
 lost_as Lost Heard told =
     (λ is heard. let never : false ≡ true = told.0 heard in absurd cc, λ none. refl)
 lost_as choice Heard told = (λ is. absurd cc, λ none. absurd (none (told.1 refl)))
-
--- what mdb_bus says of losses: there is one by which the ACKs are heard that are wished to be
-abbrev pub AcksMayBeHeard : Scope → Type 0
-AcksMayBeHeard scope =
-    (pieces : List Piece) → ArePieces scope pieces → (choice : ℕ → Bool)
-    → (loss : Loss) × LossFits loss pieces × HearsAsWished loss choice pieces
 
 -- Ways under a loss.
 module _ (begins : Beginning) (loss : Loss) where
@@ -122,16 +117,17 @@ module _ (begins : Beginning) (loss : Loss) where
   way_of (tail ∷ pieces) choices states sums agree ways =
       way_of pieces choices states sums agree ways
 
-module _ (scope : Scope) (law : AcksMayBeHeard scope) (pieces : List Piece) where
+module _ (scope : Scope) (pieces : List Piece) where
   -- ways with the same choices are together a way of all with these, under one loss that fits
   pub joined_with_choices : (choices : Choices (acts_of pieces)) (states : States) (sums : AllSums)
       → ArePieces scope pieces → AllFollow scope.begins (acts_of pieces) choices states sums
       → (loss : Loss) × LossFits loss pieces × (way : IsWay scope.begins loss pieces states sums)
       × (choices_of scope.begins loss pieces states sums way ≡ choices)
   joined_with_choices choices states sums are ways =
-      let found = law pieces are (chosen_at pieces choices) in
-      let agree = agrees scope.begins found.0 scope (chosen_at pieces choices) pieces choices are
-      (λ before less. refl) found.2 in
+      let wish = chosen_at pieces choices in
+      let found = fitting scope pieces are wish in
+      let agree = agrees scope.begins found.0 scope wish pieces choices are (λ before less. refl)
+      (acks_wished found.0 wish nothing_told pieces found.2) in
       let way = way_of scope.begins found.0 pieces choices states sums agree ways in
       (found.0, found.1, way.0, way.1)
 

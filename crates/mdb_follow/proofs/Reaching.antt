@@ -1,12 +1,6 @@
 -- Reached rows.
-use Rattle.mdb_follow.proofs.Words.{List, [], ◌∷◌, ◌++◌, Option, Some, None, Event, Device, Act, ArePieces, IsActList, Piece, acts_of, GoesOnFrom, with_act, Loss, LossFits, Beginning, Machine, Arrives, EachArrives, machine_of, AllSums, IsReached, IsWay, Run, States, Sums, Scope}
-use Rattle.mdb_follow.proofs.Joining.{split}
-
--- ways of each device are together a way of all
-abbrev pub Joins : (scope : Scope) → Type 0
-Joins scope = (pieces : List Piece) (states : States) (sums : AllSums) → ArePieces scope pieces
-    → EachArrives scope.begins (acts_of pieces) states sums
-    → (loss : Loss) × LossFits loss pieces × IsWay scope.begins loss pieces states sums
+use Rattle.mdb_follow.proofs.Words.{List, [], ◌∷◌, ◌++◌, Option, Some, None, Event, Device, Act, IsActList, Piece, acts_of, GoesOnFrom, with_act, Beginning, Machine, Arrives, machine_of, AllSums, IsReached, Run, Sums, Scope}
+use Rattle.mdb_follow.proofs.Joining.{joined, split}
 
 -- the act list of rows goes on from that of the rows before the last
 abbrev pub GoOnRowByRow : (scope : Scope) → Type 0
@@ -36,11 +30,11 @@ some_before begins None before some = some
 some_before begins (Some act) before some = before_last begins act before some
 
 -- the run of an act list with a way of each device
-pub run_of : (scope : Scope) → Joins scope → (rows : List Event) (pieces : List Piece)
+pub run_of : (scope : Scope) (rows : List Event) (pieces : List Piece)
     → IsActList scope pieces rows → (all : SomeArrive scope.begins (acts_of pieces))
     → Run scope rows (λ device. (all device).sums)
-run_of scope joins rows pieces list all =
-    let found = joins pieces (λ device. (all device).state) (λ device. (all device).sums)
+run_of scope rows pieces list all =
+    let found = joined scope pieces (λ device. (all device).state) (λ device. (all device).sums)
     list.in_order (λ device. (all device).way) in
     record {
       pieces = pieces;
@@ -60,14 +54,13 @@ some_of scope rows sums run device = record {
   way = split scope.begins run.loss run.pieces run.states sums run.way device;
 }
 
-pub without_last : (scope : Scope) → Joins scope → GoOnRowByRow scope
-    → (rows : List Event) (row : Event)
+pub without_last : (scope : Scope) → GoOnRowByRow scope → (rows : List Event) (row : Event)
     → IsReached scope (rows ++ row ∷ []) → IsReached scope rows
-without_last scope joins goes rows row reached =
+without_last scope goes rows row reached =
     let run = reached.1 in
     let from = goes rows row run.pieces run.act_list in
     let earlier = some_before scope.begins from.act (acts_of from.before)
     (rw from.acts at (some_of scope (rows ++ row ∷ []) reached.0 run)) in (
       (λ device. (earlier device).sums),
-      run_of scope joins rows from.before from.act_list earlier,
+      run_of scope rows from.before from.act_list earlier,
     )

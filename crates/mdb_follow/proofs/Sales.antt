@@ -1,5 +1,5 @@
 -- That each sale in a run follows its approval.
-use Rattle.mdb_follow.proofs.Words.{ap, ◌≡◌, ◌⊎◌, inl, inr, ℕ, List, [], ◌∷◌, ◌++◌, All-cons, All-nil, Event, ReaderUnit, Act, ArePieces, Piece, Position, Whole, acts_of, Gains, Choice, StateByProfile, Arrives, Sums, Beginning, PowerOn, Joined, Profile, Scope, profile_of, Replied, Returned, first_position, position_of, base_state, by_profile, extended_state, machine_in, EndsInReply, IsApproved, MayBeRequestedBefore, SalesAreApproved, SalesFollowApprovals}
+use Rattle.mdb_follow.proofs.Words.{ap, ◌≡◌, ◌⊎◌, inl, inr, ℕ, List, [], ◌∷◌, ◌++◌, All-cons, All-nil, Event, ReaderUnit, Act, ArePieces, Piece, Position, Whole, acts_of, StateByProfile, Arrives, Sums, Beginning, PowerOn, Joined, Profile, Scope, profile_of, Replied, Returned, first_position, position_of, base_state, by_profile, extended_state, machine_in, EndsInReply, MayBeRequestedBefore, SalesAreApproved, SalesFollowApprovals}
 use Rattle.mdb_msgs.specs.declared.command.Command.{Command}
 use Rattle.mdb_msgs.specs.declared.command.Command.TheVariants as commands
 use Rattle.mdb_msgs.specs.declared.command.Device.TheVariants as devices
@@ -13,7 +13,9 @@ use Rattle.mdb_cashless.specs.ExtendedReader as extended
 use Rattle.mdb_cashless.specs.ExtendedSales as extended_sales
 use Rattle.mdb_cashless.specs.ExtendedSales.{AcksAreOfReplies}
 use Rattle.mdb_cashless.specs.Reader as reader
-use Rattle.mdb_cashless.specs.shared.SaleViews.{AcksLastReply, MayTellOfSale}
+use Rattle.mdb_cashless.specs.shared.SaleViews.{MayTellOfSale}
+use Rattle.mdb_cashless.proofs.ApprovedSales.{approved, may_be_told}
+use Rattle.mdb_cashless.proofs.Sales.{own_of_unit, sales_may_stand, starts_tell, steps_may_tell}
 use Rattle.mdb_follow.proofs.ByProfile.{own_way}
 use Rattle.mdb_follow.proofs.Choosing.{arrives, chosen}
 use Rattle.mdb_follow.proofs.Joining.{split}
@@ -80,33 +82,6 @@ module _ (scope : Scope) where
   acks_fit (Whole act events ∷ pieces) are = (tt, acks_fit pieces are.2)
   acks_fit (tail ∷ pieces) are = acks_fit pieces are.2
 
--- the laws of the views
-pub record ViewLaws : Type 0 where
-  pub start : (unit : ReaderUnit) (begins : Beginning) (state : ReaderState)
-      → (reader.machine unit begins).Starts state → MayTellOfSale begins unit state.view []
-  pub tells : (unit : ReaderUnit) (begins : Beginning) (so_far : List Act) (act : Act)
-      (choice : Choice) (before after : ReaderState) (gains : Gains) → AcksLastReply act so_far
-      → MayTellOfSale begins unit before.view so_far
-      → (reader.machine unit begins).Step so_far act choice before after gains
-      → MayTellOfSale begins unit after.view (act ∷ so_far)
-  pub approved : (unit : ReaderUnit) (begins : Beginning) (so_far : List Act) (item : ℕ)
-      (choice : Choice) (before after : ReaderState) (gains : Gains)
-      → MayTellOfSale begins unit before.view so_far
-      → (reader.machine unit begins).Step so_far
-      (acts.Ask (commands.Reader unit (readers.VendSuccess item))) choice before after gains
-      → IsApproved unit item so_far ⊎ MayBeRequestedBefore begins unit so_far
-
--- the laws of the extended profile's machine
-pub record ApprovalLaws : Type 0 where
-  pub only : (unit : ReaderUnit) (begins : Beginning) (so_far : List Act) (item : ℕ)
-      (choice : Choice) (before after : ApprovalState) (gains : Gains) → AcksAreOfReplies so_far
-      → extended_sales.SalesAreApproved begins unit so_far
-      → (extended.machine unit begins).Step so_far
-      (acts.Ask (commands.Reader unit (readers.VendSuccess item))) choice before after gains
-      → extended_sales.IsApproved unit item so_far ⊎ MayBeRequestedBefore begins unit so_far
-  pub too : (begins : Beginning) (unit : ReaderUnit) (so_far : List Act)
-      → extended_sales.SalesAreApproved begins unit so_far → SalesAreApproved begins unit so_far
-
 module _ (unit : ReaderUnit) where
   -- of each sale among acts this is so
   abbrev EachSold : (ℕ → List Act → Type 0) → List Act → Type 0
@@ -129,19 +104,19 @@ module _ (unit : ReaderUnit) where
     one_more act so_far last earlier (other ∷ later) before item order =
         earlier later before item cc
 
-  module _ (views : ViewLaws) (laws : ApprovalLaws) (begins : Beginning) where
+  module _ (begins : Beginning) where
     -- a way of a reader through acts: the view where it leads may tell of the sale, and each sale
     -- is approved, or may have been requested before
     all_sold : (so_far : List Act) (state : ReaderState) (sums : Sums) → AcksAreOfReplies so_far
         → Arrives (reader.machine unit begins) so_far state sums
         → MayTellOfSale begins unit state.view so_far × SalesAreApproved begins unit so_far
-    all_sold [] state sums fit way = (views.start unit begins state way.0, none_sold _)
+    all_sold [] state sums fit way = (starts_tell unit begins state way.0, none_sold _)
     all_sold (act ∷ so_far) state sums fit way =
         let earlier = all_sold so_far way.before way.sums_before fit.1 way.way in (
-          views.tells unit begins so_far act way.choice way.before state way.gains fit.0
+          steps_may_tell unit begins so_far act way.choice way.before state way.gains fit.0
               earlier.0 way.step,
           one_more _ act so_far
-              (λ item is. views.approved unit begins so_far item way.choice way.before state
+              (λ item is. sales_may_stand unit begins so_far item way.choice way.before state
               way.gains earlier.0 (rw is at way.step)) earlier.1,
         )
 
@@ -152,9 +127,9 @@ module _ (unit : ReaderUnit) where
         extended_sales.IsApproved unit item before ⊎ MayBeRequestedBefore begins unit before)
     all_approved (act ∷ so_far) state sums fit way =
         let earlier = all_approved so_far way.before way.sums_before fit.1 way.way in
-        one_more _ act so_far
-        (λ item is. laws.only unit begins so_far item way.choice way.before state way.gains fit.1
-        earlier (rw is at way.step)) earlier
+        one_more _ act so_far (λ item is.
+        let asks = rw (own_of_unit unit (readers.VendSuccess item)) at (rw is at way.step) in
+        may_be_told unit begins so_far item asks.0 fit.1 earlier asks.1) earlier
 
     -- by either profile each sale is approved
     each_sold : (profile : Profile) (so_far : List Act) (state : StateByProfile) (sums : Sums)
@@ -172,13 +147,16 @@ module _ (unit : ReaderUnit) where
         let machine = extended.machine unit begins in
         let all = chosen (machine_in extended_state _ machine) so_far state sums way in
         let its = own_way extended_state _ machine so_far all.0 state sums all.1 in
-        laws.too begins unit so_far (all_approved so_far its.0 sums fit
-        (arrives machine so_far all.0 its.0 sums its.2))
+        let sold = all_approved so_far its.0 sums fit
+        (arrives machine so_far all.0 its.0 sums its.2) in
+        λ later before item order. elim (sold later before item order) [
+          | inl is ↦ inl (approved unit item before is)
+          | inr may ↦ inr may
+        ]
 
-pub sales_follow : (scope : Scope) → ViewLaws → ApprovalLaws → (rows : List Event)
-    → SalesFollowApprovals scope rows
-sales_follow scope views laws rows sums run unit =
-    each_sold unit views laws scope.begins (profile_of scope.begins) (acts_of run.pieces)
+pub sales_follow : (scope : Scope) (rows : List Event) → SalesFollowApprovals scope rows
+sales_follow scope rows sums run unit =
+    each_sold unit scope.begins (profile_of scope.begins) (acts_of run.pieces)
     (run.states (devices.Reader unit)) (sums (devices.Reader unit))
     (acks_fit scope run.pieces run.act_list.in_order)
     (split scope.begins run.loss run.pieces run.states sums run.way (devices.Reader unit))

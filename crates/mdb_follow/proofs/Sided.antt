@@ -78,12 +78,18 @@ pub one-led : {T : Type 0} (r : Result T Rule) (device which : Device) (sides : 
     → IsSideOf begins which (side_in sides which) acts
     → HasNoStep (machine_of begins which) act acts)
     → IfErr r (λ broken. broken ≡ rule_of which) → OnErr r (side ≡ side_in sides which)
-    → IfOk r (λ _. OneFollows device sides act (with_side which side sides))
-    × IfErr r (Stops device sides act) × OnErr r (with_side which side sides ≡ sides)
+    → record {
+      followed : IfOk r (λ _. OneFollows device sides act (with_side which side sides));
+      stopped : IfErr r (Stops device sides act);
+      same : OnErr r (with_side which side sides ≡ sides);
+    }
 one-led (Ok x) device which sides side act is goes none rule same =
-    rw is (record { own = rw its goes; others = others which side sides }, tt, tt)
+    let on : OneFollows which sides act (with_side which side sides) =
+    record { own = rw its goes; others = others which side sides } in
+    rw is (record { followed = on; stopped = tt; same = tt })
 one-led (Err broken) device which sides side act is goes none rule same =
-    rw is (tt, record { rule = rule; none = none }, rw same (same-side which sides))
+    let stops : Stops which sides act broken = record { rule = rule; none = none } in
+    rw is (record { followed = tt; stopped = stops; same = rw same (same-side which sides) })
 
 -- By a break each side has a step.
 pub break-stops-none : (sides : Sides) (act : Act) (broken : Rule) → IsBreak act

@@ -73,6 +73,7 @@ pub fn ways_split()
 {}
 
 /// Ways of each device are together a way of all devices, under one loss that fits.
+#[tactic(auto, using(crate::proofs::Joining::joined))]
 pub fn ways_join()
     ensures { (scope : Scope) (pieces : List Piece) (states : States) (sums : AllSums)
         → ArePieces scope pieces
@@ -93,6 +94,7 @@ pub fn ways_split_with_choices()
 
 /// Ways of each device with the same choices are together a way of all devices with these choices,
 /// under one loss that fits.
+#[tactic(auto, using(crate::proofs::Joining::joined_with_choices))]
 pub fn ways_with_choices_join()
     ensures { (scope : Scope) (pieces : List Piece) (chosen : Choices (acts_of pieces))
         (states : States) (sums : AllSums) → ArePieces scope pieces
@@ -203,6 +205,7 @@ pub fn cuts_change_no_answer()
 }
 
 /// The rows that a follower stands for are reached.
+#[tactic(auto, using(crate::proofs::Following::reached_by))]
 pub fn followers_stand_for_reached_rows()
     ensures { (follower : Follower) (rows : List Event) → StandsFor follower rows
         → IsReached (scope_of follower) rows }
@@ -233,6 +236,7 @@ pub fn limits_of_silences_are_those_of_the_standard()
 
 /// What is known of a device, and how many amounts of it have no value, depend on its own acts
 /// alone.
+#[tactic(auto, using(crate::proofs::OwnKnown::same_known, crate::proofs::OwnKnown::same_unvalued))]
 pub fn what_is_known_of_a_device_is_of_its_own_acts()
     ensures known { (begins : Beginning) (device : Device) (acts other : List Act)
         → own_acts device acts ≡ own_acts device other
@@ -248,6 +252,7 @@ pub fn what_is_known_of_a_device_is_of_its_own_acts()
 
 /// Breaks report nothing of a device. Where its own acts are breaks alone, it has no decimal places
 /// but those that are known from elsewhere, and no amount of it lacks a value.
+#[tactic(auto, using(crate::proofs::OwnKnown::no_decimals, crate::proofs::OwnKnown::no_unvalued))]
 pub fn breaks_tell_nothing_of_a_device()
     ensures decimals { (begins : Beginning) (device : Device) (acts : List Act)
         → All IsBreak (own_acts device acts) → IsNotKnown begins device

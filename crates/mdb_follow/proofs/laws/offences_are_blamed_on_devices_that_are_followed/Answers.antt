@@ -2,5 +2,4 @@ use Rattle.mdb_follow.proofs.ReportsWithout.{blames_followed}
 use Rattle.mdb_follow.proofs.laws.offences_are_blamed_on_devices_that_are_followed.Goals as goal
 
 pub returns : goal.returns
-returns c = blames_followed c.acts_name_devices_that_are_followed.ensures
-    c.faults_are_blamed_on_devices_that_are_followed.ensures
+returns c = blames_followed

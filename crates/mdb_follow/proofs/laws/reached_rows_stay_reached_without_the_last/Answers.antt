@@ -2,5 +2,4 @@ use Rattle.mdb_follow.proofs.Reaching.{without_last}
 use Rattle.mdb_follow.proofs.laws.reached_rows_stay_reached_without_the_last.Goals as goal
 
 pub returns : goal.returns
-returns c scope =
-    without_last scope (c.ways_join.ensures scope) (c.act_lists_go_on_row_by_row.ensures scope)
+returns c scope = without_last scope (c.act_lists_go_on_row_by_row.ensures scope)

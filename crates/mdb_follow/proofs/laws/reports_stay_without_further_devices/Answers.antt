@@ -1,14 +1,7 @@
--- Reports have the same of the devices that are followed, since runs without further ones match.
 use Rattle.mdb_follow.proofs.ReportsWithout.{same_followed}
 use Rattle.mdb_follow.proofs.laws.reports_stay_without_further_devices.Goals as goal
 
 pub returns : goal.returns
-returns c = λ less more rows one other leaves is other_is. same_followed (record {
-  to = c.runs_go_on_without_further_devices.ensures;
-  from = c.runs_without_further_devices_come_from_runs.ensures;
-  one = c.transcripts_have_one_act_list.ensures;
-  stays = c.act_lists_stay_without_further_devices.ensures;
-  followed = c.acts_of_followed_devices_stay.ensures.followed;
-  known = c.what_is_known_of_a_device_is_of_its_own_acts.ensures.known;
-  unvalued = c.what_is_known_of_a_device_is_of_its_own_acts.ensures.unvalued;
-}) less more rows one leaves is other other_is
+returns c = λ less more rows one other leaves is. same_followed
+    c.transcripts_have_one_act_list.ensures c.act_lists_stay_without_further_devices.ensures less
+    more rows one leaves is other

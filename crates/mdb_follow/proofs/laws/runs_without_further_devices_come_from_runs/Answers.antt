@@ -2,10 +2,4 @@ use Rattle.mdb_follow.proofs.LeavingOut.{run_with}
 use Rattle.mdb_follow.proofs.laws.runs_without_further_devices_come_from_runs.Goals as goal
 
 pub returns : goal.returns
-returns c = run_with (record {
-  joins = c.ways_join.ensures;
-  stays = c.act_lists_stay_without_further_devices.ensures;
-  left = c.act_lists_without_further_devices_are_what_is_left.ensures;
-  followed = c.acts_of_followed_devices_stay.ensures.followed;
-  left_out = c.acts_of_followed_devices_stay.ensures.left_out;
-})
+returns c = run_with c.act_lists_without_further_devices_are_what_is_left.ensures

@@ -54,6 +54,5 @@ pub returns-clause-taken : goal.returns-clause-taken
 returns-clause-taken c =
     let all = rw (take_all c.loop-event.event-index c.args.events.now c.loop-event-test.false) at
     c.loop-event.invariant in
-    taken-by c.ways_join.ensures c.sales_follow_their_approvals.ensures c.args.self.now
-    c.loop-event.self c.args.events.now all.scope
+    taken-by c.args.self.now c.loop-event.self c.args.events.now all.scope
     (omega (arith, all.rows, c.loop-event-test.false, c.loop-event.auto.event-index-end)) all.stands

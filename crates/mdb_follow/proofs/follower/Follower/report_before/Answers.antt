@@ -12,17 +12,16 @@ returns-clause-before c events has =
     let follower = c.args.self.now in
     let scope = scope_of follower in
     let acts = acts_of has.pieces in
-    let joins = c.ways_join.ensures in
     let cells = cell_in c.cells-cells.result in
     record {
-      reached = accepted-reached joins follower events has;
+      reached = accepted-reached follower events has;
       pieces = has.pieces;
       act_list = has.act_list;
       accounts = account_by cells;
       of_runs = accounts-of-cells (Run scope events) cells (λ device.
           cell-of-runs (Run scope events) _ _ (device-is scope
           (c.transcripts_have_one_act_list.ensures scope) events has.pieces has.act_list
-          (joins scope) (some-ways follower events has) device) (cells device)
+          (some-ways follower events has) device) (cells device)
           (c.cells-cells.ensures.exact scope.begins acts has.sides device));
       telling = rw has.rows at (c.of.ensures.telling scope has.pieces
           (c.facts-facts.ensures.facts scope.begins acts has.sides) has.silences has.untimely);

@@ -17,8 +17,7 @@ returns-then-not-ended-clause-settled c before fed =
     let goes = λ (events : List Event) (on : StandsFor before events).
     rw c.if-not-ended.true at (fed.goes_on on.pieces on.on_bus) in
     record {
-      taken = taken-by c.ways_join.ensures c.sales_follow_their_approvals.ensures before _
-          (row ∷ []) fed.scope (omega (arith, fed.like.3)) (λ events on.
+      taken = taken-by before _ (row ∷ []) fed.scope (omega (arith, fed.like.3)) (λ events on.
           stands-still before _ bus events row on (goes events on) refl fed.scope
           fed.like.0 fed.like.1 (ap (λ n. n + 1) fed.like.3) fed.like.4
           (times-on (scope_of before) _ on.pieces row bus None (goes events on)
@@ -37,8 +36,7 @@ returns-then-follow-clause-settled c before fed =
     let goes = λ (events : List Event) (on : StandsFor before events).
     rw c.if-not-ended.false at (fed.goes_on on.pieces on.on_bus) in
     record {
-      taken = taken-by c.ways_join.ensures c.sales_follow_their_approvals.ensures before _
-          (row ∷ []) (c.follow.ensures.scope ∙ fed.scope)
+      taken = taken-by before _ (row ∷ []) (c.follow.ensures.scope ∙ fed.scope)
           (omega (arith, followed.rows, fed.like.3)) (λ events on.
           stands-on before self c.follow.new.self events row self.act on
           (goes events on) fed.scope fed.like followed _ (refl, refl, refl, refl, refl)
@@ -65,7 +63,7 @@ returns-else-follow-clause-settled c before fed =
       refused = is-some-weaker new.offence _ (HasRefused before new row)
           (λ offence has. record {
             offence = λ events on. machine-offence c.transcripts_have_one_act_list.ensures
-                c.ways_join.ensures before self new events row self.act offence on
+                before self new events row self.act offence on
                 (rw c.if-not-ended.false at (fed.goes_on on.pieces on.on_bus)) fed.scope fed.like
                 has;
             accepted = λ events on. accepted-still before new events on

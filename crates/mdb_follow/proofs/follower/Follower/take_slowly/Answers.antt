@@ -18,7 +18,7 @@ returns-in-Err-clause-settled c before like same = record {
   act = tt;
   refused = some-at c.stop.new.noted _ (HasRefused before _ c.args.event.now) c.stop.ensures
       (record {
-        offence = λ events on. link-offence c.ways_join.ensures before events c.args.event.now on
+        offence = λ events on. link-offence before events c.args.event.now on
             c.in-Err.fault _ ((rw same at c.in-Err.ensures.faults) on.pieces on.on_bus)
             ((rw same at c.in-Err.ensures.impossible) on.pieces on.on_bus)
             (ap (λ n. n + 1) like.3) refl refl;
