@@ -42,8 +42,9 @@ own_answer unit command its false messages old found =
 
 -- the facts after a reply of this reader: it has taken its command or not, and has told messages
 pub replied : (unit : ReaderUnit) (command : Command) (its : ReaderCommand) (reply : Reply)
-    (old mid new : ToldFacts) → own unit command ≡ Some its
-    → mid ≡ taken (if tells_out_of_sequence reply then None else Some its) old
-    → new ≡ told (messages_of reply) mid → new ≡ told_with unit (Act.Reply command reply) old
-replied unit command its reply old mid new found mid_is new_is = new_is ∙ rw mid_is
-    (own_answer unit command its (tells_out_of_sequence reply) (messages_of reply) old found)
+    (old new : ToldFacts) → own unit command ≡ Some its
+    → new ≡ told (messages_of reply) (taken (if tells_out_of_sequence reply then None
+    else Some its) old)
+    → new ≡ told_with unit (Act.Reply command reply) old
+replied unit command its reply old new found new_is = new_is
+    ∙ own_answer unit command its (tells_out_of_sequence reply) (messages_of reply) old found

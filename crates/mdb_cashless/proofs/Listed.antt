@@ -17,23 +17,20 @@ pub none_among : {X : Type 0} (xs : List X) (x : X) → length xs ≡ 0 → Cont
 none_among xs x none among = omega (arith, none, among.1)
 
 module _ {State : Type 0} where
-  -- an answer is the only step, if there is one
-  only_is : (Step : State → Gains → Type 0) (found : Option (State × Gains))
-      → IsOnlyStep Step found → (after : State) (gains : Gains)
-      → (found ≡ Some (after, gains)) ↔ Step after gains
-  only_is Step None only after gains = grind arith
-  only_is Step (Some one) only after gains = grind (arith, only.0, only.1)
-
   pub adds_as : (old new : List (State × Gains)) (Step Other : State → Gains → Type 0)
       → Adds old new Step → ((after : State) (gains : Gains) → Step after gains ↔ Other after gains)
       → Adds old new Other
   adds_as old new Step Other adds is after gains =
       let has = adds after gains in let step = is after gains in grind arith
 
+  -- an answer is the only step, if there is one
   pub adds_one : (old new : List (State × Gains)) (Step : State → Gains → Type 0)
       (found : Option (State × Gains)) → IsOnlyStep Step found
       → Adds old new (λ after gains. found ≡ Some (after, gains)) → Adds old new Step
-  adds_one old new Step found only adds = adds_as old new _ Step adds (only_is Step found only)
+  adds_one old new Step None only adds =
+      adds_as old new _ Step adds (λ after gains. grind (arith, only after gains))
+  adds_one old new Step (Some one) only adds =
+      adds_as old new _ Step adds (λ after gains. grind (arith, only.0, only.1))
 
   pub small_one : (old new : List (State × Gains)) (found : Option (State × Gains)) → AreSmall old
       → IfSome found (λ step. IsSmall step.1)

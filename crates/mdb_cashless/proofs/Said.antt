@@ -9,10 +9,6 @@ or_is one other = grind (arith, common_steps)
 pub or_none : {X : Type 0} (one : Option X) → or_else one None ≡ one
 or_none one = grind (arith, common_steps)
 
-or_assoc : {X : Type 0} (one other third : Option X)
-    → or_else (or_else one other) third ≡ or_else one (or_else other third)
-or_assoc one other third = grind (arith, common_steps)
-
 -- what the last of messages says, with one message more
 last_said-more : {X : Type 0} (says : ReaderMsg → Option X) (messages : List ReaderMsg)
     (m : ReaderMsg)
@@ -20,7 +16,7 @@ last_said-more : {X : Type 0} (says : ReaderMsg → Option X) (messages : List R
 last_said-more says [] m = sym (or_none (says m))
 last_said-more says (message ∷ messages) m =
     ap (λ o. or_else o (says message)) (last_said-more says messages m)
-    ∙ or_assoc (says m) (last_said says messages) (says message)
+    ∙ grind (arith, common_steps)
 
 any_last : (f : ReaderMsg → Bool) (messages : List ReaderMsg) (m : ReaderMsg)
     → list_any f (messages ++ m ∷ []) ≡ (f m || list_any f messages)

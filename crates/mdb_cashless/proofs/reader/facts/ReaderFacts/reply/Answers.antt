@@ -1,9 +1,9 @@
-use Rattle.mdb_cashless.proofs.Words.{◌∙◌, refl, sym, told_in}
+use Rattle.mdb_cashless.proofs.Words.{◌∙◌, sym, told_in}
 use Rattle.mdb_cashless.proofs.FactsTold.{replied}
 use Rattle.mdb_cashless.proofs.reader.facts.ReaderFacts.reply.Goals as goal
 
 pub returns-in-Some : goal.returns-in-Some
 returns-in-Some c =
     replied c.args.unit c.args.command.now c.in-Some.command c.args.reply.now
-    (told_in c.args.self.now) _ (told_in c.answer.new.self) (sym c.own.ensures ∙ c.in-Some.is)
-    refl c.answer.ensures
+    (told_in c.args.self.now) (told_in c.answer.new.self) (sym c.own.ensures ∙ c.in-Some.is)
+    c.answer.ensures
