@@ -1,12 +1,6 @@
 -- What is answered and written of rows that are kept, and the lines that are written.
-use Rattle.mdb_explain.proofs.Words
-use Words.{refl, ap, sym, ◌∙◌, ◌≡◌, ℕ, List, [], ◌∷◌, ◌++◌, Option, Result, Ok, Err, append_assoc}
-use Words.{map, append-nil, IfSome_then, ◌<◌, IfSome, length, Event, row_fields, Scope, ROWS_MAX}
-use Words.{Goal, Mark, Offence, Outcome, Yes, No, RunFault, Write, Memory, IfYes, report_text}
-use Words.{IsAnswer, IsNoYes, BYTES_MAX, IsNoText, IsTold, marks_text, rows_text, Puts, output}
+use Rattle.mdb_explain.proofs.Words.{BYTES_MAX, Err, Event, Goal, IfSome, IfSome_then, IfYes, IsAnswer, IsExplainText, IsExplained, IsNoText, IsNoYes, IsTold, LeavesNo, List, Mark, Memory, No, Offence, Ok, Option, Outcome, Puts, ROWS_MAX, Result, RunFault, Scope, Write, Yes, [], ap, append-nil, append_assoc, explanation_text, flat_map, length, map, mark_fields, marks_text, output, record_line, refl, report_text, row_fields, rows_text, sym, ℕ, ◌++◌, ◌<◌, ◌∙◌, ◌∷◌, ◌≡◌}
 use Rattle.std.proofs.lemmas.List.Concat.{flat_map-append}
-use Rattle.std.specs.List.{flat_map}
-use Rattle.mdb_explain.specs.Explain.{IsExplainText, IsExplained, LeavesNo, explanation_text, mark_fields, record_line}
 use Rattle.mdb_writing.specs.Written.{HasTaken}
 use Rattle.mdb_writing.specs.Output.{Breaks, Output, begun}
 use Rattle.mdb_writing.proofs.Outputs.{break_both, put_both, taken_longer}

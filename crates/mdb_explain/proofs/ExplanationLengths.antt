@@ -1,13 +1,7 @@
 -- How many bytes the text of an explanation has at most.
-use Rattle.mdb_explain.proofs.Words.{arith, ◌≡◌, ◌+◌, ◌*◌, ◌<◌, ◌≤◌, ◌^◌, ℕ, List, [], ◌∷◌, ◌++◌}
-use Rattle.mdb_explain.proofs.Words.{length, length-append, map, All, All-head, All-tail, decimal}
-use Rattle.mdb_explain.proofs.Words.{Event, hex_word, row_fields, IsRow, break_letter, letter_of}
-use Rattle.mdb_explain.proofs.Words.{ROWS_MAX, Mark, dash, mark_letter, AreRows}
-use Rattle.std.proofs.Common.{flat_map}
+use Rattle.mdb_explain.proofs.Words.{All, All-head, All-tail, AreRows, Event, IsDecimal-lt, IsRow, List, Mark, ROWS_MAX, [], arith, break_letter, dash, decimal, explanation_text, flat_map, hex_word, length, length-append, letter_of, map, mark_fields, mark_letter, record_line, row_fields, ℕ, ◌*◌, ◌++◌, ◌+◌, ◌<◌, ◌^◌, ◌∷◌, ◌≡◌, ◌≤◌}
 use Rattle.std.proofs.lemmas.Fmt.{length-decimal-le}
 use Rattle.mdb_words.specs.declared.event.Event.TheVariants.{Word, Break}
-use Rattle.mdb_explain.specs.Explain.{explanation_text, mark_fields, record_line}
-use Rattle.mdb_words.proofs.Numerals.{IsDecimal-lt}
 
 -- the line of three fields, of which the second is a letter: with it two commas and a line feed
 line_length : (number value : List ℕ) (letter : ℕ)

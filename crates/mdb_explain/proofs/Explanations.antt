@@ -1,15 +1,9 @@
 -- The text of an explanation is read as the records of its marks and rows.
-use Rattle.mdb_explain.proofs.Words.{arith, refl, ◌≡◌, ◌≤◌, ℕ, List, [], ◌∷◌, map, All, All-head}
-use Rattle.mdb_explain.proofs.Words.{All-tail, decimal, default_config, strip_bom, read_records}
-use Rattle.mdb_explain.proofs.Words.{Event, row_fields, ROWS_MAX, Mark, dash, mark_letter, AreRows}
+use Rattle.mdb_explain.proofs.Words.{All, All-head, All-tail, AreMarkRows, AreRows, Event, IsDecimal-decimal, IsMarkRow, List, Mark, ROWS_MAX, [], arith, dash, decimal, default_config, explanation_records, explanation_text, map, mark_fields, mark_letter, read_records, refl, row_fields, strip_bom, ℕ, ◌∷◌, ◌≡◌, ◌≤◌}
 use Rattle.mdb_words.specs.Digits.{IsDecimal}
 use Rattle.mdb_explained_runs.specs.declared.mark.Mark.TheVariants.{Lost}
-use Rattle.mdb_explain.specs.Explain.{explanation_records, explanation_text, mark_fields}
-use Rattle.mdb_explain.specs.Replay.{AreMarkRows, IsMarkRow}
-use Rattle.mdb_records.proofs.PlainRecords.{ArePlain, IsPlain, IsPlainByte, plain_append}
-use Rattle.mdb_records.proofs.PlainRecords.{read_of_lines}
+use Rattle.mdb_records.proofs.PlainRecords.{ArePlain, IsPlain, IsPlainByte, plain_append, read_of_lines}
 use Rattle.mdb_records.proofs.PlainRows.{one_plain, plain_of, row_written}
-use Rattle.mdb_words.proofs.Numerals.{IsDecimal-decimal}
 
 -- Rows.
 

@@ -1,18 +1,11 @@
 -- What is answered, by how the reading of entries ended.
-use Rattle.mdb_explain.proofs.Words
-use Words.{arith, ap, sym, ◌∙◌, ◌≡◌, ◌≢◌, inl, inr, ℕ, List, [], ◌∷◌, ◌++◌, map, Option, Result, Ok}
-use Words.{Err, length, append-nil, IfErr, IsErrAnd, Event, Scope, ROWS_MAX, Mark, Offence, Entry}
-use Words.{Outcome, Yes, No, MarkedFault, RunFault, InputPart, all_marks, AreRows, IsEntry}
-use Words.{IsNoEntry, HasReplayed, HasStopped, parts_of, read_at, handed}
+use Rattle.mdb_explain.proofs.Words.{AreMarkRows, AreRows, CanBe, Entry, Err, Event, Finishes, HasMarkedCause, HasReplayed, HasStopped, IfErr, InputPart, IsEntry, IsNoEntry, IsReplayAnswer, LeadUpToPart, List, Mark, MarkedFault, No, Offence, Ok, Option, Outcome, ROWS_MAX, Replaying, Result, RunFault, Scope, StopsAt, Yes, [], all_marks, ap, append-nil, arith, entries_of, inl, inr, length, map, mark_entry, parts_of, read_at, ℕ, ◌++◌, ◌∙◌, ◌∷◌, ◌≡◌, ◌≢◌}
 use Rattle.mdb_explain.specs.declared.entry.Entry.TheVariants as entries
 use Rattle.mdb_explain.specs.declared.fault.MarkedFault.TheVariants as marked
 use Rattle.mdb_verdict.specs.declared.fault.RunFault.TheVariants as run
-use Rattle.mdb_explain.specs.declared.replaying.Replaying.{Replaying}
-use Rattle.mdb_explain.specs.Replay.{AreMarkRows, CanBe, HasMarkedCause, IsReplayAnswer, LeadUpToPart, StopsAt}
 use Rattle.mdb_records.specs.declared.ReadFault.{ReadFault}
 use Rattle.mdb_verdict.specs.Batch.{AreAll}
 use Rattle.mdb_verdict.specs.Ending.{AreRead, HasEnded, IsStopped, IsTakenWhole}
-use Rattle.mdb_explain.specs.inner.Replaying.{Finishes, entries_of, mark_entry}
 use Rattle.mdb_explain.proofs.MarkSteps.{entries_count}
 
 -- Records that are read as the entries of a part are mark rows, and then rows.
@@ -100,55 +93,32 @@ module _ (scope : Scope) (all : List (List (List ℕ))) where
 
   pub stopped : {limit : ℕ} (fault : MarkedFault)
       → IsStopped IsEntry (λ earlier rows. HasStopped scope earlier rows (Err fault)) limit all
-      → (answer : Result Outcome MarkedFault) → IsErrAnd answer (λ told. told ≡ fault)
-      → IsReplayAnswer scope ROWS_MAX all answer
-  stopped {limit = limit} fault ended answer given =
-      handed (IsReplayAnswer scope ROWS_MAX all) fault answer given (by fault ended)
-    where
-      by : (fault : MarkedFault)
-          → IsStopped IsEntry (λ earlier rows. HasStopped scope earlier rows (Err fault)) limit all
-          → IsReplayAnswer scope ROWS_MAX all (Err fault)
-      by (marked.Run (run.BadRow row fault)) ended =
-          stops (Err (marked.Run (run.BadRow row fault))) ended
-      by (marked.Run run.TooLong) ended = stops (Err (marked.Run run.TooLong)) ended
-      by (marked.Mark row) ended = inl (stops (Err (marked.Mark row)) ended)
-      by (marked.Run fault) ended = tt
+      → IsReplayAnswer scope ROWS_MAX all (Err fault)
+  stopped (marked.Run (run.BadRow row fault)) ended =
+      stops (Err (marked.Run (run.BadRow row fault))) ended
+  stopped (marked.Run run.TooLong) ended = stops (Err (marked.Run run.TooLong)) ended
+  stopped (marked.Mark row) ended = inl (stops (Err (marked.Mark row)) ended)
+  stopped (marked.Run fault) ended = tt
 
   -- a record can't be read: none is one too many that wasn't stopped at
   pub refused : (taker : Replaying)
       (Stops : List Entry → List Entry → Result Offence MarkedFault → Type 0) (fault : RunFault)
       → HasEnded IsEntry IsNoEntry (HasReplayed scope taker) Stops 200000001 all (Err fault)
-      → (answer : Result Outcome MarkedFault) → IsErrAnd answer (λ told. told ≡ marked.Run fault)
-      → IsReplayAnswer scope ROWS_MAX all answer
-  refused taker Stops fault ended answer given =
-      handed (IsReplayAnswer scope ROWS_MAX all) (marked.Run fault) answer given (by fault ended)
-    where
-      by : (fault : RunFault)
-          → HasEnded IsEntry IsNoEntry (HasReplayed scope taker) Stops 200000001 all (Err fault)
-          → IsReplayAnswer scope ROWS_MAX all (Err (marked.Run fault))
-      by (run.BadRow row fault) ended = absurd ended.refused
-      by run.TooLong ended =
-          let can = ended.has.can_be in
-          absurd (omega (
-            arith,
-            entries_count ended.has.part,
-            ap length ended.has.are,
-            ended.full,
-            can.few_marks,
-            can.few_rows,
-          ))
-      by fault ended = tt
+      → IsReplayAnswer scope ROWS_MAX all (Err (marked.Run fault))
+  refused taker Stops (run.BadRow row fault) ended = absurd ended.refused
+  refused taker Stops run.TooLong ended =
+      let can = ended.has.can_be in
+      absurd (omega (
+        arith,
+        entries_count ended.has.part,
+        ap length ended.has.are,
+        ended.full,
+        can.few_marks,
+        can.few_rows,
+      ))
+  refused taker Stops fault ended = tt
 
--- A failed read is told as such alone.
-
-pub cause_of_stop : (stop : Result Offence MarkedFault) (fault : MarkedFault)
-    (met : Option ReadFault) → stop ≢ Err (marked.Run run.Read) → stop ≡ Err fault
-    → (answer : Result Outcome MarkedFault) → IsErrAnd answer (λ told. told ≡ fault)
-    → IfErr answer (HasMarkedCause met)
-cause_of_stop stop fault met no_read is (Ok outcome) handed = absurd handed
-cause_of_stop stop fault met no_read is (Err told) handed =
-    λ read. absurd (no_read (is ∙ ap Err (sym handed ∙ read)))
-
+-- a failed read is told as such alone
 pub cause_unread : (answer : Result Outcome MarkedFault) (met : Option ReadFault)
     → IfErr answer (λ fault. fault ≢ marked.Run run.Read) → IfErr answer (HasMarkedCause met)
 cause_unread (Ok outcome) met unread = tt

@@ -1,24 +1,11 @@
 -- How the replay of entries goes on, and where it stops.
-use Rattle.mdb_explain.proofs.Words
-use Words.{arith, refl, ap, sym, ◌∙◌, ◌≡◌, ◌≢◌, ◌+◌, ◌<◌, ◌≤◌, inl, inr, ℕ, List, [], ◌∷◌, ◌++◌}
-use Words.{map, take, Option, Result, Err, length, length-append, append_assoc, append-nil}
-use Words.{length-map, map_push, take_more, if◌then◌else◌, HasTakenOrStopped, Event, Scope}
-use Words.{ROWS_MAX, Mark, Offence, with_mark, HasMarkedRun, IsReplayFault, Entry, MarkedFault}
-use Words.{InputPart, all_marks, dash, IsBadMark, IsEntry, stop_by, empty, HasReplayed, HasStopped}
-use Rattle.std.proofs.Common.{◌==◌, ◌↔◌, drop, get_or, suc, is_some, Bool, true, false, Some, None}
+use Rattle.mdb_explain.proofs.Words.{BadLine, BadTime, BadValue, Bool, Entry, Err, Event, HasMarkedRun, HasReplayed, HasStopped, HasTakenNext, HasTakenOrStopped, InputPart, IsBadMark, IsEntry, IsMarkRefusal, IsRefusedAfter, IsReplayFault, IsStopAt, IsStoppedAt, List, Mark, MarkedFault, None, Offence, Option, ROWS_MAX, ReplayFault, Replaying, Result, RiseAbove, RowFault, Scope, Some, StandsFor, [], all_marks, ap, append-nil, append_assoc, arith, dash, drop, empty, entries_of, false, get_or, if◌then◌else◌, inl, inr, is_some, length, length-append, length-map, map, map_push, mark_at, mark_entry, records_in, refl, rows_of, scope_of, stop_by, suc, sym, take, take_more, true, with_mark, ℕ, ◌++◌, ◌+◌, ◌<◌, ◌==◌, ◌↔◌, ◌∙◌, ◌∷◌, ◌≡◌, ◌≢◌, ◌≤◌}
 use Rattle.std.proofs.lemmas.Bool.Decides.{nat_tests}
 use Rattle.std.proofs.Math.Seq.{split_at}
-use Rattle.mdb_words.specs.declared.row.RowFault.{RowFault}
-use Rattle.mdb_words.specs.declared.row.RowFault.TheVariants.{BadTime, BadLine, BadValue}
-use Rattle.mdb_explained_runs.specs.declared.replay.ReplayFault.{ReplayFault}
 use Rattle.mdb_explained_runs.specs.declared.replay.ReplayFault.TheVariants as faults
-use Rattle.mdb_explained_runs.specs.Replays.{StandsFor, rows_of, scope_of}
 use Rattle.mdb_explain.specs.declared.entry.Entry.TheVariants as entries
 use Rattle.mdb_explain.specs.declared.fault.MarkedFault.TheVariants as marked
 use Rattle.mdb_verdict.specs.declared.fault.RunFault.TheVariants as run
-use Rattle.mdb_explain.specs.declared.replaying.Replaying.{Replaying}
-use Rattle.mdb_explain.specs.Replay.{IsMarkRefusal, IsRefusedAfter, IsStopAt, RiseAbove, mark_at, records_in}
-use Rattle.mdb_explain.specs.inner.Replaying.{HasTakenNext, IsStoppedAt, entries_of, mark_entry}
 
 -- How many entries those of a part are.
 pub entries_count : (part : InputPart) → length (entries_of part) ≡ records_in part

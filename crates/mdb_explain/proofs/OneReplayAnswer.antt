@@ -1,28 +1,13 @@
 -- The records of an input of `replay` have one answer of their own.
-use Rattle.mdb_explain.proofs.Words
-use Words.{arith, refl, ap, sym, ◌∙◌, ◌≡◌, ◌⊎◌, inl, inr, ◌+◌, ◌<◌, ◌≤◌, ℕ, List, [], ◌∷◌, ◌++◌}
-use Words.{length, length-append, append_assoc, All, Option, Result, Ok, Err, common_steps}
-use Words.{append-nil, All-head, All-tail, Event, IsRow, Scope, Mark, Offence, Report, Rise}
-use Words.{StandsWithin, choices_in, marks_of, with_mark, HasMarkedRun, IsReplayFault, SplitAt}
-use Words.{Outcome, Yes, No, MarkedFault, IsForMark, InputPart, all_marks, dash, AreRows}
-use Rattle.std.proofs.Common.{Some, None}
+use Rattle.mdb_explain.proofs.Words.{All, All-head, All-tail, AreMarkRows, AreRows, CanBe, DoesNotRise, Err, Event, FieldCount, GoesOn, HasMarkedRun, InputPart, IsForMark, IsMarkRefusal, IsMarkRow, IsOwnReplay, IsReplayAnswer, IsReplayFault, IsReplayReport, IsReplayed, IsRow, IsStopAt, LeadUpToPart, List, Mark, MarkedFault, No, None, Offence, Ok, Option, Outcome, ReplayFault, Report, Result, Rise, RiseAbove, RowFault, Scope, Some, SplitAt, StandsWithin, StopsAt, Yes, [], all_marks, ap, append-nil, append_assoc, arith, choices_in, common_steps, compared, dash, inl, inr, length, length-append, mark_at, marks_of, one_refusal, records_in, refl, row_not_refused, row_one, sym, with_mark, ℕ, ◌++◌, ◌+◌, ◌<◌, ◌∙◌, ◌∷◌, ◌≡◌, ◌≤◌, ◌⊎◌}
 use Rattle.std.proofs.lemmas.List.Elements.{All-nil, All-cons, All-append, All-push}
-use Rattle.mdb_words.specs.declared.row.RowFault.{RowFault}
-use Rattle.mdb_words.specs.declared.row.RowFault.TheVariants.{FieldCount}
 use Rattle.mdb_words.specs.Refusals.{IsRefusal}
 use Rattle.mdb_bus.specs.ActLists.{ArePieces, Piece, acts_of, events_of}
-use Rattle.mdb_explained_runs.specs.declared.replay.ReplayFault.{ReplayFault}
 use Rattle.mdb_explained_runs.specs.declared.replay.ReplayFault.TheVariants as faults
 use Rattle.mdb_follow.specs.Choosing.{Choices}
-use Rattle.mdb_explained_runs.specs.Replays.{IsReplayReport}
 use Rattle.mdb_explain.specs.declared.fault.MarkedFault.TheVariants as marked
 use Rattle.mdb_verdict.specs.declared.fault.RunFault.TheVariants as run
-use Rattle.mdb_explain.specs.Replay.{AreMarkRows, CanBe, DoesNotRise}
-use Rattle.mdb_explain.specs.Replay.{IsMarkRefusal, IsMarkRow}
-use Rattle.mdb_explain.specs.Replay.{IsOwnReplay, IsReplayAnswer, IsReplayed, IsStopAt, LeadUpToPart}
-use Rattle.mdb_explain.specs.Replay.{RiseAbove, StopsAt, mark_at, records_in}
 use Rattle.mdb_explain.proofs.MarkSteps.{later_marks}
-use Rattle.mdb_verdict.proofs.OneAnswer.{GoesOn, compared, one_refusal, row_not_refused, row_one}
 
 abbrev Marks : Type 0
 Marks = List (ℕ × Mark)

@@ -1,16 +1,8 @@
 -- What an explanation is replayed to: the end of the range that it explains.
-use Rattle.mdb_explain.proofs.Words.{arith, ap, subst, ◌≡◌, ◌+◌, ◌*◌, ◌≤◌, ℕ, List, [], ◌∷◌, map}
-use Rattle.mdb_explain.proofs.Words.{length, All, Result, Ok, All-head, All-tail, default_config}
-use Rattle.mdb_explain.proofs.Words.{strip_bom, read_records, Event, row_fields, Scope, ROWS_MAX}
-use Rattle.mdb_explain.proofs.Words.{Goal, Mark, Report, HasMarkedRun, Outcome, Yes, MarkedFault}
-use Rattle.mdb_explain.proofs.Words.{BYTES_MAX, IsAnswer, AreRows}
+use Rattle.mdb_explain.proofs.Words.{All, All-head, All-tail, AreMarkRows, AreRows, BYTES_MAX, ComesTo, Event, Goal, HasMarkedRun, IsAnswer, IsExplanation, IsOwnReplay, IsReplayAnswer, IsReplayReport, IsReplayed, List, Mark, MarkedFault, Ok, Outcome, ROWS_MAX, Report, Result, RiseAbove, Scope, Yes, [], ap, arith, default_config, explanation_records, explanation_text, goal_range, length, map, mark_fields, one_list, read_records, row_fields, strip_bom, subst, ℕ, ◌*◌, ◌+◌, ◌∷◌, ◌≡◌, ◌≤◌}
 use Rattle.mdb_follow.specs.GoalEnds.{end_of}
 use Rattle.mdb_explained_runs.specs.Goals.{Explains}
-use Rattle.mdb_explained_runs.specs.Replays.{IsReplayReport}
 use Rattle.mdb_follow.specs.Report.{IsReport}
-use Rattle.mdb_explain.specs.Explain.{ComesTo, IsExplanation, explanation_records, explanation_text, goal_range, mark_fields}
-use Rattle.mdb_explain.specs.Replay.{AreMarkRows, IsOwnReplay, IsReplayAnswer, IsReplayed, RiseAbove}
-use Rattle.mdb_verdict.proofs.Headline.{one_list}
 use Rattle.mdb_explain.proofs.OneReplayAnswer.{IsUpTo, MarkLaws, rising_run, upto_run}
 
 -- what the laws of explanations and of replays say

@@ -1,13 +1,7 @@
 -- The transcript of an input that is replayed with a yes is one for which `check` says yes.
-use Rattle.mdb_explain.proofs.Words
-use Words.{arith, refl, ap, ◌∙◌, ◌≡◌, ℕ, List, [], ◌∷◌, ◌++◌, length, length-append}
-use Words.{append_assoc, inl, inr, Result, Ok, Err, append-nil, take_all, Event, IsRow, Scope}
-use Words.{Report, Outcome, Yes, No, RunFault, HaveRun, IsAnswer, IsOwnAnswer, LeadUpTo, AreRows}
+use Rattle.mdb_explain.proofs.Words.{AreRows, Err, Event, FrontsAreReached, HaveRun, IsAnswer, IsOwnAnswer, IsReplayed, IsRow, LeadUpTo, List, No, Ok, Outcome, Report, Result, RunFault, Scope, Yes, [], ap, append-nil, append_assoc, arith, as_many, compared, inl, inr, length, length-append, refl, row_not_refused, row_one, take_all, ℕ, ◌++◌, ◌∙◌, ◌∷◌, ◌≡◌}
 use Rattle.mdb_follow.specs.Runs.{IsReached}
 use Rattle.mdb_verdict.specs.declared.fault.RunFault.TheVariants as run
-use Rattle.mdb_explain.specs.Replay.{IsReplayed}
-use Rattle.mdb_verdict.proofs.Headline.{FrontsAreReached, as_many}
-use Rattle.mdb_verdict.proofs.OneAnswer.{compared, row_not_refused, row_one}
 
 -- Rows lead up to a record: where all records are rows, so is that one, and the row after them.
 record RowAfter (all rows : List Event) (fields : List (List ℕ)) : Type 0 where

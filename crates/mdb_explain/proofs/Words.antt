@@ -1,8 +1,6 @@
 -- The names of std, of the crates below and of this crate's specs that its proofs share.
-pub use Rattle.csv.specs.Reading.{default_config, records as read_records, records, strip_bom}
-pub use Rattle.std.proofs.Common.{All, Err, List, Ok, Option, Result, ap, append_assoc, arith, inl}
-pub use Rattle.std.proofs.Common.{inr, length, length-append, map, refl, subst, sym, take, ℕ, []}
-pub use Rattle.std.proofs.Common.{◌*◌, ◌++◌, ◌+◌, ◌<◌, ◌^◌, ◌∙◌, ◌∷◌, ◌≡◌, ◌≢◌, ◌≤◌, ◌⊎◌}
+pub use Rattle.csv.specs.Reading.{default_config, records, records as read_records, strip_bom}
+pub use Rattle.std.proofs.Common.{All, Bool, Err, List, None, Ok, Option, Result, Some, [], ap, append_assoc, arith, drop, false, flat_map, get_or, inl, inr, is_some, length, length-append, map, refl, subst, suc, sym, take, true, ℕ, ◌*◌, ◌++◌, ◌+◌, ◌<◌, ◌==◌, ◌^◌, ◌↔◌, ◌∙◌, ◌∷◌, ◌≡◌, ◌≢◌, ◌≤◌, ◌⊎◌}
 pub use Rattle.std.proofs.lemmas.Grind.{common_steps}
 pub use Rattle.std.proofs.lemmas.List.{append-nil, length-map, map_push, take_all, take_more}
 pub use Rattle.std.proofs.lemmas.List.Elements.{All-head, All-tail}
@@ -26,7 +24,7 @@ pub use Rattle.mdb_text.specs.Text.{report_text}
 pub use Rattle.mdb_text.specs.declared.outcome.Outcome.{Outcome}
 pub use Rattle.mdb_text.specs.declared.outcome.Outcome.TheVariants.{No, Yes}
 pub use Rattle.mdb_verdict.proofs.Rows.{empty, parts_of, read_at}
-pub use Rattle.mdb_verdict.proofs.Verdicts.{handed}
+pub use Rattle.mdb_verdict.proofs.Verdicts.{is_fault}
 pub use Rattle.mdb_verdict.specs.Ending.{HasTakenOrStopped}
 pub use Rattle.mdb_verdict.specs.Headline.{HaveRun, IfYes}
 pub use Rattle.mdb_verdict.specs.Rows.{AreRows}
@@ -34,11 +32,18 @@ pub use Rattle.mdb_verdict.specs.Verdict.{IsAnswer, IsNoYes, IsOwnAnswer, LeadUp
 pub use Rattle.mdb_verdict.specs.declared.fault.RunFault.{RunFault}
 pub use Rattle.mdb_verdict.specs.declared.fault.RunFault.TheVariants.{Memory, Write}
 pub use Rattle.mdb_verdict.specs.declared.verdict.TheConstants.{BYTES_MAX}
-pub use Rattle.mdb_explain.specs.Replay.{InputPart, IsForMark, all_marks, dash, mark_letter}
+pub use Rattle.mdb_explain.specs.Replay.{AreMarkRows, CanBe, DoesNotRise, HasMarkedCause, InputPart, IsForMark, IsMarkRefusal, IsMarkRow, IsOwnReplay, IsRefusedAfter, IsReplayAnswer, IsReplayed, IsStopAt, LeadUpToPart, RiseAbove, StopsAt, all_marks, dash, mark_at, mark_letter, records_in}
 pub use Rattle.mdb_explain.specs.declared.entry.Entry.{Entry}
 pub use Rattle.mdb_explain.specs.declared.fault.MarkedFault.{MarkedFault}
 pub use Rattle.mdb_explain.specs.inner.Entries.{IsBadMark, IsEntry, IsNoEntry, stop_by}
-pub use Rattle.mdb_explain.specs.inner.Explaining.{HasKept, IsNoText, IsRowsText, IsTold}
-pub use Rattle.mdb_explain.specs.inner.Explaining.{StopsKeeping, mark_line, marks_text, row_line}
-pub use Rattle.mdb_explain.specs.inner.Explaining.{rows_text}
-pub use Rattle.mdb_explain.specs.inner.Replaying.{HasReplayed, HasStopped}
+pub use Rattle.mdb_explain.specs.inner.Explaining.{HasKept, IsNoText, IsRowsText, IsTold, StopsKeeping, mark_line, marks_text, row_line, rows_text}
+pub use Rattle.mdb_explain.specs.inner.Replaying.{Finishes, HasReplayed, HasStopped, HasTakenNext, IsStoppedAt, entries_of, mark_entry}
+pub use Rattle.mdb_verdict.proofs.Headline.{FrontsAreReached, as_many, one_list}
+pub use Rattle.mdb_verdict.proofs.OneAnswer.{GoesOn, compared, one_refusal, row_not_refused, row_one}
+pub use Rattle.mdb_words.proofs.Numerals.{IsDecimal-decimal, IsDecimal-lt}
+pub use Rattle.mdb_words.specs.declared.row.RowFault.{RowFault}
+pub use Rattle.mdb_words.specs.declared.row.RowFault.TheVariants.{BadLine, BadTime, BadValue, FieldCount}
+pub use Rattle.mdb_explain.specs.Explain.{ComesTo, IsExplainText, IsExplained, IsExplanation, LeavesNo, explanation_records, explanation_text, goal_range, mark_fields, record_line}
+pub use Rattle.mdb_explain.specs.declared.replaying.Replaying.{Replaying}
+pub use Rattle.mdb_explained_runs.specs.Replays.{IsReplayReport, StandsFor, rows_of, scope_of}
+pub use Rattle.mdb_explained_runs.specs.declared.replay.ReplayFault.{ReplayFault}

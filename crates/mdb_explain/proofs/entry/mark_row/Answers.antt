@@ -1,5 +1,5 @@
 -- A mark row is refused for its number, or for its third field.
-use Rattle.mdb_explain.proofs.Words.{refl, ℕ, List, [], ◌∷◌, Mark, IsForMark, mark_letter}
+use Rattle.mdb_explain.proofs.Words.{IsForMark, List, Mark, [], mark_letter, refl, ℕ, ◌∷◌}
 use Rattle.mdb_explain.proofs.entry.mark_row.Goals as goal
 
 abbrev own : (number value : List ℕ) (mark : Mark)

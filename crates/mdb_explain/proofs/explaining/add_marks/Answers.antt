@@ -1,5 +1,5 @@
 -- The lines of the marks so far are on their way, or the writer fails at one.
-use Rattle.mdb_explain.proofs.Words.{refl, mark_line, output}
+use Rattle.mdb_explain.proofs.Words.{mark_line, output, refl}
 use Rattle.mdb_writing.proofs.Outputs as outputs
 use Rattle.mdb_explain.proofs.explaining.add_marks.Goals as goal
 

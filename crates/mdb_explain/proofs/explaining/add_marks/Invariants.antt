@@ -1,4 +1,4 @@
-use Rattle.mdb_explain.proofs.Words.{take, marks_text, Puts, output}
+use Rattle.mdb_explain.proofs.Words.{Puts, marks_text, output, take}
 use Rattle.mdb_explain.proofs.explaining.add_marks.Given as goal
 
 -- the lines of the marks so far are added

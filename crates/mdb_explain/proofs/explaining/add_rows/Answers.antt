@@ -1,5 +1,5 @@
 -- The lines of the rows so far are on their way, or the writer fails at one.
-use Rattle.mdb_explain.proofs.Words.{ap, row_line, output}
+use Rattle.mdb_explain.proofs.Words.{ap, output, row_line}
 use Rattle.mdb_writing.proofs.Outputs as outputs
 use Rattle.mdb_explain.proofs.explaining.add_rows.Goals as goal
 

@@ -1,4 +1,4 @@
-use Rattle.mdb_explain.proofs.Words.{take, rows_text, Puts, output}
+use Rattle.mdb_explain.proofs.Words.{Puts, output, rows_text, take}
 use Rattle.mdb_explain.proofs.explaining.add_rows.Given as goal
 
 -- the lines of the rows so far are added

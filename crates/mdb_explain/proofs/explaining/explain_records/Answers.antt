@@ -1,17 +1,13 @@
 -- What is answered and written goes by the verdict on the rows that are kept.
-use Rattle.mdb_explain.proofs.Words.{ap, subst, sym, ◌∙◌, Err, Ok, from_power_on, ROWS_MAX, No, Yes}
-use Rattle.mdb_explain.proofs.Words.{report_text, AreRows, IsAnswer, handed, IsNoText, IsRowsText}
-use Rattle.mdb_explain.specs.Explain.{IsExplained}
+use Rattle.mdb_explain.proofs.Words.{AreRows, Err, IsAnswer, IsNoText, IsRowsText, No, Ok, ROWS_MAX, Yes, ap, from_power_on, is_fault, report_text, subst, sym, ◌∙◌}
 use Rattle.mdb_explain.proofs.ExplainedTexts as explanations
 use Rattle.mdb_explain.proofs.explaining.explain_records.Goals as goal
 
 pub returns-in_err-report-clause-explained : goal.returns-in_err-report-clause-explained
 returns-in_err-report-clause-explained g c all to_come =
-    handed (IsExplained (from_power_on c.args.profile c.args.without) c.args.goal.now all _ _)
-    c.in_err-report.field-0.0 c.from_residual.result c.from_residual.ensures.1 (record {
+    rw (is_fault c.from_residual.result c.from_residual.ensures.1) (record {
       answer = subst (λ s. IsAnswer s ROWS_MAX all (Err c.in_err-report.field-0.0))
-          c.new-keeping.ensures.scope
-          (rw c.in_err-report.was at (c.kept_outcome.ensures.answer all to_come));
+          c.new-keeping.ensures.scope (c.in_err-report.ensures.answer all to_come);
       written = tt;
       cut = λ is. absurd ((rw c.in_err-report.was at c.kept_outcome.ensures.not_write) (cc is));
     })

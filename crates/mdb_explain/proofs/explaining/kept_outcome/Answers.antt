@@ -1,5 +1,5 @@
 -- The verdict on rows that are kept is that of `check`, and they are its rows.
-use Rattle.mdb_explain.proofs.Words.{ap, subst, Ok, IsAnswer, HasKept, StopsKeeping, ROWS_MAX}
+use Rattle.mdb_explain.proofs.Words.{HasKept, IsAnswer, Ok, ROWS_MAX, StopsKeeping, ap, subst}
 use Rattle.mdb_follow.specs.Follower.{scope_of}
 use Rattle.mdb_explain.proofs.ExplainedTexts as explanations
 use Rattle.mdb_verdict.proofs.Verdicts as verdicts
@@ -12,7 +12,7 @@ returns-in_err-read_rows-clause-answer g c all to_come =
     rw c.read_rows.ensures.keeps at (verdicts.refused_of scope ROWS_MAX all (HasKept scope keeping)
     (λ rows has. verdicts.reached c.followers_stand_for_reached_rows.ensures rows has.followed)
     (StopsKeeping scope) c.in_err-read_rows.field-0.0
-    (rw c.in_err-read_rows.was at (c.read_rows.ensures.ended all to_come))
+    (c.in_err-read_rows.ensures.ended all to_come)
     c.from_residual.result c.from_residual.ensures.1)
 
 pub returns-in-None-clause-answer : goal.returns-in-None-clause-answer

@@ -1,5 +1,5 @@
 -- Room is made for the line, or the writer fails.
-use Rattle.mdb_explain.proofs.Words.{[], output, mark_line}
+use Rattle.mdb_explain.proofs.Words.{[], mark_line, output}
 use Rattle.mdb_writing.proofs.Outputs as outputs
 use Rattle.mdb_explain.proofs.ExplainedTexts.{put_room}
 use Rattle.mdb_explain.proofs.lines.add_mark.Goals as goal

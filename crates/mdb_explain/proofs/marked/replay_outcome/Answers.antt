@@ -1,5 +1,5 @@
 -- The answer of a replay goes by how the reading of its entries ended.
-use Rattle.mdb_explain.proofs.Words.{◌∙◌, Ok, HasStopped}
+use Rattle.mdb_explain.proofs.Words.{Err, HasStopped, Ok, ap, is_fault, ◌∙◌}
 use Rattle.mdb_explained_runs.specs.Replays.{scope_of}
 use Rattle.mdb_explain.proofs.MarkAnswers as answers
 use Rattle.mdb_explain.proofs.marked.replay_outcome.Goals as goal
@@ -7,11 +7,10 @@ use Rattle.mdb_explain.proofs.marked.replay_outcome.Goals as goal
 pub returns-in_err-read_rows-clause-answer : goal.returns-in_err-read_rows-clause-answer
 returns-in_err-read_rows-clause-answer g c all to_come =
     let scope = scope_of c.read_rows.new.taker.replay in
-    rw (c.read_rows.ensures.keeps ∙ c.new-taker.ensures.scope) at
-    (answers.refused scope all c.read_rows.new.taker (HasStopped scope)
-    c.in_err-read_rows.field-0.0
-    (rw c.in_err-read_rows.was at (c.read_rows.ensures.ended all to_come))
-    c.from_residual.result c.from_residual.ensures.1)
+    rw (is_fault c.from_residual.result c.from_residual.ensures.1)
+    (rw (c.read_rows.ensures.keeps ∙ c.new-taker.ensures.scope) at
+    (answers.refused scope all c.read_rows.new.taker (HasStopped scope) _
+    (c.in_err-read_rows.ensures.ended all to_come)))
 
 pub returns-in-None-clause-answer : goal.returns-in-None-clause-answer
 returns-in-None-clause-answer g c all to_come =
@@ -23,11 +22,12 @@ returns-in-None-clause-answer g c all to_come =
 
 pub returns-in_err-stop-in-Some-clause-answer : goal.returns-in_err-stop-in-Some-clause-answer
 returns-in_err-stop-in-Some-clause-answer g c all to_come =
-    rw (c.read_rows.ensures.keeps ∙ c.new-taker.ensures.scope) at
-    (answers.stopped (scope_of c.read_rows.new.taker.replay) all c.in_err-stop-in-Some.field-0.0
+    rw (is_fault c.from_residual-in_err-stop-in-Some.result
+    c.from_residual-in_err-stop-in-Some.ensures.1)
+    (rw (c.read_rows.ensures.keeps ∙ c.new-taker.ensures.scope) at
+    (answers.stopped (scope_of c.read_rows.new.taker.replay) all _
     (rw c.in_err-stop-in-Some.was at
-    (rw c.in-Some.is at (c.in_ok-read_rows.ensures.ended all to_come)))
-    c.from_residual-in_err-stop-in-Some.result c.from_residual-in_err-stop-in-Some.ensures.1)
+    (rw c.in-Some.is at (c.in_ok-read_rows.ensures.ended all to_come)))))
 
 pub returns-clause-answer : goal.returns-clause-answer
 returns-clause-answer g c all to_come =
@@ -39,9 +39,9 @@ returns-clause-answer g c all to_come =
 pub returns-in_err-stop-in-Some-clause-heard : goal.returns-in_err-stop-in-Some-clause-heard
 returns-in_err-stop-in-Some-clause-heard g c =
     let stopped = rw c.in-Some.is at c.in_ok-read_rows.ensures.stopped in
-    answers.cause_of_stop c.in-Some.stop c.in_err-stop-in-Some.field-0.0 _ stopped.2.is.no_read
-    c.in_err-stop-in-Some.was c.from_residual-in_err-stop-in-Some.result
-    c.from_residual-in_err-stop-in-Some.ensures.1
+    rw (is_fault c.from_residual-in_err-stop-in-Some.result
+    c.from_residual-in_err-stop-in-Some.ensures.1)
+    (λ read. absurd (stopped.2.is.no_read (c.in_err-stop-in-Some.was ∙ ap Err read)))
 
 pub returns-in-None-clause-heard : goal.returns-in-None-clause-heard
 returns-in-None-clause-heard g c =

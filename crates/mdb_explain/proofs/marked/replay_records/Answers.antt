@@ -1,14 +1,13 @@
 -- The writer fails at the text of an answer.
-use Rattle.mdb_explain.proofs.Words.{◌∙◌, ap, from_power_on, ROWS_MAX, Write, handed}
+use Rattle.mdb_explain.proofs.Words.{ap, is_fault, ◌∙◌}
 use Rattle.mdb_verdict.specs.Forms.{answer_text}
 use Rattle.mdb_explain.specs.declared.fault.MarkedFault.TheVariants as marked
-use Rattle.mdb_explain.specs.Replay.{IsReplayAnswer}
 use Rattle.mdb_explain.proofs.marked.replay_records.Goals as goal
 
 pub returns-in_err-write_text-clause-answers : goal.returns-in_err-write_text-clause-answers
 returns-in_err-write_text-clause-answers g c all to_come = record {
-  answer = handed (IsReplayAnswer (from_power_on c.args.profile c.args.without) ROWS_MAX all)
-      (marked.Run Write) _ c.from_residual-in_err-write_text.ensures.1 tt;
+  answer = rw (is_fault c.from_residual-in_err-write_text.result
+      c.from_residual-in_err-write_text.ensures.1) tt;
   cut = λ refused. record {
     outcome = c.in_ok-outcome.outcome;
     is = c.in_ok-outcome.ensures.answer all to_come;

@@ -1,5 +1,5 @@
 -- A mark is added, or the replay stops at it.
-use Rattle.mdb_explain.proofs.Words.{arith, refl, common_steps}
+use Rattle.mdb_explain.proofs.Words.{arith, common_steps, refl}
 use Rattle.mdb_explain.proofs.MarkSteps as steps
 use Rattle.mdb_explain.proofs.replaying.Replaying.add.Goals as goal
 

@@ -1,13 +1,12 @@
 -- The rows that were taken have a report.
-use Rattle.mdb_verdict.proofs.Rows.{not_refused}
 use Rattle.mdb_explain.proofs.replaying.Replaying.finish.Goals as goal
 
 pub returns-in-Err-Offence-clause-finishes : goal.returns-in-Err-Offence-clause-finishes
 returns-in-Err-Offence-clause-finishes c scope taken has =
-    not_refused c.report.result _ c.in-Err-Offence.is
-    (c.report.ensures.answers has.part.rows has.part.passed has.stands)
+    cc (rw c.in-Err-Offence.is at
+    (c.report.ensures.answers has.part.rows has.part.passed has.stands))
 
 pub returns-in-Err-Mark-clause-finishes : goal.returns-in-Err-Mark-clause-finishes
 returns-in-Err-Mark-clause-finishes c scope taken has =
-    absurd (not_refused c.report.result _ c.in-Err-Mark.is
-    (c.report.ensures.answers has.part.rows has.part.passed has.stands))
+    absurd (cc (rw c.in-Err-Mark.is at
+    (c.report.ensures.answers has.part.rows has.part.passed has.stands)))

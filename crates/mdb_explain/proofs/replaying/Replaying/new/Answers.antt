@@ -1,5 +1,5 @@
 -- Before the first entry.
-use Rattle.mdb_explain.proofs.Words.{refl, subst, [], from_power_on, HasMarkedRun}
+use Rattle.mdb_explain.proofs.Words.{HasMarkedRun, [], from_power_on, refl, subst}
 use Rattle.mdb_explain.proofs.MarkSteps as steps
 use Rattle.mdb_explain.proofs.replaying.Replaying.new.Goals as goal
 

@@ -1,5 +1,5 @@
 -- Entries are taken up to the first at which the replay stops.
-use Rattle.mdb_explain.proofs.Words.{refl, sym, ◌∙◌, ◌++◌, take, append-nil}
+use Rattle.mdb_explain.proofs.Words.{append-nil, refl, sym, take, ◌++◌, ◌∙◌}
 use Rattle.mdb_explain.proofs.MarkSteps as steps
 use Rattle.mdb_explain.proofs.replaying.Replaying.take_each.Goals as goal
 

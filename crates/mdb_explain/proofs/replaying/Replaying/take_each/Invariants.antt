@@ -1,4 +1,4 @@
-use Rattle.mdb_explain.proofs.Words.{◌≡◌, ◌++◌, List, take, Scope, Entry, HasReplayed}
+use Rattle.mdb_explain.proofs.Words.{Entry, HasReplayed, List, Scope, take, ◌++◌, ◌≡◌}
 use Rattle.mdb_explained_runs.specs.Replays.{scope_of}
 use Rattle.mdb_explain.proofs.replaying.Replaying.take_each.Given as goal
 

@@ -1,5 +1,5 @@
 -- The rows are taken as the entries that they are.
-use Rattle.mdb_explain.proofs.Words.{subst, sym, HasTakenOrStopped, HasReplayed, HasStopped}
+use Rattle.mdb_explain.proofs.Words.{HasReplayed, HasStopped, HasTakenOrStopped, subst, sym}
 use Rattle.mdb_explained_runs.specs.Replays.{scope_of}
 use Rattle.mdb_explain.proofs.replaying.ReplayingTakeRowsUnit.take_all.Goals as goal
 
