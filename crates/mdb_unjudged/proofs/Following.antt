@@ -1,15 +1,7 @@
 -- What a follower stands for that heeds the feature levels, row by row.
-use Rattle.std.proofs.Common.{arith, add-one, refl, ap, sym, subst, ◌∙◌, ◌≡◌, ◌+◌, ◌<◌, ◌≤◌, ℕ, List, [], ◌∷◌, ◌++◌, Option, Some, None, length, length-append, append_assoc, take, drop, get_or}
+use Rattle.mdb_unjudged.proofs.Words.{Bool, Event, HasFollowed, HasRefused, IsActList, IsSomeAnd, Judging, Levels, List, MeetsAmong, Met, None, Option, Piece, RefusesAmong, Scope, Some, SomeRefused, [], acts_of, add-one, ap, append_assoc, arith, begins_block, drop, false, get_or, get_or_at, is_joined, known_before, last_begun, last_of, length, length-append, option_or, refl, reported, reported_if, subst, sym, take, take_all, take_at, take_more, true, unjudged, with_act, ℕ, ◌++◌, ◌+◌, ◌<◌, ◌∙◌, ◌∷◌, ◌≡◌, ◌≤◌}
 use Rattle.std.proofs.Math.Seq.{split_at}
-use Rattle.std.proofs.lemmas.List.{take_all, take_more, get_or_at, take_at}
-use Rattle.std.specs.Prelude.{IfSome, IsSomeAnd, Bool, true, false}
-use Rattle.std.specs.Option.{IfNone, option_or}
-use Rattle.mdb_words.specs.declared.event.Event.{Event}
 use Rattle.mdb_bus.specs.declared.act.Act.{Act}
-use Rattle.mdb_bus.specs.declared.levels.Levels.{Levels}
-use Rattle.mdb_bus.specs.declared.scope.Scope.{Scope}
-use Rattle.mdb_bus.specs.ActLists.{IsActList, Piece, acts_of, last_of}
-use Rattle.mdb_bus.specs.Pieces.{with_act}
 use Rattle.mdb_bus.specs.declared.fault.Blame.{Blame}
 use Rattle.mdb_bus.specs.declared.fault.Rule.{Rule}
 use Rattle.mdb_follow.specs.declared.offence.Offence.{Offence}
@@ -18,10 +10,6 @@ use Rattle.mdb_follow.specs.Feeding as feeding
 use Rattle.mdb_follow.specs.Feeding.{HasTakenRows}
 use Rattle.mdb_follow.specs.Follower as follow
 use Rattle.mdb_follow.specs.Offences.{IsOffence}
-use Rattle.mdb_unjudged.specs.declared.judging.Judging.{Judging}
-use Rattle.mdb_unjudged.specs.declared.judging.Met.{Met}
-use Rattle.mdb_unjudged.specs.Unjudged.{begins_block, is_joined, known_before, last_begun, reported, reported_if, unjudged}
-use Rattle.mdb_unjudged.specs.inner.Steps.{HasFollowed, HasRefused, MeetsAmong, RefusesAmong, SomeRefused}
 use Rattle.mdb_follow.specs.FirstOffences.{HasOffence}
 
 -- a transcript has one act list

@@ -1,2 +1,3 @@
 mod Following
 mod Verdicts
+mod Words

@@ -1,22 +1,10 @@
 -- Whether the verdict is judged, by how the reading of rows ended.
-use Rattle.std.proofs.Common.{arith, refl, sym, ◌≡◌, ℕ, List, ◌++◌, Option, Some, None, Ok}
-use Rattle.mdb_words.specs.declared.event.Event.{Event}
-use Rattle.mdb_words.specs.Row.{IsRow}
-use Rattle.mdb_bus.specs.declared.levels.Levels.{Levels}
-use Rattle.mdb_bus.specs.declared.scope.Scope.{Scope}
-use Rattle.mdb_bus.specs.ActLists.{last_of}
-use Rattle.mdb_follow.specs.Follower.{HasAccepted, StandsFor, offence_of}
+use Rattle.mdb_unjudged.proofs.Words.{Event, HasAccepted, HasRefused, HasTaken, IsRow, IsSpared, IsStopped, IsTakenWhole, IsYes, Judging, Levels, List, MeetsAmong, Met, None, Ok, Option, Scope, Some, StandsFor, arith, last_of, offence_of, refl, sym, ℕ, ◌++◌, ◌≡◌}
 use Rattle.mdb_text.specs.declared.outcome.Outcome.{Outcome}
 use Rattle.mdb_text.specs.declared.outcome.Outcome.TheVariants.{No, Yes}
-use Rattle.mdb_verdict.specs.Ending.{IsStopped, IsTakenWhole}
-use Rattle.mdb_verdict.specs.Verdict.{IsYes}
 use Rattle.mdb_verdict.proofs.Rows.{fewer, read_at}
 use Rattle.mdb_verdict.proofs.Verdicts.{lead_up}
-use Rattle.mdb_unjudged.specs.declared.judging.Judging.{Judging}
-use Rattle.mdb_unjudged.specs.declared.judging.Met.{Met}
-use Rattle.mdb_unjudged.specs.Spared.{IsSpared}
 use Rattle.mdb_unjudged.specs.Verdict.{IsJudgedAnswer, IsJudgedNo}
-use Rattle.mdb_unjudged.specs.inner.Steps.{HasRefused, HasTaken, MeetsAmong}
 
 -- where all rows were taken it is no no
 pub whole_judged : {scope : Scope} (taken : Scope) {readers : Levels} {limit : ℕ}

@@ -1,8 +1,5 @@
-use Rattle.std.proofs.Common.{[], ◌∷◌, subst, sym}
-use Rattle.std.specs.Prelude.{◌↔◌, IsTrue}
-use Rattle.mdb_unjudged.specs.Spared.{CouldBe}
+use Rattle.mdb_unjudged.proofs.Words.{CouldBe, HasActList, IsTrue, [], subst, sym, ◌↔◌, ◌∷◌}
 use Rattle.mdb_unjudged.proofs.spared.could_be.Goals as goal
-use Rattle.mdb_bus.specs.Pieces.{HasActList}
 
 pub returns-in-Early : goal.returns-in-Early
 returns-in-Early c rows pieces whole in_scope last on_bus =

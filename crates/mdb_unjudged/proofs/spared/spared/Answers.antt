@@ -1,8 +1,6 @@
-use Rattle.std.proofs.Common.{ap, subst, sym, ◌∙◌, ◌≡◌}
-use Rattle.std.specs.Prelude.{◌↔◌, true, false, IsTrue}
+use Rattle.mdb_unjudged.proofs.Words.{CouldBe, IsTrue, ap, false, subst, sym, true, ◌↔◌, ◌∙◌, ◌≡◌}
 use Rattle.mdb_bus.specs.Bus as links
 use Rattle.mdb_unjudged.specs.Spared as spec
-use Rattle.mdb_unjudged.specs.Spared.{CouldBe}
 use Rattle.mdb_unjudged.proofs.spared.spared.Goals as goal
 
 pub returns-then-could_be : goal.returns-then-could_be

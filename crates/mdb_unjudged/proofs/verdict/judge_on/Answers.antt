@@ -1,11 +1,6 @@
 -- The verdict is that of the rows which were read, and the fault of a reading is handed on.
-use Rattle.std.proofs.Common.{subst, ◌∙◌, Ok, refl}
-use Rattle.mdb_words.specs.Row.{IsRow}
-use Rattle.mdb_verdict.specs.Ending.{IsStopped}
-use Rattle.mdb_verdict.specs.Verdict.{IsAnswer}
-use Rattle.mdb_follow.specs.Follower.{scope_of}
+use Rattle.mdb_unjudged.proofs.Words.{HasTaken, IsAnswer, IsRow, IsStopped, MeetsAmong, Ok, refl, scope_of, subst, ◌∙◌}
 use Rattle.mdb_verdict.proofs.Verdicts as verdicts
-use Rattle.mdb_unjudged.specs.inner.Steps.{HasTaken, MeetsAmong}
 use Rattle.mdb_unjudged.proofs.Verdicts.{judged_no, whole_judged}
 use Rattle.mdb_unjudged.proofs.verdict.judge_on.Goals as goal
 

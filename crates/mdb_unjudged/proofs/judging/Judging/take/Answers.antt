@@ -1,8 +1,6 @@
-use Rattle.std.proofs.Common.{ap, refl, ◌∙◌}
-use Rattle.std.specs.Option.{option_or}
+use Rattle.mdb_unjudged.proofs.Words.{ap, option_or, refl, reported_if, ◌∙◌}
 use Rattle.mdb_bus.specs.Bus.{ended_act}
 use Rattle.mdb_follow.specs.Follower as follow
-use Rattle.mdb_unjudged.specs.Unjudged.{reported_if}
 use Rattle.mdb_unjudged.proofs.Following.{refused_by, taken_more}
 use Rattle.mdb_unjudged.proofs.judging.Judging.take.Goals as goal
 

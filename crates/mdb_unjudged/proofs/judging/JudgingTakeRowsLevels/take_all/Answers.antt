@@ -1,9 +1,5 @@
 -- The rows are taken, or what was met at the first that is refused is told.
-use Rattle.std.proofs.Common.{arith, ap, refl, subst, sym, ◌∙◌, ◌-◌, ◌++◌, length}
-use Rattle.std.proofs.lemmas.List.{take_all}
-use Rattle.mdb_bus.specs.ActLists.{last_of}
-use Rattle.mdb_follow.specs.Follower.{rows_of, scope_of}
-use Rattle.mdb_unjudged.specs.inner.Steps.{HasFollowed, MeetsAmong}
+use Rattle.mdb_unjudged.proofs.Words.{HasFollowed, MeetsAmong, ap, arith, last_of, length, refl, rows_of, scope_of, subst, sym, take_all, ◌++◌, ◌-◌, ◌∙◌}
 use Rattle.mdb_unjudged.proofs.Following.{front_within, met_there, taken_among}
 use Rattle.mdb_unjudged.proofs.judging.JudgingTakeRowsLevels.take_all.Goals as goal
 
