@@ -1,16 +1,12 @@
 -- The lines of a survey have no float.
-use Rattle.std.proofs.Common.{refl, ◌≡◌, ◌==◌, Bool, true, false, if◌then◌else◌}
+use Rattle.mdb_survey.proofs.Words.{refl, ◌≡◌, ◌==◌, Bool, true, false, if◌then◌else◌, has_float, Stretch, Summary, device_member, device_total, devices_total, some_total, stretch_data, summary_data, total_data}
 use Rattle.serde_json.specs.Data.{Data, null}
-use Rattle.serde_json.specs.Written.{has_float}
 use Rattle.mdb_msgs.specs.declared.command.Device.{Device}
 use Rattle.mdb_bus.specs.declared.scope.Profile.{Profile}
 use Rattle.mdb_bus.specs.declared.scope.Profile.TheVariants.{Base, Extended}
 use Rattle.mdb_follow.specs.declared.report.TheConstants.Report.{DEVICES}
 use Rattle.mdb_json.proofs.Floats.{of_accounts, of_untimely, of_yes}
 use Rattle.mdb_json.proofs.Objects.{without_float}
-use Rattle.mdb_stretches.specs.declared.stretch.Stretch.{Stretch}
-use Rattle.mdb_stretches.specs.declared.summary.Summary.{Summary}
-use Rattle.mdb_survey.specs.SurveyJson.{device_member, device_total, devices_total, some_total, stretch_data, summary_data, total_data}
 
 pub of_stretch : (stretch : Stretch) → has_float (stretch_data stretch) ≡ false
 of_stretch stretch = rw (of_yes stretch.scope stretch.report) refl

@@ -1,3 +1,4 @@
+pub mod Words
 pub mod Floats
 pub mod NoRows
 pub mod OneSurvey

@@ -1,8 +1,6 @@
 -- No rows have a report too: nothing has moved.
-use Rattle.std.proofs.Common.{arith, refl, ap, ◌≡◌, List, [], ◌∷◌, ◌++◌, length, length-append}
-use Rattle.mdb_words.specs.declared.event.Event.{Event}
+use Rattle.mdb_survey.proofs.Words.{arith, refl, ap, ◌≡◌, List, [], ◌∷◌, ◌++◌, length, length-append, Event, Scope, AllSums, IsReached, Run}
 use Rattle.mdb_bus.specs.ActLists.{ArePieces, Piece, events_of, piece_events}
-use Rattle.mdb_bus.specs.declared.scope.Scope.{Scope}
 use Rattle.mdb_follow.specs.declared.account_name.AccountName.{AccountName}
 use Rattle.mdb_follow.specs.declared.follower.Follower.{Follower}
 use Rattle.mdb_follow.specs.declared.report.Report.{Report}
@@ -10,7 +8,6 @@ use Rattle.mdb_follow.specs.AccountNames.{account_device, account_slot, sums_of}
 use Rattle.mdb_follow.specs.Follower.{StandsFor, scope_of}
 use Rattle.mdb_follow.specs.Ranges.{no_account}
 use Rattle.mdb_follow.specs.Report.{IsReport, report_of}
-use Rattle.mdb_follow.specs.Runs.{AllSums, IsReached, Run}
 use Rattle.mdb_follow.specs.Sums.{Sums}
 use Rattle.mdb_follow.proofs.Ends.{account-none}
 

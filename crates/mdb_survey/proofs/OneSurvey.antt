@@ -1,17 +1,5 @@
 -- The records of a text are surveyed in one way.
-use Rattle.std.proofs.Common.{Err, List, Ok, Result, [], ap, ap₂, arith, length, refl, sym, ℕ, ◌++◌, ◌∙◌, ◌∷◌, ◌≡◌, ◌≤◌}
-use Rattle.mdb_bus.specs.declared.scope.Scope.{Scope}
-use Rattle.mdb_follow.specs.declared.follower.TheConstants.{ROWS_MAX}
-use Rattle.mdb_stretches.specs.Stretches.{IsSurvey}
-use Rattle.mdb_stretches.specs.Summaries.{summary_of}
-use Rattle.mdb_stretches.specs.declared.stretch.Ended.{Ended}
-use Rattle.mdb_stretches.specs.declared.stretch.Stretch.{Stretch}
-use Rattle.mdb_stretches.specs.declared.summary.Summary.{Summary}
-use Rattle.mdb_survey.specs.Survey.{AreSurveyed, IsSurveying}
-use Rattle.mdb_survey_text.specs.Lines.{LineForm, lines_of}
-use Rattle.mdb_verdict.specs.declared.fault.RunFault.{RunFault}
-use Rattle.mdb_verdict.specs.declared.fault.RunFault.TheVariants.{BadRow, Memory, Read, TooLong, Write}
-use Rattle.mdb_words.specs.declared.event.Event.{Event}
+use Rattle.mdb_survey.proofs.Words.{Err, List, Ok, Result, [], ap, ap₂, arith, length, refl, sym, ℕ, ◌++◌, ◌∙◌, ◌∷◌, ◌≡◌, ◌≤◌, Scope, ROWS_MAX, IsSurvey, summary_of, Ended, Stretch, Summary, AreSurveyed, IsSurveying, LineForm, lines_of, RunFault, BadRow, Memory, Read, TooLong, Write, Event}
 use Rattle.mdb_verdict.proofs.OneAnswer.{Ending, EndsBy, SaysOne, one_ending}
 use Rattle.mdb_verdict.specs.Verdict.{IsOwnAnswer}
 

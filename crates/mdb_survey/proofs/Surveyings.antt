@@ -1,27 +1,9 @@
 -- What the survey is, by how the reading of rows ended.
-use Rattle.std.proofs.Common.{Err, IfErr, List, Ok, Result, [], append_assoc, arith, inl, inr, refl, ℕ, ◌++◌, ◌+◌, ◌-◌, ◌∙◌, ◌∷◌, ◌≡◌}
-use Rattle.mdb_bus.specs.declared.scope.Scope.{Scope}
-use Rattle.mdb_follow.specs.declared.follower.TheConstants.{ROWS_MAX}
-use Rattle.mdb_stretches.specs.Stretches.{IsSurvey}
-use Rattle.mdb_stretches.specs.Summaries.{summary_of}
-use Rattle.mdb_stretches.specs.Surveyor.{StandsFor, rows_of}
-use Rattle.mdb_stretches.specs.declared.stretch.Ended.{Ended}
-use Rattle.mdb_stretches.specs.declared.stretch.Stretch.{Stretch}
-use Rattle.mdb_stretches.specs.declared.summary.Summary.{Summary}
-use Rattle.mdb_stretches.specs.declared.surveyor.Surveyor.{Surveyor}
-use Rattle.mdb_survey.specs.Survey.{AreSurveyed, IsSurveyedInPart, IsSurveying}
-use Rattle.mdb_survey.specs.inner.SurveySteps.{HasAddedEnd, HasAddedLast, HasStopped, HasSurveyed, LeadInto, PutsSurveying}
-use Rattle.mdb_survey_text.specs.Lines.{LineForm, lines_of}
-use Rattle.mdb_verdict.proofs.Tellings.{not_taken_of_output}
+use Rattle.mdb_survey.proofs.Words.{Err, IfErr, List, Ok, Result, [], append_assoc, arith, inl, inr, refl, ℕ, ◌++◌, ◌+◌, ◌-◌, ◌∙◌, ◌∷◌, ◌≡◌, Scope, ROWS_MAX, IsSurvey, summary_of, rows_of, Ended, Stretch, Summary, Surveyor, AreSurveyed, IsSurveyedInPart, IsSurveying, HasAddedEnd, HasAddedLast, HasStopped, HasSurveyed, LeadInto, PutsSurveying, LineForm, lines_of, not_taken_of_output, IsNotTaken, IsOfOutput, RunFault, BadRow, Memory, Read, TooLong, Write, Event, break_both, put_both, Output, Puts}
+use Rattle.mdb_stretches.specs.Surveyor.{StandsFor}
 use Rattle.mdb_verdict.specs.Ending.{AreRead, FindsUpTo, HasEnded, IsStopped, IsTakenInPart, IsTakenWhole}
-use Rattle.mdb_verdict.specs.Telling.{IsNotTaken, IsOfOutput}
-use Rattle.mdb_verdict.specs.declared.fault.RunFault.{RunFault}
-use Rattle.mdb_verdict.specs.declared.fault.RunFault.TheVariants.{BadRow, Memory, Read, TooLong, Write}
 use Rattle.mdb_words.specs.Refusals.{IsRefusal}
 use Rattle.mdb_words.specs.Row.{IsRow}
-use Rattle.mdb_words.specs.declared.event.Event.{Event}
-use Rattle.mdb_writing.proofs.Outputs.{break_both, put_both}
-use Rattle.mdb_writing.specs.Output.{Output, Puts}
 use Rattle.mdb_verdict.proofs.Rows.{read_before}
 use Rattle.mdb_survey.proofs.NoRows.{NoneAreReached}
 use Rattle.mdb_survey.proofs.Surveys.{lead_into}

@@ -1,20 +1,7 @@
 -- How far the lines of some rows have come.
-use Rattle.std.proofs.Common.{arith, refl, ap, sym, subst, ◌∙◌, ◌≡◌, ◌+◌, ℕ, List, [], ◌∷◌, ◌++◌, Option, length, length-append, append_assoc}
-use Rattle.mdb_words.specs.declared.event.Event.{Event}
-use Rattle.mdb_bus.specs.declared.scope.Scope.{Scope}
-use Rattle.mdb_follow.specs.Runs.{IsReached}
-use Rattle.mdb_stretches.specs.declared.stretch.Ended.{Ended}
-use Rattle.mdb_stretches.specs.declared.surveyor.Surveyor.{Surveyor}
-use Rattle.mdb_stretches.specs.Stretches.{LeadFrom, first_place, stretch_at}
-use Rattle.mdb_stretches.specs.Surveyor.{EndsAmong, StandsFor, rows_of}
+use Rattle.mdb_survey.proofs.Words.{arith, refl, ap, sym, subst, ◌∙◌, ◌≡◌, ◌+◌, ℕ, List, [], ◌∷◌, ◌++◌, Option, length, length-append, append_assoc, Event, Scope, IsReached, Ended, Surveyor, LeadFrom, first_place, stretch_at, EndsAmong, rows_of, RunFault, Write, Memory, IsNotTaken, Output, Puts, begun, output, break_both, put_begun, put_both, HasStopped, HasSurveyed, LeadInto, LineForm, ended_lines, lines_of}
+use Rattle.mdb_stretches.specs.Surveyor.{StandsFor}
 use Rattle.mdb_stretches.proofs.Parts.{cut_at}
-use Rattle.mdb_verdict.specs.declared.fault.RunFault.{RunFault}
-use Rattle.mdb_verdict.specs.declared.fault.RunFault.TheVariants.{Write, Memory}
-use Rattle.mdb_verdict.specs.Telling.{IsNotTaken}
-use Rattle.mdb_writing.specs.Output.{Output, Puts, begun, output}
-use Rattle.mdb_writing.proofs.Outputs.{break_both, put_begun, put_both}
-use Rattle.mdb_survey.specs.inner.SurveySteps.{HasStopped, HasSurveyed, LeadInto}
-use Rattle.mdb_survey_text.specs.Lines.{LineForm, ended_lines, lines_of}
 use Rattle.mdb_survey.proofs.NoRows.{NoneAreReached, is_report_on_none, report_on_none}
 
 -- before the first row

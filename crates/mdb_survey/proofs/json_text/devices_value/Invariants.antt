@@ -1,8 +1,7 @@
 -- The devices so far are members.
-use Rattle.std.proofs.Common.{◌≡◌, map, take}
+use Rattle.mdb_survey.proofs.Words.{◌≡◌, map, take, device_member}
 use Rattle.serde_json.specs.View.{members_view}
 use Rattle.mdb_json.specs.Reports.{members}
-use Rattle.mdb_survey.specs.SurveyJson.{device_member}
 use Rattle.mdb_survey.proofs.json_text.devices_value.Given as goal
 
 abbrev pub invariant-loop-device : goal.invariant-loop-device

@@ -1,6 +1,5 @@
 -- The value of a summary has no float.
-use Rattle.std.proofs.Common.{ap, ◌∙◌}
-use Rattle.serde_json.specs.Written.{has_float}
+use Rattle.mdb_survey.proofs.Words.{ap, ◌∙◌, has_float}
 use Rattle.mdb_survey.proofs.Floats.{of_summary}
 use Rattle.mdb_survey.proofs.json_text.push_summary.Goals as goal
 

@@ -1,10 +1,5 @@
 -- The survey is written out at the end.
-use Rattle.std.proofs.Common.{refl, ◌-◌, IsErr}
-use Rattle.mdb_bus.specs.Scopes.{profile_of}
-use Rattle.mdb_records.specs.ToCome.{found_by}
-use Rattle.mdb_writing.specs.Output.{output}
-use Rattle.mdb_survey.specs.Survey.{IsSurveying, survey_lines_in}
-use Rattle.mdb_verdict.proofs.Tellings.{reads_finished, told}
+use Rattle.mdb_survey.proofs.Words.{refl, ◌-◌, IsErr, profile_of, found_by, output, IsSurveying, survey_lines_in, reads_finished, told}
 use Rattle.mdb_survey.proofs.surveying.survey_records.Goals as goal
 
 pub returns-clause-surveys : goal.returns-clause-surveys

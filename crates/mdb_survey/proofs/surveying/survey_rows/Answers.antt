@@ -1,16 +1,5 @@
 -- What is surveyed goes by how the reading of rows ended, and so does what is told of that.
-use Rattle.std.proofs.Common.{Err, IsErr, List, Ok, Result, ap, refl, rules, subst, ℕ, ◌≡◌}
-use Rattle.mdb_bus.specs.Scopes.{profile_of}
-use Rattle.mdb_bus.specs.declared.scope.Scope.{Scope}
-use Rattle.mdb_records.specs.ToCome.{found_by}
-use Rattle.mdb_stretches.specs.declared.summary.Summary.{Summary}
-use Rattle.mdb_survey.specs.Survey.{survey_lines_in}
-use Rattle.mdb_survey.specs.inner.SurveySteps.{PutsSurveying}
-use Rattle.mdb_text.specs.declared.form.Form.{Form}
-use Rattle.mdb_verdict.proofs.Tellings.{reads_all, reads_fault, reads_output}
-use Rattle.mdb_verdict.proofs.Verdicts.{is_fault}
-use Rattle.mdb_verdict.specs.declared.fault.RunFault.{RunFault}
-use Rattle.mdb_writing.specs.Output.{Output, begun, output}
+use Rattle.mdb_survey.proofs.Words.{Err, IsErr, List, Ok, Result, ap, refl, rules, subst, ℕ, ◌≡◌, profile_of, Scope, found_by, Summary, survey_lines_in, PutsSurveying, Form, reads_all, reads_fault, reads_output, is_fault, RunFault, Output, begun, output}
 use Rattle.mdb_survey.proofs.NoRows.{none_are_reached}
 use Rattle.mdb_survey.proofs.Surveyings as surveyings
 use Rattle.mdb_survey.proofs.surveying.survey_rows.Goals as goal

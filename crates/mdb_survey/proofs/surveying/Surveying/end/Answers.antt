@@ -1,5 +1,5 @@
 -- The last lines are added, or a fault is handed on.
-use Rattle.mdb_verdict.proofs.Verdicts.{is_fault}
+use Rattle.mdb_survey.proofs.Words.{is_fault}
 use Rattle.mdb_survey.proofs.Surveyings.{end_refused}
 use Rattle.mdb_survey.proofs.surveying.Surveying.end.Goals as goal
 

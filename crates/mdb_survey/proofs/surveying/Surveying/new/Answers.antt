@@ -1,6 +1,5 @@
 -- A new surveying has surveyed no rows.
-use Rattle.mdb_bus.specs.Scopes.{profile_of}
-use Rattle.mdb_survey.specs.Survey.{survey_lines_in}
+use Rattle.mdb_survey.proofs.Words.{profile_of, survey_lines_in}
 use Rattle.mdb_survey.proofs.Surveys.{begins}
 use Rattle.mdb_survey.proofs.surveying.Surveying.new.Goals as goal
 

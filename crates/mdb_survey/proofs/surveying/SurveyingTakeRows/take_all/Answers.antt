@@ -1,8 +1,5 @@
 -- The rows are taken up to each that ends a stretch, and then the others.
-use Rattle.std.proofs.Common.{ap}
-use Rattle.mdb_bus.specs.declared.scope.Scope.{Scope}
-use Rattle.mdb_text.specs.declared.form.Form.{Form}
-use Rattle.mdb_writing.specs.Output.{begun, output}
+use Rattle.mdb_survey.proofs.Words.{ap, Scope, Form, begun, output}
 use Rattle.mdb_survey.proofs.NoRows.{none_are_reached}
 use Rattle.mdb_survey.proofs.Surveys.{goes_all, goes_more, goes_no_more}
 use Rattle.mdb_survey.proofs.surveying.SurveyingTakeRows.take_all.Goals as goal

@@ -1,10 +1,5 @@
 -- The rows before the rest are taken.
-use Rattle.std.proofs.Common.{◌≡◌, length}
-use Rattle.mdb_bus.specs.declared.scope.Scope.{Scope}
-use Rattle.mdb_bus.specs.Scopes.{profile_of}
-use Rattle.mdb_text.specs.declared.form.Form.{Form}
-use Rattle.mdb_writing.specs.Output.{output}
-use Rattle.mdb_survey.specs.Survey.{survey_lines_in}
+use Rattle.mdb_survey.proofs.Words.{◌≡◌, length, Scope, profile_of, Form, output, survey_lines_in}
 use Rattle.mdb_survey.proofs.Surveys.{Goes}
 use Rattle.mdb_survey.proofs.surveying.SurveyingTakeRows.take_all.Given as goal
 
