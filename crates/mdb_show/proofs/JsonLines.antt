@@ -1,8 +1,6 @@
 -- The bytes that are put for a line are those of its object.
-use Rattle.std.proofs.Common.{arith, refl, ap, ap₂, sym, subst, ◌∙◌, ◌≡◌, ◌+◌, ◌/◌, ◌%◌, ◌<◌, ℕ, suc, Bool, true, false, List, [], ◌∷◌, ◌++◌, append_assoc, get_or, nat_lt, Result, Ok, Err}
+use Rattle.mdb_show.proofs.Words.{arith, refl, ap, ap₂, sym, subst, ◌∙◌, ◌≡◌, ◌+◌, ◌/◌, ◌%◌, ◌<◌, ℕ, suc, Bool, true, false, List, [], ◌∷◌, ◌++◌, append_assoc, get_or, nat_lt, Result, Ok, Err, OnOk, codes, decimal, digit_glyph, Act, Blame, LinkFault, Rule, act_data, block_members, cut_data, deed_data, device_members, fault_data, hex_text, json_lines, rows_members, bytes_text, act_json, blame_json, block_json, bytes_json, deed_json, device_json, fault_json, head_json, rows_json, rows_only_json, rule_json}
 use Rattle.std.proofs.lemmas.Bool.{ltb-true, ltb-false}
-use Rattle.std.specs.Prelude.{OnOk, codes}
-use Rattle.std.specs.Fmt.{decimal, digit_glyph}
 use Rattle.json.specs.Print.{escape, escape_byte}
 use Rattle.json.proofs.OnLiterals.{json_on_literals}
 use Rattle.json.proofs.Printed.Strings.{escape_byte_plain}
@@ -11,22 +9,15 @@ use Rattle.serde_json.specs.Written.{compact_text, members_text}
 use Rattle.mdb_blocks.specs.Block.{block_of}
 use Rattle.mdb_msgs.specs.declared.command.Command.{Command}
 use Rattle.mdb_msgs.specs.declared.command.Device.{Device}
-use Rattle.mdb_msgs.specs.declared.command.Device.TheVariants.{Changer, Bill, Reader}
-use Rattle.mdb_msgs.specs.declared.command.ReaderUnit.TheVariants.{First, Second}
+use Rattle.mdb_msgs.specs.declared.command.Device.TheVariants.{Reader}
+use Rattle.mdb_msgs.specs.declared.command.ReaderUnit.TheVariants.{First}
 use Rattle.mdb_msgs.specs.Commands.{command_bytes, device_of}
 use Rattle.mdb_msgs.specs.Devices.{device_word}
 use Rattle.mdb_msgs.specs.Replies.{reply_bytes}
-use Rattle.mdb_bus.specs.declared.act.Act.{Act}
 use Rattle.mdb_bus.specs.declared.act.Act.TheVariants as acts
-use Rattle.mdb_bus.specs.declared.fault.Blame.{Blame}
 use Rattle.mdb_bus.specs.declared.fault.Blame.TheVariants as blame
-use Rattle.mdb_bus.specs.declared.fault.LinkFault.{LinkFault}
-use Rattle.mdb_bus.specs.declared.fault.Rule.{Rule}
 use Rattle.mdb_bus.specs.declared.fault.Rule.TheVariants as rule
 use Rattle.mdb_bus.specs.FaultWords.{blame_word, rule_word}
-use Rattle.mdb_show.specs.ShowJson.{act_data, block_members, cut_data, deed_data, device_members, fault_data, hex_text, json_lines, rows_members}
-use Rattle.mdb_show.specs.ShowText.{bytes_text}
-use Rattle.mdb_show.specs.inner.JsonLines.{act_json, blame_json, block_json, bytes_json, deed_json, device_json, fault_json, head_json, rows_json, rows_only_json, rule_json}
 use Rattle.mdb_text.specs.Text.{line}
 
 -- a word in which nothing needs an escape

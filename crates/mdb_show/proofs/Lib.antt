@@ -1,3 +1,4 @@
+pub mod Words
 pub mod JsonLines
 pub mod OneShowing
 pub mod SameFault

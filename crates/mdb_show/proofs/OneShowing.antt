@@ -1,21 +1,5 @@
 -- The records of a text are shown in one way.
-use Rattle.std.proofs.Common.{Err, List, None, Ok, Option, Result, Some, [], ap₂, arith, length, refl, sym, ℕ, ◌++◌, ◌+◌, ◌<◌, ◌∙◌, ◌∷◌, ◌≡◌, ◌≤◌}
-use Rattle.mdb_bus.specs.ActLists.{ArePieces, IsActList, Piece, events_of}
-use Rattle.mdb_bus.specs.LinkFaults.{IsLinkFault, RowBreaks, situation_of}
-use Rattle.mdb_bus.specs.Pieces.{HasActList}
-use Rattle.mdb_bus.specs.declared.fault.Blame.{Blame}
-use Rattle.mdb_bus.specs.declared.fault.LinkFault.{LinkFault}
-use Rattle.mdb_bus.specs.declared.fault.Rule.{Rule}
-use Rattle.mdb_bus.specs.declared.scope.Scope.{Scope}
-use Rattle.mdb_follow.specs.declared.follower.TheConstants.{ROWS_MAX}
-use Rattle.mdb_show.specs.Lines.{LineForm, closed_pieces, lines_of}
-use Rattle.mdb_show.specs.Show.{AreShown, IsShowingIn}
-use Rattle.mdb_verdict.proofs.OneAnswer.{Ending, EndsBy, SaysOne, one_ending, row_one}
-use Rattle.mdb_verdict.specs.Verdict.{IsOwnAnswer}
-use Rattle.mdb_verdict.specs.declared.fault.RunFault.{RunFault}
-use Rattle.mdb_verdict.specs.declared.fault.RunFault.TheVariants.{BadRow, Memory, Read, TooLong, Write}
-use Rattle.mdb_words.specs.Row.{IsRow}
-use Rattle.mdb_words.specs.declared.event.Event.{Event}
+use Rattle.mdb_show.proofs.Words.{Err, List, None, Ok, Option, Result, Some, [], ap₂, arith, length, refl, sym, ℕ, ◌++◌, ◌+◌, ◌<◌, ◌∙◌, ◌∷◌, ◌≡◌, ◌≤◌, ArePieces, IsActList, Piece, events_of, IsLinkFault, RowBreaks, situation_of, HasActList, Blame, LinkFault, Rule, Scope, ROWS_MAX, LineForm, closed_pieces, lines_of, AreShown, IsShowingIn, Ending, EndsBy, SaysOne, one_ending, row_one, IsOwnAnswer, RunFault, BadRow, Memory, Read, TooLong, Write, IsRow, Event}
 
 -- what the laws of the bus say
 pub record BusLaws (scope : Scope) : Type 0 where

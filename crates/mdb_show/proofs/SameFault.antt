@@ -1,22 +1,7 @@
 -- A fault of the link that `show` ends with is that of the verdict, unless a machine ends the
 -- verdict before.
-use Rattle.std.proofs.Common.{Bool, Err, List, Ok, Result, [], ap, append_assoc, arith, false, if◌then◌else◌, inl, inr, length, length-append, refl, subst, sym, true, ℕ, ◌&&◌, ◌++◌, ◌+◌, ◌∙◌, ◌∷◌, ◌≡◌, ◌⊎◌}
-use Rattle.std.proofs.lemmas.List.{append-nil}
-use Rattle.mdb_bus.specs.ActLists.{ArePieces, Piece, Whole, events_of}
-use Rattle.mdb_bus.specs.LinkFaults.{IsLinkFault}
-use Rattle.mdb_bus.specs.Pieces.{HasActList}
-use Rattle.mdb_bus.specs.declared.fault.LinkFault.{LinkFault}
-use Rattle.mdb_bus.specs.declared.scope.Profile.{Profile}
-use Rattle.mdb_bus.specs.declared.scope.Scope.{Scope}
-use Rattle.mdb_follow.specs.declared.follower.TheConstants.{ROWS_MAX}
-use Rattle.mdb_show.specs.Lines.{LineForm}
-use Rattle.mdb_show.specs.Show.{IsShownToFaultIn}
-use Rattle.mdb_verdict.proofs.OneAnswer.{GoesOn, compared, row_not_refused, row_one}
-use Rattle.mdb_verdict.specs.Verdict.{IsAnswer, IsImpossible, IsOwnAnswer, LeadUpTo}
-use Rattle.mdb_verdict.specs.declared.fault.RunFault.{RunFault}
-use Rattle.mdb_verdict.specs.declared.fault.RunFault.TheVariants.{BadRow, TooLong}
-use Rattle.mdb_words.specs.Row.{IsRow}
-use Rattle.mdb_words.specs.declared.event.Event.{Event}
+use Rattle.mdb_show.proofs.Words.{Bool, Err, List, Ok, Result, [], ap, append_assoc, arith, false, if◌then◌else◌, inl, inr, length, length-append, refl, subst, sym, true, ℕ, ◌&&◌, ◌++◌, ◌+◌, ◌∙◌, ◌∷◌, ◌≡◌, ◌⊎◌, append-nil, ArePieces, Piece, Whole, events_of, IsLinkFault, HasActList, LinkFault, Profile, Scope, ROWS_MAX, LineForm, IsShownToFaultIn, compared, row_not_refused, row_one, IsAnswer, IsImpossible, IsOwnAnswer, LeadUpTo, RunFault, BadRow, TooLong, IsRow, Event}
+use Rattle.mdb_verdict.proofs.OneAnswer.{GoesOn}
 use Rattle.mdb_bus.specs.declared.fault.Blame.TheVariants as blame
 use Rattle.mdb_bus.specs.declared.fault.Rule.TheVariants as rules
 use Rattle.mdb_bus.specs.declared.scope.Profile.TheVariants.{Base, Extended}

@@ -1,26 +1,10 @@
 -- How far the lines of some rows have come.
-use Rattle.std.proofs.Common.{Err, List, None, Some, [], add-one, ap, append_assoc, arith, drop, get_or, inl, inr, length, length-append, refl, sym, take, take-append-drop, ℕ, ◌++◌, ◌+◌, ◌<◌, ◌∙◌, ◌∷◌, ◌≡◌, ◌≤◌}
-use Rattle.std.proofs.lemmas.List.{append-nil, take_more}
-use Rattle.mdb_bus.specs.ActLists.{ArePieces, Piece, Whole, events_of, piece_events}
-use Rattle.mdb_bus.specs.Bus.{StandsFor, scope_of}
-use Rattle.mdb_bus.specs.LinkFaults.{IsLinkFault}
-use Rattle.mdb_bus.specs.Pieces.{NamesAReply}
-use Rattle.mdb_bus.specs.declared.act.Act.{Act}
-use Rattle.mdb_bus.specs.declared.fault.LinkFault.{LinkFault}
-use Rattle.mdb_bus.specs.declared.scope.Scope.{Scope}
-use Rattle.mdb_show.specs.Lines.{LineForm, closed_pieces, lines_of}
-use Rattle.mdb_show.specs.declared.showing.Lines.{Lines}
-use Rattle.mdb_show.specs.inner.ShowSteps.{HasAdded, HasPieces, HasShown, IsAdded, IsAddedToFault, LeadInto, ended_text}
-use Rattle.mdb_verdict.specs.Telling.{IsNotTaken}
-use Rattle.mdb_verdict.specs.declared.fault.RunFault.{RunFault}
-use Rattle.mdb_verdict.specs.declared.fault.RunFault.TheVariants.{Memory, Write}
-use Rattle.mdb_words.specs.declared.event.Event.{Event}
-use Rattle.mdb_writing.proofs.Outputs.{break_both, put_both}
-use Rattle.mdb_writing.specs.Output.{Output, Puts}
+use Rattle.mdb_show.proofs.Words.{Act, ArePieces, Err, Event, HasAdded, HasPieces, HasShown, IsAdded, IsAddedToFault, IsLinkFault, IsNotTaken, LeadInto, LineForm, Lines, LinkFault, List, Memory, NamesAReply, None, Output, Piece, Puts, RunFault, Scope, Some, StandsFor, Whole, Write, [], add-one, ap, append-nil, append_assoc, arith, break_both, closed_pieces, drop, ended_text, events_of, get_or, inl, inr, length, length-append, lines_of, piece_events, put_both, refl, scope_of, sym, take, take-append-drop, take_more, ℕ, ◌++◌, ◌+◌, ◌<◌, ◌∙◌, ◌∷◌, ◌≡◌, ◌≤◌}
 use Rattle.std.proofs.Math.Seq.{drop-cons}
 use Rattle.mdb_bus.specs.declared.bus.Bus.{Bus}
 use Rattle.mdb_bus.specs.Bus.{GoesOn}
-use Rattle.mdb_show.proofs.ShowTexts.{ends_act, goes_on_closed, whole_of}
+use Rattle.mdb_bus.proofs.Breaks.{whole_of}
+use Rattle.mdb_show.proofs.ShowTexts.{ends_act, goes_on_closed}
 
 -- The lines of some rows.
 

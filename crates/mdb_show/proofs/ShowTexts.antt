@@ -1,21 +1,8 @@
 -- The lines of `show`, as a row adds to them.
-use Rattle.std.proofs.Common.{Err, List, None, Ok, Option, Result, Some, [], ap, append_assoc, arith, get_or, if◌then◌else◌, inl, inr, length, length-append, refl, subst, sym, take, true, ℕ, ◌%◌, ◌++◌, ◌+◌, ◌/◌, ◌<◌, ◌∙◌, ◌∷◌, ◌≡◌, ◌⊎◌}
-use Rattle.std.proofs.lemmas.List.{append-nil, take_more}
-use Rattle.std.specs.Fmt.{digit_glyph}
-use Rattle.std.specs.Prelude.{OnOk, is_ok}
-use Rattle.mdb_bus.specs.ActLists.{ArePieces, AskTail, BlockMayCome, InAsk, InRepeat, InReply, MayCome, MayStand, Piece, Position, Quiet, RepeatTail, ReplyTail, Whole, events_of, piece_events}
-use Rattle.mdb_bus.specs.Bus.{Grown}
-use Rattle.mdb_bus.specs.Pieces.{IsTail, act_in}
-use Rattle.mdb_bus.specs.declared.act.Act.{Act}
-use Rattle.mdb_bus.specs.declared.scope.Profile.{Profile}
-use Rattle.mdb_bus.specs.declared.scope.Scope.{Scope}
-use Rattle.mdb_show.specs.Lines.{LineForm, closed_pieces, lines_of, piece_line}
-use Rattle.mdb_show.specs.ShowText.{bytes_text}
-use Rattle.mdb_show.specs.inner.ShowSteps.{cut_text, ended_text}
-use Rattle.mdb_words.specs.declared.event.Event.{Event}
+use Rattle.mdb_show.proofs.Words.{Act, ArePieces, Err, Event, Grown, IsTail, LineForm, List, MayStand, None, Ok, OnOk, Piece, Result, Scope, Some, Whole, [], ap, append-nil, append_assoc, arith, bytes_text, closed_pieces, cut_text, digit_glyph, ended_text, events_of, get_or, if◌then◌else◌, inl, inr, is_ok, length, length-append, lines_of, piece_events, piece_line, refl, subst, sym, take, take_more, true, ℕ, ◌%◌, ◌++◌, ◌+◌, ◌/◌, ◌<◌, ◌∙◌, ◌∷◌, ◌≡◌, ◌⊎◌}
 use Rattle.std.proofs.lemmas.Bool.Decides.{nat_tests}
 use Rattle.mdb_bus.specs.declared.act.Act.TheVariants as acts
-use Rattle.mdb_follow.proofs.Asks.{no-act}
+use Rattle.mdb_bus.proofs.Breaks.{IsBreak, break_said, closed_tail, is_tail, on_closed, whole_of}
 
 -- one byte more
 bytes_push : (bytes : List ℕ) (byte : ℕ)
@@ -48,72 +35,17 @@ had_more (Ok done) new between old first more text is before same =
     rw (is, before, same) (append_assoc old first more)
 had_more (Err e) new between old first more text is before same = tt
 
--- a position inside a block
-abbrev pub IsInside : Position → Type 0
-IsInside (InAsk bytes) = Unit {0}
-IsInside (InReply command bytes) = Unit {0}
-IsInside (InRepeat command reply words) = Unit {0}
-IsInside _ = ⊥
-
-abbrev pub IsBreakAct : Act → Type 0
-IsBreakAct (acts.Break length) = Unit {0}
-IsBreakAct _ = ⊥
-
-abbrev pub IsBreakPiece : Piece → Type 0
-IsBreakPiece (Whole act events) = IsBreakAct act
-IsBreakPiece _ = ⊥
-
-no_block : (profile : Profile) (position : Position) (from : Option Event) (to : Event)
-    → IsInside position → BlockMayCome profile position from to → ⊥
-no_block profile Quiet from to inside comes = inside
-no_block profile position from to inside comes = search
-
--- inside a block nothing comes but a break
-only_a_break : (profile : Profile) (piece : Piece) (position : Position) (from : Option Event)
-    (to : Event) → IsInside position → MayCome profile piece position from to → IsBreakPiece piece
-only_a_break profile (Whole (acts.Break length) events) position from to inside comes = tt
-only_a_break profile (Whole (acts.Ask command) events) position from to inside comes =
-    absurd (no_block profile position from to inside comes)
-only_a_break profile (AskTail bytes events) position from to inside comes =
-    absurd (no_block profile position from to inside comes)
-only_a_break profile (Whole acts.Foreign events) position from to inside (inl opening) =
-    absurd (no_block profile position from to inside opening.1)
-only_a_break profile (Whole acts.Foreign events) position from to inside (inr further) =
-    absurd (subst IsInside further.1 inside)
-only_a_break profile piece position from to inside comes = absurd (subst IsInside comes.0 inside)
-
--- so what is no break stands on pieces that are closed
-on_closed : (scope : Scope) (pieces : List Piece) (piece : Piece) → MayStand scope pieces piece
-    → (IsBreakPiece piece → ⊥) → closed_pieces pieces ≡ pieces
-on_closed scope [] piece stands not = refl
-on_closed scope (Whole act events ∷ pieces) piece stands not = refl
-on_closed scope (AskTail bytes events ∷ pieces) piece stands not =
-    absurd (not (only_a_break _ piece (InAsk bytes) _ _ tt stands.comes))
-on_closed scope (ReplyTail command bytes events ∷ pieces) piece stands not =
-    absurd (not (only_a_break _ piece (InReply command bytes) _ _ tt stands.comes))
-on_closed scope (RepeatTail command reply words events ∷ pieces) piece stands not =
-    absurd (not (only_a_break _ piece (InRepeat command reply words) _ _ tt stands.comes))
-
-tail_no_break : (piece : Piece) → act_in piece ≡ None → IsBreakPiece piece → ⊥
-tail_no_break (Whole act events) none is = cc
-tail_no_break piece none is = is
-
-closed_tail : (piece : Piece) (pieces : List Piece) → IsTail piece
-    → closed_pieces (piece ∷ pieces) ≡ pieces
-closed_tail (Whole act events) pieces is = absurd is
-closed_tail piece pieces is = refl
-
 -- a row that ends no act leaves the closed pieces as they were
 pub goes_on_closed : (scope : Scope) (pieces longer : List Piece) (row : Event)
     → Grown pieces row None longer → ArePieces scope longer
     → closed_pieces longer ≡ closed_pieces pieces
 goes_on_closed scope pieces longer row grown order =
     let after : closed_pieces longer ≡ grown.earlier = rw grown.are
-    (closed_tail grown.newest grown.earlier (no-act grown.newest grown.ends)) in
+    (closed_tail grown.newest grown.earlier (is_tail grown.newest grown.ends)) in
     let ordered : ArePieces scope (grown.newest ∷ grown.earlier) = rw grown.are at order in
     elim grown.from [
       | inl new ↦ after ∙ (sym (on_closed scope grown.earlier grown.newest ordered.1
-          (tail_no_break grown.newest grown.ends)) ∙ ap closed_pieces (sym new.1))
+          (λ is. rw grown.ends at is)) ∙ ap closed_pieces (sym new.1))
       | inr old ↦ after ∙ sym (ap closed_pieces old.3 ∙ closed_tail old.0 grown.earlier old.1)
     ]
 
@@ -161,31 +93,20 @@ all_shown form scope (Whole act events ∷ pieces) order =
 all_shown form scope (tail ∷ pieces) order = with_tail form scope tail pieces tt order.1
 
 -- an act is a break or not
-break_or_not : (act : Act) → IsBreakAct act ⊎ (IsBreakAct act → ⊥)
+break_or_not : (act : Act) → IsBreak (Some act) ⊎ (IsBreak (Some act) → ⊥)
 break_or_not (acts.Break length) = inl tt
 break_or_not act = inr (λ is. is)
 
-ended_break : (form : LineForm) (shown rows : ℕ) (act : Act) → IsBreakAct act
+ended_break : (form : LineForm) (shown rows : ℕ) (act : Act) → IsBreak (Some act)
     → ended_text form shown rows act
     ≡ cut_text form shown rows ++ form.act (rows + 1) (rows + 1) act
 ended_break form shown rows (acts.Break length) is = refl
 ended_break form shown rows act is = absurd is
 
-ended_other : (form : LineForm) (shown rows : ℕ) (act : Act) → (IsBreakAct act → ⊥)
+ended_other : (form : LineForm) (shown rows : ℕ) (act : Act) → (IsBreak (Some act) → ⊥)
     → ended_text form shown rows act ≡ form.act (shown + 1) (rows + 1) act
 ended_other form shown rows (acts.Break length) not = absurd (not tt)
 ended_other form shown rows act not = refl
-
--- a whole piece with its act
-pub whole_of : (piece : Piece) (act : Act) → act_in piece ≡ Some act
-    → piece ≡ Whole act (piece_events piece)
-whole_of (Whole other events) act is = let same : other ≡ act = cc in ap (λ a. Whole a events) same
-whole_of piece act is = cc
-
-break_short : (scope : Scope) (act : Act) (events : List Event) (pieces : List Piece)
-    → ArePieces scope (Whole act events ∷ pieces) → IsBreakAct act → length events ≡ 1
-break_short scope (acts.Break len) events pieces order is = ap length order.0.said.1
-break_short scope act events pieces order is = absurd is
 
 -- A row that ends an act adds the lines of that act.
 module _ (form : LineForm) (scope : Scope) (pieces longer : List Piece) (row : Event) (act : Act)
@@ -214,7 +135,7 @@ module _ (form : LineForm) (scope : Scope) (pieces longer : List Piece) (row : E
 
   -- an act that is no break, whose rows come after those that are shown
   of_other : grown.earlier ≡ closed_pieces pieces → shown + length events ≡ rows + 1
-      → (IsBreakAct act → ⊥)
+      → (IsBreak (Some act) → ⊥)
       → lines_of form longer
       ≡ lines_of form (closed_pieces pieces) ++ ended_text form shown rows act
   of_other earlier last not =
@@ -225,7 +146,7 @@ module _ (form : LineForm) (scope : Scope) (pieces longer : List Piece) (row : E
       )
 
   -- the act is a piece of this row alone
-  alone : grown.begun ≡ [] → pieces ≡ grown.earlier → IsBreakAct act ⊎ (IsBreakAct act → ⊥)
+  alone : grown.begun ≡ [] → pieces ≡ grown.earlier → IsBreak (Some act) ⊎ (IsBreak (Some act) → ⊥)
       → lines_of form longer
       ≡ lines_of form (closed_pieces pieces) ++ ended_text form shown rows act
   alone none same (inl is) =
@@ -247,12 +168,12 @@ module _ (form : LineForm) (scope : Scope) (pieces longer : List Piece) (row : E
 
   -- the act is what a tail has become
   of_tail : (tail : Piece) → IsTail tail → piece_events tail ≡ grown.begun
-      → pieces ≡ tail ∷ grown.earlier → IsBreakAct act ⊎ (IsBreakAct act → ⊥)
+      → pieces ≡ tail ∷ grown.earlier → IsBreak (Some act) ⊎ (IsBreak (Some act) → ⊥)
       → lines_of form longer
       ≡ lines_of form (closed_pieces pieces) ++ ended_text form shown rows act
   of_tail tail is said same (inl broken) =
       let some = some_events scope grown.earlier tail (subst (ArePieces scope) same before).1 in
-      let short = break_short scope act events grown.earlier ordered broken in
+      let short = break_said scope act events broken ordered.0.said in
       absurd (omega (arith, short, long, ap length said, some))
   of_tail tail is said same (inr not) =
       let earlier : grown.earlier ≡ closed_pieces pieces =

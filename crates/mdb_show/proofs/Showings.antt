@@ -1,23 +1,6 @@
 -- What the showing is, by how the reading of rows ended.
-use Rattle.std.proofs.Common.{Err, List, None, Ok, Option, Result, Some, [], ap, append_assoc, arith, inl, inr, length, refl, sym, ℕ, ◌++◌, ◌∙◌, ◌∷◌, ◌≡◌, ◌≤◌}
-use Rattle.mdb_bus.specs.ActLists.{Piece}
-use Rattle.mdb_bus.specs.Bus.{StandsFor, scope_of}
-use Rattle.mdb_bus.specs.declared.fault.LinkFault.{LinkFault}
-use Rattle.mdb_bus.specs.declared.scope.Scope.{Scope}
-use Rattle.mdb_follow.specs.declared.follower.TheConstants.{ROWS_MAX}
-use Rattle.mdb_show.specs.Lines.{LineForm, closed_pieces, lines_of}
-use Rattle.mdb_show.specs.Show.{AreShown, IsShowingIn, IsShownInPartIn, IsShownToFaultIn, IsShownWholeIn}
-use Rattle.mdb_show.specs.declared.showing.Lines.{Lines}
-use Rattle.mdb_show.specs.inner.ShowSteps.{HasAdded, HasShown, HasStopped, IsAdded, IsAddedInPart, IsAddedToFault, LeadInto, PutsShowing, cut_text}
-use Rattle.mdb_verdict.specs.Ending.{AreRead, HasEnded, HasTakenOrStopped, IsStop, IsStopped, IsTakenWhole}
-use Rattle.mdb_verdict.specs.Telling.{IsNotTaken, IsOfOutput}
-use Rattle.mdb_verdict.specs.declared.fault.RunFault.{RunFault}
-use Rattle.mdb_verdict.specs.declared.fault.RunFault.TheVariants.{BadRow, Memory, Read, TooLong, Write}
+use Rattle.mdb_show.proofs.Words.{Err, List, None, Ok, Option, Result, Some, [], ap, append_assoc, arith, inl, inr, length, refl, sym, ℕ, ◌++◌, ◌∙◌, ◌∷◌, ◌≡◌, ◌≤◌, Piece, StandsFor, scope_of, LinkFault, Scope, ROWS_MAX, LineForm, closed_pieces, lines_of, AreShown, IsShowingIn, IsShownInPartIn, IsShownToFaultIn, IsShownWholeIn, Lines, HasAdded, HasShown, HasStopped, IsAdded, IsAddedInPart, IsAddedToFault, LeadInto, PutsShowing, cut_text, AreRead, HasEnded, HasTakenOrStopped, IsStop, IsStopped, IsTakenWhole, IsNotTaken, IsOfOutput, RunFault, BadRow, Memory, Read, TooLong, Write, IsRow, Event, break_both, put_begun, put_both, Output, Puts, begun, output}
 use Rattle.mdb_words.specs.Refusals.{IsRefusal}
-use Rattle.mdb_words.specs.Row.{IsRow}
-use Rattle.mdb_words.specs.declared.event.Event.{Event}
-use Rattle.mdb_writing.proofs.Outputs.{break_both, put_begun, put_both}
-use Rattle.mdb_writing.specs.Output.{Output, Puts, begun, output}
 use Rattle.std.specs.Result.{result_transpose}
 use Rattle.mdb_verdict.proofs.Rows.{fewer, read_at, read_before}
 use Rattle.mdb_show.proofs.ShowTexts.{all_shown}

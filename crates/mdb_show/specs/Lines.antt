@@ -26,12 +26,3 @@ abbrev pub lines_of : LineForm → List Piece → List ℕ
 lines_of form [] = []
 lines_of form (piece ∷ pieces) =
     lines_of form pieces ++ piece_line form (length (events_of pieces)) piece
-
--- the pieces without a tail at their end, which is still open: a break may cut it, but an act may
--- come of it too
-abbrev pub closed_pieces : List Piece → List Piece
-closed_pieces [] = []
-closed_pieces (Whole act events ∷ pieces) = Whole act events ∷ pieces
-closed_pieces (AskTail bytes events ∷ pieces) = pieces
-closed_pieces (ReplyTail command bytes events ∷ pieces) = pieces
-closed_pieces (RepeatTail command reply words events ∷ pieces) = pieces

@@ -11,7 +11,7 @@ use Rattle.mdb_bus.specs.LinkFaults.{IsLinkFault}
 use Rattle.mdb_follow.specs.declared.follower.TheConstants.{ROWS_MAX}
 use Rattle.mdb_verdict.specs.declared.fault.RunFault.{RunFault}
 use Rattle.mdb_verdict.specs.declared.fault.RunFault.TheVariants.{BadRow, TooLong, Read, Write, Memory}
-use Rattle.mdb_show.specs.Lines.{LineForm, closed_pieces, lines_of}
+use Rattle.mdb_show.specs.Lines.{LineForm, lines_of}
 use Rattle.mdb_show.specs.ShowJson.{json_lines}
 use Rattle.mdb_show.specs.ShowText.{text_lines}
 use Rattle.mdb_text.specs.declared.form.Form.{Form}
@@ -21,6 +21,7 @@ use Rattle.mdb_verdict.specs.Telling.{Tells}
 use Rattle.mdb_writing.specs.Answers.{IsCutShort}
 use Rattle.mdb_verdict.specs.declared.verdict.TheConstants.{BYTES_MAX}
 use Rattle.mdb_bus.specs.declared.scope.Scope.{Scope}
+use Rattle.mdb_bus.specs.ClosedPieces.{closed_pieces}
 
 -- The records up to the rest are rows, and these pieces are their act list.
 pub record AreShown (scope : Scope) (records : List (List (List ℕ))) (pieces : List Piece)

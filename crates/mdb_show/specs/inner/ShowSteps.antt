@@ -15,8 +15,9 @@ use Rattle.mdb_show.specs.declared.showing.Lines.{Lines}
 use Rattle.mdb_show.specs.Show.{IsShowingIn}
 use Rattle.mdb_writing.specs.Answers.{IsSent}
 use Rattle.mdb_writing.specs.Output.{Breaks, Output, Puts}
-use Rattle.mdb_show.specs.Lines.{LineForm, closed_pieces, lines_of}
+use Rattle.mdb_show.specs.Lines.{LineForm, lines_of}
 use Rattle.mdb_bus.specs.declared.scope.Scope.{Scope}
+use Rattle.mdb_bus.specs.ClosedPieces.{closed_pieces}
 
 -- the line of a tail, if there is one: of `rows` rows only the first `shown` are in pieces that are
 -- closed

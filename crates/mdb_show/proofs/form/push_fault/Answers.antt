@@ -1,7 +1,4 @@
-use Rattle.std.proofs.Common.{subst, sym, ◌≡◌, ◌++◌}
-use Rattle.std.specs.Prelude.{OnOk}
-use Rattle.mdb_text.specs.declared.form.Form.{Form}
-use Rattle.mdb_show.specs.Show.{lines_in}
+use Rattle.mdb_show.proofs.Words.{subst, sym, ◌≡◌, ◌++◌, OnOk, Form, lines_in}
 use Rattle.mdb_show.proofs.JsonLines.{fault_line, put_as}
 use Rattle.mdb_show.proofs.form.push_fault.Goals as goal
 

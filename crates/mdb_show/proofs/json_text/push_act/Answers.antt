@@ -1,5 +1,4 @@
-use Rattle.std.proofs.Common.{ap, sym}
-use Rattle.mdb_show.specs.inner.JsonLines.{act_json}
+use Rattle.mdb_show.proofs.Words.{ap, sym, act_json}
 use Rattle.mdb_show.proofs.JsonLines.{put_as}
 use Rattle.mdb_show.proofs.json_text.push_act.Goals as goal
 

@@ -1,6 +1,4 @@
-use Rattle.std.proofs.Common.{ap, ◌∙◌}
-use Rattle.std.specs.Prelude.{codes}
-use Rattle.mdb_show.specs.inner.JsonLines.{block_json}
+use Rattle.mdb_show.proofs.Words.{ap, ◌∙◌, codes, block_json}
 use Rattle.mdb_show.proofs.JsonLines.{put_as}
 use Rattle.mdb_show.proofs.json_text.push_ask.Goals as goal
 

@@ -1,7 +1,4 @@
-use Rattle.std.proofs.Common.{◌++◌}
-use Rattle.std.specs.Prelude.{codes}
-use Rattle.std.specs.Fmt.{decimal}
-use Rattle.mdb_show.specs.inner.JsonLines.{rows_only_json}
+use Rattle.mdb_show.proofs.Words.{◌++◌, codes, decimal, rows_only_json}
 use Rattle.mdb_show.proofs.JsonLines.{put_last, then_put}
 use Rattle.mdb_show.proofs.json_text.push_break.Goals as goal
 

@@ -1,6 +1,4 @@
-use Rattle.std.proofs.Common.{rules, ◌++◌}
-use Rattle.std.specs.Prelude.{codes}
-use Rattle.mdb_show.specs.ShowJson.{hex_text}
+use Rattle.mdb_show.proofs.Words.{rules, ◌++◌, codes, hex_text}
 use Rattle.mdb_show.proofs.JsonLines.{hex_member, then_put}
 use Rattle.mdb_show.proofs.ShowTexts.{had_more}
 use Rattle.mdb_show.proofs.json_text.push_hex.Goals as goal

@@ -1,7 +1,6 @@
 -- The pieces without further devices have the same rows.
-use Rattle.std.proofs.Common.{refl}
+use Rattle.mdb_show.proofs.Words.{refl, lines_of}
 use Rattle.mdb_bus.specs.LeavingOut.{leave_out}
-use Rattle.mdb_show.specs.Lines.{lines_of}
 use Rattle.mdb_show.proofs.laws.whole_texts_are_shown_whole_without_further_devices.Goals as goal
 
 pub returns : goal.returns

@@ -1,6 +1,4 @@
-use Rattle.std.proofs.Common.{◌≡◌, ◌++◌}
-use Rattle.std.specs.Prelude.{take}
-use Rattle.mdb_show.specs.ShowText.{bytes_text}
+use Rattle.mdb_show.proofs.Words.{◌≡◌, ◌++◌, take, bytes_text}
 use Rattle.mdb_show.proofs.show_text.push_bytes.Given as goal
 
 -- the bytes so far are there

@@ -1,7 +1,5 @@
 -- What is shown is written out at the end.
-use Rattle.mdb_show.specs.Show.{IsNotWhole, IsShowingIn, lines_in}
-use Rattle.mdb_verdict.proofs.Tellings.{reads_finished, told}
-use Rattle.mdb_writing.specs.Output.{output}
+use Rattle.mdb_show.proofs.Words.{IsNotWhole, IsShowingIn, lines_in, reads_finished, told, output}
 use Rattle.mdb_show.proofs.showing.show_records.Goals as goal
 
 pub returns-clause-shows : goal.returns-clause-shows

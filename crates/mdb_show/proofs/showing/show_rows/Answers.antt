@@ -1,14 +1,5 @@
 -- What is shown goes by how the reading of rows ended, and so does what is told of that.
-use Rattle.std.proofs.Common.{List, None, Ok, Option, Result, Some, ap, subst, ℕ, ◌∙◌, ◌≡◌}
-use Rattle.mdb_bus.specs.declared.fault.LinkFault.{LinkFault}
-use Rattle.mdb_bus.specs.declared.scope.Scope.{Scope}
-use Rattle.mdb_show.specs.Show.{IsNotWhole, lines_in}
-use Rattle.mdb_show.specs.inner.ShowSteps.{PutsShowing}
-use Rattle.mdb_text.specs.declared.form.Form.{Form}
-use Rattle.mdb_verdict.proofs.Tellings.{not_taken_of_output, reads_all, reads_fault, reads_output}
-use Rattle.mdb_verdict.proofs.Verdicts.{is_fault}
-use Rattle.mdb_verdict.specs.declared.fault.RunFault.{RunFault}
-use Rattle.mdb_writing.specs.Output.{Output}
+use Rattle.mdb_show.proofs.Words.{List, None, Ok, Option, Result, Some, ap, subst, ℕ, ◌∙◌, ◌≡◌, LinkFault, Scope, IsNotWhole, lines_in, PutsShowing, Form, not_taken_of_output, reads_all, reads_fault, reads_output, is_fault, RunFault, Output}
 use Rattle.mdb_show.proofs.Showings as showings
 use Rattle.mdb_show.proofs.showing.show_rows.Goals as goal
 

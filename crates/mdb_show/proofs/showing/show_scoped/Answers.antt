@@ -1,7 +1,6 @@
 -- The records of a text are read as its records alone.
-use Rattle.std.proofs.Common.{◌<◌, ℕ, List, length}
+use Rattle.mdb_show.proofs.Words.{◌<◌, ℕ, List, length, IsNotWhole}
 use Rattle.std.proofs.lemmas.Option.{IfSome_then}
-use Rattle.mdb_show.specs.Show.{IsNotWhole}
 use Rattle.mdb_verdict.specs.declared.verdict.TheConstants.{BYTES_MAX}
 use Rattle.mdb_show.proofs.showing.show_scoped.Goals as goal
 

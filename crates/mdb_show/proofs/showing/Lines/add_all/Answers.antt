@@ -1,8 +1,5 @@
 -- The lines of the rows so far are added, up to the first that can't be or isn't written.
-use Rattle.std.proofs.Common.{refl, ◌+◌}
-use Rattle.mdb_bus.specs.Bus.{scope_of}
-use Rattle.mdb_show.specs.Show.{lines_in}
-use Rattle.mdb_verdict.proofs.Verdicts.{is_fault}
+use Rattle.mdb_show.proofs.Words.{refl, ◌+◌, scope_of, lines_in, is_fault}
 use Rattle.mdb_show.proofs.ShowSteps as steps
 use Rattle.mdb_show.proofs.showing.Lines.add_all.Goals as goal
 use Rattle.mdb_show.proofs.showing.Lines.add_all.Goals.{then-ended+in_ok-add_ended, else-ended}

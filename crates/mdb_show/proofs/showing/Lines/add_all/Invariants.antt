@@ -1,7 +1,4 @@
-use Rattle.std.proofs.Common.{take}
-use Rattle.mdb_bus.specs.Bus.{scope_of}
-use Rattle.mdb_writing.specs.Output.{output}
-use Rattle.mdb_show.specs.Show.{lines_in}
+use Rattle.mdb_show.proofs.Words.{take, scope_of, output, lines_in}
 use Rattle.mdb_show.proofs.ShowSteps.{Adds}
 use Rattle.mdb_show.proofs.showing.Lines.add_all.Given as goal
 

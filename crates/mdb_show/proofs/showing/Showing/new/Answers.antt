@@ -1,4 +1,4 @@
-use Rattle.mdb_show.specs.Show.{lines_in}
+use Rattle.mdb_show.proofs.Words.{lines_in}
 use Rattle.mdb_show.proofs.Showings.{begins}
 use Rattle.mdb_show.proofs.showing.Showing.new.Goals as goal
 

@@ -1,10 +1,5 @@
 -- The lines of the rows are added.
-use Rattle.std.proofs.Common.{subst, sym}
-use Rattle.mdb_bus.specs.Bus.{scope_of}
-use Rattle.mdb_verdict.specs.Ending.{HasTakenOrStopped}
-use Rattle.mdb_writing.specs.Output.{begun, output}
-use Rattle.mdb_show.specs.Show.{lines_in}
-use Rattle.mdb_show.specs.inner.ShowSteps.{HasShown, HasStopped}
+use Rattle.mdb_show.proofs.Words.{subst, sym, scope_of, HasTakenOrStopped, begun, output, lines_in, HasShown, HasStopped}
 use Rattle.mdb_show.proofs.Showings.{added}
 use Rattle.mdb_show.proofs.showing.ShowingTakeRows.take_all.Goals as goal
 
