@@ -1,81 +1,33 @@
 -- How a row goes on with pieces.
-use Rattle.mdb_page.proofs.Words.{Act, ActListing, AreOf, ArePieces, AskTail, BlockMayCome, Event, HasAdded, HasBegun, HasTakenPieces, InAsk, InRepeat, InReply, IsSaid, IsTail, Lengthens, List, MayCome, MayStand, None, Option, PageAct, Piece, Position, Rows, Scope, Some, Whole, [], act_in, ap, append-nil, arith, closed_pieces, events_of, inl, inr, left_by, length, length-append, map, map-append, nil_from_length, open_events, piece_events, refl, start_of, sym, ℕ, ◌++◌, ◌+◌, ◌<◌, ◌∙◌, ◌∷◌, ◌≡◌, ◌≢◌, ◌≤◌}
+use Rattle.mdb_page.proofs.Words.{Act, ActListing, AreOf, ArePieces, Event, HasAdded, HasBegun, HasTakenPieces, IsSaid, IsTail, Lengthens, List, MayStand, None, Option, PageAct, Piece, Rows, Scope, Some, Whole, [], act_in, ap, append-nil, arith, closed_pieces, events_of, inl, inr, length, length-append, map, map-append, nil_from_length, open_events, piece_events, refl, start_of, sym, ℕ, ◌++◌, ◌+◌, ◌<◌, ◌∙◌, ◌∷◌, ◌≡◌, ◌≢◌, ◌≤◌}
 use Rattle.mdb_bus.specs.declared.act.Act.TheVariants as acts
-use Rattle.mdb_bus.specs.declared.scope.Profile.{Profile}
-use Rattle.mdb_follow.proofs.Asks.{no-act}
+use Rattle.mdb_bus.proofs.Breaks.{IsBreak, break_said, closed_tail, is_tail, on_closed, whole_of}
 use Rattle.mdb_page.specs.inner.Listing.{HasListed}
-
--- A break comes everywhere, and nothing else comes inside a block.
-
-abbrev IsInside : Position → Type 0
-IsInside (InAsk bytes) = Unit {0}
-IsInside (InReply command bytes) = Unit {0}
-IsInside (InRepeat command reply words) = Unit {0}
-IsInside _ = ⊥
-
-abbrev pub IsBreak : Option Act → Type 0
-IsBreak (Some (acts.Break length)) = Unit {0}
-IsBreak _ = ⊥
 
 pub no_break : (act : Act) → ((long : ℕ) → act ≡ acts.Break long → ⊥) → IsBreak (Some act) → ⊥
 no_break (acts.Break long) not is = not long refl
 no_break act not is = is
 
-no_block : (profile : Profile) (position : Position) (from : Option Event) (to : Event)
-    → IsInside position → BlockMayCome profile position from to → ⊥
-no_block profile (InAsk bytes) from to inside comes = comes
-no_block profile position from to inside comes = search
+-- no row is open where all pieces are closed
+none_open : (pieces : List Piece) → closed_pieces pieces ≡ pieces → open_events pieces ≡ []
+none_open [] closed = refl
+none_open (Whole act events ∷ pieces) closed = refl
+none_open (tail ∷ pieces) closed = absurd (omega (arith, ap length closed))
 
-only_a_break : (profile : Profile) (piece : Piece) (position : Position) (from : Option Event)
-    (to : Event) → IsInside position → MayCome profile piece position from to
-    → IsBreak (act_in piece)
-only_a_break profile (Whole (acts.Ask command) events) position from to inside comes =
-    absurd (no_block profile position from to inside comes)
-only_a_break profile (Whole acts.Foreign events) position from to inside (inl opening) =
-    absurd (no_block profile position from to inside opening.1)
-only_a_break profile (Whole acts.Foreign events) position from to inside (inr further) =
-    absurd (rw further.1 at inside)
-only_a_break profile (Whole (acts.Break length) events) position from to inside comes = tt
-only_a_break profile (AskTail bytes events) position from to inside comes =
-    absurd (no_block profile position from to inside comes)
-only_a_break profile piece position from to inside comes = absurd (rw comes.0 at inside)
-
--- what is no break stands on pieces that are closed
-on_closed : (scope : Scope) (pieces : List Piece) (piece : Piece) → MayStand scope pieces piece
-    → (IsBreak (act_in piece) → ⊥) → (closed_pieces pieces ≡ pieces) × (open_events pieces ≡ [])
-on_closed scope [] piece stands not = (refl, refl)
-on_closed scope (Whole act events ∷ pieces) piece stands not = (refl, refl)
-on_closed scope (tail ∷ pieces) piece stands not =
-    absurd (not (only_a_break _ piece (left_by tail) _ _ tt stands.comes))
-
--- the parts of pieces that end with a tail
-of_tail : (piece : Piece) (pieces : List Piece) → IsTail piece
-    → (closed_pieces (piece ∷ pieces) ≡ pieces)
-    × (open_events (piece ∷ pieces) ≡ piece_events piece)
-of_tail (Whole act events) pieces is = absurd is
-of_tail tail pieces is = (refl, refl)
+-- the rows that are open are those of the tail at the end
+open_tail : (piece : Piece) (pieces : List Piece) → IsTail piece
+    → open_events (piece ∷ pieces) ≡ piece_events piece
+open_tail (Whole act events) pieces is = absurd is
+open_tail tail pieces is = refl
 
 pub tail_is_none : (piece : Piece) → IsTail piece → act_in piece ≡ None
 tail_is_none (Whole act events) is = absurd is
 tail_is_none tail is = refl
 
--- the act of a whole piece
-pub whole_of : (piece : Piece) (act : Act) → act_in piece ≡ Some act
-    → piece ≡ Whole act (piece_events piece)
-whole_of (Whole other events) act is =
-    let same : other ≡ act = cc is in ap (λ a. Whole a events) same
-whole_of tail act is = absurd cc
-
 -- a tail has rows
 some_rows : {scope : Scope} {pieces : List Piece} {piece : Piece} → MayStand scope pieces piece
     → piece_events piece ≢ []
 some_rows stands none = cc (none, stands.begins)
-
--- the words of a break are one row
-one_said : (scope : Scope) (act : Act) (events : List Event) → IsBreak (Some act)
-    → IsSaid scope (Whole act events) → length events ≡ 1
-one_said scope (acts.Break long) events is said = ap length said.1
-one_said scope act events is said = absurd is
 
 -- The rows of pieces are those of the closed ones, and those of an open tail.
 all_rows : (pieces : List Piece)
@@ -113,11 +65,14 @@ module _ {pieces longer : List Piece} {at : ℕ} {act : Option Act}
       elim grown.from [
         | inl new ↦
             let closed = on_closed turn.scope grown.earlier grown.newest ordered.1
-            (λ is. not (rw grown.ends at is)) in
-            (ap closed_pieces new.1 ∙ closed.0, ap open_events new.1 ∙ (closed.1 ∙ sym new.0))
-        | inr old ↦
-            let parts = of_tail old.0 grown.earlier old.1 in
-            (ap closed_pieces old.3 ∙ parts.0, ap open_events old.3 ∙ (parts.1 ∙ old.2))
+            (λ is. not (rw grown.ends at is)) in (
+              ap closed_pieces new.1 ∙ closed,
+              ap open_events new.1 ∙ (none_open grown.earlier closed ∙ sym new.0),
+            )
+        | inr old ↦ (
+          ap closed_pieces old.3 ∙ closed_tail old.0 grown.earlier old.1,
+          ap open_events old.3 ∙ (open_tail old.0 grown.earlier old.1 ∙ old.2),
+        )
       ]
 
 -- what a break goes on from
@@ -130,7 +85,7 @@ break_on {act = act} turn is other before =
     rw (whole_of grown.newest act grown.ends) at (ordered turn).0.said in
     let none : grown.begun ≡ [] = nil_from_length grown.begun (omega (
       arith,
-      one_said turn.scope act (piece_events grown.newest) is said,
+      break_said turn.scope act (piece_events grown.newest) is said,
       ap length grown.events,
       length-append grown.begun (turn.row ∷ []),
     )) in
@@ -203,11 +158,11 @@ module _ {stay : ℕ} {before after : List PageAct} {pieces : List Piece} {listi
   row_taken {longer = longer} {new = new} turn added =
       let grown = turn.grown in
       let on = stands_on turn (λ is. is) in
-      let parts = of_tail grown.newest grown.earlier (no-act grown.newest grown.ends) in
+      let tail = is_tail grown.newest grown.ends in
       let closed : closed_pieces longer ≡ closed_pieces pieces =
-      ap closed_pieces grown.are ∙ (parts.0 ∙ sym on.0) in
+      ap closed_pieces grown.are ∙ (closed_tail grown.newest grown.earlier tail ∙ sym on.0) in
       let opened : open_events longer ≡ open_events pieces ++ turn.row ∷ [] =
-      ap open_events grown.are ∙ (parts.1 ∙ (grown.events
+      ap open_events grown.are ∙ (open_tail grown.newest grown.earlier tail ∙ (grown.events
       ∙ ap (λ l. l ++ turn.row ∷ []) (sym on.1))) in
       let more = row_more has.begun turn.row turn.start added in
       record {

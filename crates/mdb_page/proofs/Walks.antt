@@ -8,7 +8,8 @@ use Rattle.mdb_bus.specs.LinkFaults.{IsLinkFault}
 use Rattle.mdb_page.specs.Acts.{EndsSo, broken, no_row, too_long, unread, whole}
 use Rattle.mdb_page.specs.inner.Listing.{HasListed}
 use Rattle.mdb_page.specs.declared.lines.LineFault.TheVariants as faults
-use Rattle.mdb_page.proofs.Turns.{last_row, whole_of}
+use Rattle.mdb_bus.proofs.Breaks.{whole_of}
+use Rattle.mdb_page.proofs.Turns.{last_row}
 
 -- Some first lines were walked over: the bus stands for the pieces of their rows, which were taken.
 pub record Walks (scope : Scope) (lines rest : List ℕ) (bus : Bus) (stay : ℕ)

@@ -7,8 +7,9 @@ pub use Rattle.std.proofs.lemmas.List.{flat_map_more, get_or_append_left, get_or
 pub use Rattle.std.proofs.lemmas.List.Elements.{All-cons, All-head, All-nil, All-push, All-tail}
 pub use Rattle.std.specs.List.{list_any}
 pub use Rattle.std.specs.Option.{MatchOption, is_some}
-pub use Rattle.mdb_bus.specs.ActLists.{ArePieces, AskTail, BlockMayCome, InAsk, InRepeat, InReply, IsActList, IsSaid, MayCome, MayStand, Piece, Position, Whole, acts_of, events_of, left_by, piece_events}
+pub use Rattle.mdb_bus.specs.ActLists.{ArePieces, IsActList, IsSaid, MayStand, Piece, Whole, acts_of, events_of, piece_events}
 pub use Rattle.mdb_bus.specs.Bus.{GoesOn, ended_act}
+pub use Rattle.mdb_bus.specs.ClosedPieces.{closed_pieces}
 pub use Rattle.mdb_bus.specs.Pieces.{IsTail, NamesAReply, act_in}
 pub use Rattle.mdb_bus.specs.declared.act.Act.{Act}
 pub use Rattle.mdb_bus.specs.declared.scope.Scope.{Scope}
@@ -28,7 +29,7 @@ pub use Rattle.mdb_stretches.specs.declared.stretch.Ended.{Ended}
 pub use Rattle.mdb_survey_text.specs.SurveyText.{stretch_text, summary_text, text_lines}
 pub use Rattle.mdb_words.specs.Event.{start_of}
 pub use Rattle.mdb_words.specs.declared.event.Event.{Event}
-pub use Rattle.mdb_page.specs.Acts.{HasRows, IsKept, IsNext, IsOfPiece, Shows, ShowsAct, closed_pieces, has_options, place_in}
+pub use Rattle.mdb_page.specs.Acts.{HasRows, IsKept, IsNext, IsOfPiece, Shows, ShowsAct, has_options, place_in}
 pub use Rattle.mdb_page.specs.Answers.{number_of, written}
 pub use Rattle.mdb_page.specs.Lines.{AreAllFields, AreNoRow, HasRead, IsBare, IsCut, IsFirstLine, IsLine, IsUnmarked, IsUnread, TellsNoRow, TellsRow, blank, marked, row, start, unmarked}
 pub use Rattle.mdb_page.specs.Rises.{AreRises, EndsSo, broken, no_row, none, rise, rise_of, rises_between, rises_in, too_long, unread, whole}

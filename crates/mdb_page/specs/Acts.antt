@@ -21,7 +21,8 @@ use Rattle.mdb_bus.specs.declared.act.Act.TheVariants as acts
 use Rattle.mdb_bus.specs.declared.fault.Blame.{Blame}
 use Rattle.mdb_bus.specs.declared.fault.Rule.{Rule}
 use Rattle.mdb_bus.specs.declared.scope.Scope.{Scope}
-use Rattle.mdb_bus.specs.ActLists.{IsActList, Piece, Whole, AskTail, ReplyTail, RepeatTail, events_of, piece_events}
+use Rattle.mdb_bus.specs.ActLists.{IsActList, Piece, events_of, piece_events}
+use Rattle.mdb_bus.specs.ClosedPieces.{closed_pieces}
 use Rattle.mdb_bus.specs.Pieces.{act_in}
 use Rattle.mdb_bus.specs.LinkFaults.{IsLinkFault}
 use Rattle.mdb_follow.specs.declared.follower.TheConstants.{ROWS_MAX}
@@ -130,14 +131,6 @@ pub record AreListed (pieces : List Piece) (first : ℕ) (before after : List Pa
       → IsOfPiece pieces number (get_or after (place_in first (length before) number) other)
   pub kept : (place : ℕ) (other : PageAct) → length pieces ≤ place
       → get_or after place other ≡ get_or before place other
-
--- the pieces without a tail at their end, which is still open: an act may come of it yet
-abbrev pub closed_pieces : List Piece → List Piece
-closed_pieces [] = []
-closed_pieces (Whole act events ∷ pieces) = Whole act events ∷ pieces
-closed_pieces (AskTail bytes events ∷ pieces) = pieces
-closed_pieces (ReplyTail command bytes events ∷ pieces) = pieces
-closed_pieces (RepeatTail command reply words events ∷ pieces) = pieces
 
 -- The first line of a text, which has bytes. It would be the row after the rows of pieces.
 pub record IsNext (text bare : List ℕ) (pieces : List Piece) (row : ℕ) : Type 0 where

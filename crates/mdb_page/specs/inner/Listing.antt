@@ -7,8 +7,9 @@ use Rattle.mdb_bus.specs.declared.act.Act.{Act}
 use Rattle.mdb_bus.specs.declared.scope.Scope.{Scope}
 use Rattle.mdb_bus.specs.ActLists.{ArePieces, Piece, Whole, AskTail, ReplyTail, RepeatTail, events_of}
 use Rattle.mdb_bus.specs.Bus.{Grown}
+use Rattle.mdb_bus.specs.ClosedPieces.{closed_pieces}
 use Rattle.mdb_follow.specs.declared.follower.TheConstants.{ROWS_MAX}
-use Rattle.mdb_page.specs.Acts.{AreListed, HasRows, IsReading, closed_pieces, place_in}
+use Rattle.mdb_page.specs.Acts.{AreListed, HasRows, IsReading, place_in}
 use Rattle.mdb_page.specs.declared.acts.ActListing.{ActListing}
 use Rattle.mdb_page.specs.declared.acts.PageAct.{PageAct}
 use Rattle.mdb_page.specs.declared.answer.PageTold.{PageTold}
