@@ -1,6 +1,7 @@
 -- What a follower stands for that heeds the feature levels, row by row.
 use Rattle.mdb_unjudged.proofs.Words.{Bool, Event, HasFollowed, HasRefused, IsActList, IsSomeAnd, Judging, Levels, List, MeetsAmong, Met, None, Option, Piece, RefusesAmong, Scope, Some, SomeRefused, [], acts_of, add-one, ap, append_assoc, arith, begins_block, drop, false, get_or, get_or_at, is_joined, known_before, last_begun, last_of, length, length-append, option_or, refl, reported, reported_if, subst, sym, take, take_all, take_at, take_more, true, unjudged, with_act, ℕ, ◌++◌, ◌+◌, ◌<◌, ◌∙◌, ◌∷◌, ◌≡◌, ◌≤◌}
 use Rattle.std.proofs.Math.Seq.{split_at}
+use Rattle.mdb_bus.proofs.Lists.{last_push}
 use Rattle.mdb_bus.specs.declared.act.Act.{Act}
 use Rattle.mdb_bus.specs.declared.fault.Blame.{Blame}
 use Rattle.mdb_bus.specs.declared.fault.Rule.{Rule}
@@ -253,11 +254,6 @@ module _ (old new : Judging) (rows : List Event) (same : new.joined ≡ old.join
       }
 
 -- the row before the one at an index
-last_push : (events : List Event) (event : Event) → last_of (events ++ event ∷ []) ≡ Some event
-last_push [] event = refl
-last_push (first ∷ []) event = refl
-last_push (first ∷ second ∷ events) event = last_push (second ∷ events) event
-
 pub last_at : (earlier rows : List Event) (i : ℕ) (d : Event) → i < length rows
     → last_of (earlier ++ take (i + 1) rows) ≡ Some (get_or rows i d)
 last_at earlier rows i d within =

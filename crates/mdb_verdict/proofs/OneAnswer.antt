@@ -1,6 +1,7 @@
 -- The records of a text have one answer of their own.
 use Rattle.mdb_verdict.proofs.Words.{AreRows, BadRow, Err, Event, IsAnswer, IsOwnAnswer, IsReached, IsRefusal, IsReport, IsRow, LeadUpTo, List, No, Offence, Ok, Outcome, Report, Result, RowFault, RunFault, Scope, TooLong, Yes, [], ap, append-nil, append_assoc, arith, inl, inr, length, length-append, refl, sym, ℕ, ◌++◌, ◌+◌, ◌<◌, ◌∙◌, ◌∷◌, ◌≡◌, ◌≤◌, ◌⊎◌}
 use Rattle.std.proofs.lemmas.Grind.{common_steps}
+pub use Rattle.mdb_words.proofs.Rows.{row_not_refused, row_one}
 use Rattle.mdb_follow.specs.Offences.{IsOffence}
 
 -- the fields of each record
@@ -14,14 +15,6 @@ pub record RunLaws (scope : Scope) : Type 0 where
       → IsReport scope rows b → a ≡ b
   pub one_offence : (rows : List Event) (row : Event) (a b : Offence) → IsOffence scope rows row a
       → IsOffence scope rows row b → a ≡ b
-
--- fields are a row of one event at most, and a row is never refused
-pub row_one : (fields : List (List ℕ)) (a b : Event) → IsRow fields a → IsRow fields b → a ≡ b
-row_one fields a b p q = grind (arith, common_steps)
-
-pub row_not_refused : (fields : List (List ℕ)) (event : Event) (fault : RowFault)
-    → IsRow fields event → IsRefusal fields fault → ⊥
-row_not_refused fields event fault row refused = grind (arith, common_steps)
 
 -- a record has one refusal
 pub one_refusal : (fields : List (List ℕ)) (a b : RowFault) → IsRefusal fields a

@@ -1,11 +1,6 @@
 -- Records that are rows.
 use Rattle.mdb_verdict.proofs.Words.{AreAll, AreRead, Err, HasFirst, IsOk, List, Ok, Result, [], ap, append_assoc, arith, length, length-append, refl, sym, ℕ, ◌++◌, ◌+◌, ◌<◌, ◌∙◌, ◌∷◌, ◌≡◌}
 
--- what answers isn't refused
-pub not_refused : {T E : Type 0} (answer : Result T E) (e : E) → answer ≡ Err e → IsOk answer → ⊥
-not_refused (Ok x) e is answers = absurd (cc)
-not_refused (Err x) e is answers = absurd (cc)
-
 -- so many are there then
 pub one_longer : {Row : Type 0} (rows longer : List Row) (row : Row) → longer ≡ rows ++ row ∷ []
     → length longer ≡ length rows + 1

@@ -12,11 +12,6 @@ pub is_fault : {A Fault : Type 0} {fault : Fault} (answer : Result A Fault)
     → IsErrAnd answer (λ other. other ≡ fault) → answer ≡ Err fault
 is_fault answer is = let it = err_from_is_err_and answer is in it.1 ∙ ap Err it.2
 
--- what holds of a fault holds of an answer that is this fault
-pub handed : {A Fault : Type 0} (P : Result A Fault → Type 0) (fault : Fault)
-    (answer : Result A Fault) → IsErrAnd answer (λ other. other ≡ fault) → P (Err fault) → P answer
-handed P fault answer is holds = rw (is_fault answer is) holds
-
 -- what a follower stands for is reached
 abbrev pub Reaches : Type 0
 Reaches = (follower : Follower) (rows : List Event) → StandsFor follower rows
