@@ -23,7 +23,7 @@ sold-2 device 0..0 controller 0..0 difference 0..0\n\
 silences changer 0 bill 0 cashless 0 cashless-2 0\n";
 
 /// The report on `WRONG_SUM`.
-pub(crate) const WRONG_SUM_REPORT: &[u8] = b"verdict no\nrow 7\nrule Sum\nblame changer\n";
+const WRONG_SUM_REPORT: &[u8] = b"verdict no\nrow 7\nrule Sum\nblame changer\n";
 
 /// An answer: the number of rows of a yes, none for a no, or the fault.
 pub(crate) type Counted = Result<Option<u64>, RunFault>;

@@ -16,7 +16,7 @@ pub(crate) const ACTS: &[u8] = b"1-2 ask changer 08 08\n3-3 ack changer\n4-5 ask
 6-7 reply changer 0B 0B\n8-8 vmc-ack changer\n";
 
 /// The acts of `WRONG_SUM`, and its fault.
-pub(crate) const WRONG_SUM_ACTS: &[u8] =
+const WRONG_SUM_ACTS: &[u8] =
     b"1-2 ask changer 08 08\n3-3 ack changer\n4-5 ask changer 0B 0B\nfault 7 Sum changer\n";
 
 /// `ROWS`, the first part of a poll, and a record that is no row.

@@ -225,20 +225,11 @@ impl Write for Sheet {
     }
 }
 
-/// The words of a command line, which blanks part. `~` stands for a blank within a word.
+/// The words of a command line, which blanks part.
 pub(crate) fn words_of(alloc: Global, line: &str) -> Result<Vec<String>, AllocError> {
     let mut list = Vec::new(alloc);
     for word in line.split_whitespace() {
-        list.push(word_of(alloc, word)?)?;
+        list.push(String::from_str(alloc, word)?)?;
     }
     Ok(list)
-}
-
-/// A word, with a blank for each `~`.
-fn word_of(alloc: Global, text: &str) -> Result<String, AllocError> {
-    let mut word = String::new(alloc);
-    for letter in text.chars() {
-        word.push(if letter == '~' { ' ' } else { letter })?;
-    }
-    Ok(word)
 }
