@@ -43,10 +43,18 @@ module _ (goal : Goal) {device which : Device} {weight : Weight} (act : Act) (ol
       → AreWithinOf (limit + 2 ^ 32) new which)
       → ((other : Device) → (other ≡ which → ⊥) → paths_in new other ≡ paths_in old other)
       → IfOk r (λ goes. OnTrue goes (OneLeadsPaths device goal act row old new))
-  one-leads (Ok true) row new led within others = rw is (record {
-    own = record { led = rw (weighs, is) at led; within = within };
-    others = others;
-  })
+  one-leads (Ok true) row new led within others =
+      subst (λ d. OneLeadsPaths d goal act row old new) (sym is) (record {
+        own = record {
+          led = subst (λ w. (profile : Profile) (pieces : List Piece) (events : List Event)
+              → row ≡ length (events_of pieces ++ events)
+              → PathsAt profile which w old.chains.links.items pieces (paths_in old which)
+              → PathsAt profile which w new.chains.links.items (Whole act events ∷ pieces)
+              (paths_in new which)) (weighs ∙ ap (weight_for goal) is) led;
+          within = within;
+        };
+        others = others;
+      })
   one-leads r row new led within others = tt
 
   -- Where it has no way, the device has none.

@@ -43,7 +43,7 @@ const BOUND: &str = "BOUND";
 const COMMAND: &str = "COMMAND";
 
 /// The program's commands, and what their words may be.
-pub(crate) const PROGRAM: Program<'static> = Program {
+const PROGRAM: Program<'static> = Program {
     name: "mdbcheck",
     version: VERSION,
     commands: &[
@@ -112,6 +112,11 @@ replay (explanation); all: mdbcheck manual",
     rest: manual::REST,
 };
 
+/// The same, by reference: what names the table itself is proved with a copy of it.
+pub(crate) fn program() -> &'static Program<'static> {
+    &PROGRAM
+}
+
 /// What the words of a command line ask for.
 #[derive(Drop)]
 pub(crate) enum Asked {
@@ -127,12 +132,12 @@ pub(crate) enum Asked {
 ///
 /// The line on words that are refused, or on memory that was refused.
 pub(crate) fn read_words(alloc: Global, words: &[String]) -> Result<Asked, Line> {
-    match read(alloc, &PROGRAM, words) {
+    match read(alloc, program(), words) {
         Ok(found) => match asked_by(alloc, &found) {
             Ok(asked) => Ok(asked),
             Err(refusal) => Err(line_on(refusal, profile_asked(&found), words)),
         },
-        Err(error) => Err(line_on_refused(alloc, &PROGRAM, words, &error)),
+        Err(error) => Err(line_on_refused(alloc, program(), words, &error)),
     }
 }
 
@@ -220,7 +225,7 @@ fn goal_asked<'a>(found: &Named<'a>) -> Result<Goal, Refusal<'a>> {
 
 /// The part of the manual, if one is asked for.
 fn part_asked<'a>(found: &Named<'a>) -> Result<Option<&'static str>, Refusal<'a>> {
-    manual_asked(&PROGRAM, found, COMMAND).map_err(|_| Refusal::Command(word_in(found, COMMAND)))
+    manual_asked(program(), found, COMMAND).map_err(|_| Refusal::Command(word_in(found, COMMAND)))
 }
 
 /// The word that stands alone and is called so.

@@ -17,7 +17,7 @@ ghost use Rattle.csv.specs.Reading.{default_config, records, strip_bom};
 
 use super::apart::Apart;
 use super::aside::tell_aside;
-use super::command_line::{Asked, PROGRAM, read_words};
+use super::command_line::{Asked, program, read_words};
 use super::complaint::{Wanted, complain};
 use super::task::Task;
 use command_words::write_manual;
@@ -156,7 +156,7 @@ pub fn run_words<R: Read + Drop, W: Write, E: Write>(
 fn print_manual<W: Write, E: Write>(part: Option<&str>, out: &mut W, err: &mut E) -> u8
     ensures status { (result ≡ POSSIBLE) ⊎ (result ≡ NO_VERDICT) }
 {
-    match write_manual(&PROGRAM, part, out) {
+    match write_manual(program(), part, out) {
         Ok(()) => POSSIBLE,
         Err(WriteFailed) => {
             let _ = writeln!(err, "mdbcheck: {}", WriteFailed);

@@ -1,6 +1,6 @@
 //! Why a command line is refused that names a command, and the line on it.
 
-use super::command_line::PROGRAM;
+use super::command_line::program;
 use command_words::{Line, row_of};
 use mdb_bus::Profile;
 use mdb_follow::AccountName;
@@ -51,7 +51,7 @@ pub(crate) enum SetupFault {
 
 /// The line on words that are refused for this, where they ask for this profile.
 pub(crate) fn line_on(refusal: Refusal<'_>, profile: Profile, words: &[String]) -> Line {
-    let mut line = Line::of(&PROGRAM);
+    let mut line = Line::of(program());
     line.add(&[": "]);
     match refusal {
         Refusal::NotExtended => line.add(&["--joined needs --extended"]),
@@ -71,7 +71,7 @@ pub(crate) fn line_on(refusal: Refusal<'_>, profile: Profile, words: &[String]) 
         }
         Refusal::Command(word) => {
             line.add_word("unknown command \"", word, "\"");
-            line.add_usage(&PROGRAM, None);
+            line.add_usage(program(), None);
             return line;
         }
         Refusal::Account(word) => {
@@ -80,7 +80,7 @@ pub(crate) fn line_on(refusal: Refusal<'_>, profile: Profile, words: &[String]) 
         }
         other => add_word(&mut line, other),
     }
-    line.add_usage(&PROGRAM, row_of(&PROGRAM, words));
+    line.add_usage(program(), row_of(program(), words));
     line
 }
 

@@ -40,7 +40,7 @@ pub(crate) const SKIP_DAMAGED: &str = "skip-damaged";
 pub(crate) const COMMAND: &str = "COMMAND";
 
 /// The program's commands, and what their words may be.
-pub(crate) const PROGRAM: Program<'static> = Program {
+const PROGRAM: Program<'static> = Program {
     name: "mdbimport",
     version: VERSION,
     commands: &[
@@ -118,3 +118,8 @@ all: mdbimport manual",
     about: manual::ABOUT,
     rest: manual::REST,
 };
+
+/// The same, by reference: what names the table itself is proved with a copy of it.
+pub(crate) fn program() -> &'static Program<'static> {
+    &PROGRAM
+}

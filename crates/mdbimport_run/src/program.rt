@@ -1,6 +1,6 @@
 //! The program over its words.
 
-use super::command_line::PROGRAM;
+use super::command_line::program;
 use super::complaint::{complain, complain_of_edges, complain_of_table, say_fault};
 use super::notes::Notes;
 use super::refused::refuse;
@@ -156,7 +156,7 @@ fn run_messages<R: Read + Drop, W: Write, E: Write>(
 
 /// Prints the manual, or a part of it.
 fn run_manual<W: Write, E: Write>(part: Option<&str>, out: &mut W, err: &mut E) -> bool {
-    match write_manual(&PROGRAM, part, out) {
+    match write_manual(program(), part, out) {
         Ok(()) => true,
         Err(fault) => say_fault(&fault, err),
     }

@@ -1,7 +1,7 @@
 //! The lines on a command line that is refused.
 
 use super::command_line::{
-    BREAK, COMMAND, CONTROLLER, FROM, PERIPHERAL, PROGRAM, TIME_OF, UNIT, UNTIL,
+    BREAK, COMMAND, CONTROLLER, FROM, PERIPHERAL, TIME_OF, UNIT, UNTIL, program,
 };
 use super::refusal::{Refusal, ValueFault};
 use super::task::is_line_name;
@@ -27,7 +27,7 @@ pub(crate) fn refuse<W: Write, E: Write>(
             let _ = write_refusal(out);
         }
     }
-    line_on(alloc, &PROGRAM, refusal, words).tell(err);
+    line_on(alloc, program(), refusal, words).tell(err);
 }
 
 /// The line on words that are refused. They are read once more to see which word it is.

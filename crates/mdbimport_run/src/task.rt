@@ -1,8 +1,8 @@
 //! The task that the words of a command line name.
 
 use super::command_line::{
-    BREAK, COMMAND, CONTROLLER, FROM, INVERT, PERIPHERAL, PROGRAM, SKIP_DAMAGED, SWAP, TIME_OF,
-    UNIT, UNTIL,
+    BREAK, COMMAND, CONTROLLER, FROM, INVERT, PERIPHERAL, SKIP_DAMAGED, SWAP, TIME_OF, UNIT, UNTIL,
+    program,
 };
 use super::refusal::{Refusal, ValueFault};
 use clap::error::ErrorKind;
@@ -36,7 +36,7 @@ pub(crate) enum Task {
 /// What the words ask for. Refused are those that `clap` refuses, those in which an option stands
 /// twice, and those with a value that isn't one of its option.
 pub(crate) fn task_of(alloc: Global, words: &[String]) -> Result<Task, Refusal> {
-    match read(alloc, &PROGRAM, words) {
+    match read(alloc, program(), words) {
         Ok(found) => task_in(alloc, &found),
         Err(error) => Err(Refusal::Words(error.kind())),
     }
@@ -51,7 +51,7 @@ fn task_in(alloc: Global, found: &Named<'_>) -> Result<Task, Refusal> {
         "edges" => Ok(Task::Edges(edges_options(alloc, found)?)),
         "vcd" => Ok(Task::Vcd(vcd_options(alloc, found)?)),
         "messages" => Ok(Task::Messages(messages_options(alloc, found)?)),
-        "manual" => match manual_asked(&PROGRAM, found, COMMAND) {
+        "manual" => match manual_asked(program(), found, COMMAND) {
             Ok(part) => Ok(Task::Manual(part)),
             Err(kind) => Err(Refusal::Words(kind)),
         },
