@@ -1,5 +1,5 @@
 //! The tests, of everything that no contract states about the libraries: that a call can succeed at
-//! all, worked cases from outside, the faults of readers and writers, and the words of the program.
+//! all, worked cases from outside, and the faults of readers and writers.
 //!
 //! Only the tests of the calls for other programs stand elsewhere. They share this one crate,
 //! because a crate that has tests is proved a second time for them.
