@@ -9,7 +9,8 @@
 #     make release       renews release/ from what tests/run has proved and built
 #
 # `make install` installs the programs that were built here, and where none were, those of release/:
-# them, the page, the man pages, completions for bash, docs/ and examples/. It builds nothing.
+# them, examples/many-recordings as mdbcheck-many, the page, the man pages, completions for bash, docs/
+# and examples/. Installed pages call the programs by their installed names. It builds nothing.
 
 PREFIX = /usr/local
 DESTDIR =
@@ -24,6 +25,8 @@ completions = $(DESTDIR)$(PREFIX)/share/bash-completion/completions
 doc = $(DESTDIR)$(PREFIX)/share/doc/mdbcheck
 
 names = mdbcheck mdbimport
+# In a page: what is called as it stands here is called by its installed name.
+installed = -e 's:release/(mdbcheck|mdbimport):\1:g' -e 's:examples/many-recordings:mdbcheck-many:g'
 
 programs:
 	tools/prove
@@ -46,24 +49,29 @@ release:
 # Only what has a page or completions here. The second program and the page may be missing.
 install:
 	$(if $(wildcard $(PROGRAM)),,$(error there is no $(PROGRAM): build it as README.md says, or name it with PROGRAM=))
-	install -d '$(bin)' '$(man)' '$(completions)' '$(doc)/examples' '$(doc)/docs'
+	install -d '$(bin)' '$(man)' '$(completions)' '$(doc)/examples/exports'
 	install -m 755 '$(PROGRAM)' '$(bin)/mdbcheck'
 	$(if $(wildcard $(IMPORT)),install -m 755 '$(IMPORT)' '$(bin)/mdbimport')
+	install -m 755 examples/many-recordings '$(bin)/mdbcheck-many'
 	$(if $(wildcard $(PAGE)),install -m 644 '$(PAGE)' '$(doc)/mdbcheck.html')
 	for name in $(names); do \
 	    [ ! -e man/$$name.1 ] || install -m 644 man/$$name.1 '$(man)' || exit 1; \
 	    [ ! -e completions/$$name.bash ] || \
 	        install -m 644 completions/$$name.bash '$(completions)'/$$name || exit 1; \
 	done
-	install -m 644 README.md CHANGELOG.md '$(doc)'
-	cd docs && find . -name '*.md' -o -name '*.json' -o -name '*.png' | while read -r page; do \
-	    install -D -m 644 "$$page" '$(doc)/docs'/"$$page" || exit 1; \
+	for page in README.md CHANGELOG.md $$(find docs/ -name '*.md'); do \
+	    sed -E $(installed) "$$page" | install -D -m 644 /dev/stdin '$(doc)'/"$$page" || exit 1; \
+	done
+	for file in $$(find docs/ -name '*.json' -o -name '*.png'); do \
+	    install -D -m 644 "$$file" '$(doc)'/"$$file" || exit 1; \
 	done
 	install -m 644 examples/*.csv '$(doc)/examples'
+	install -m 644 examples/exports/* '$(doc)/examples/exports'
 
 # What others share, as bin, stays.
 uninstall:
 	for name in $(names); do rm -f '$(bin)'/$$name '$(man)'/$$name.1 '$(completions)'/$$name || exit 1; done
+	rm -f '$(bin)/mdbcheck-many'
 	rm -rf '$(doc)'
 
 .PHONY: c-library help install page programs release uninstall vectors

@@ -12,14 +12,15 @@ _mdbimport() {
         --unit) words='s ms us ns' ;;
         --time-of) words='first last' ;;
         --controller | --peripheral | --break | --from | --until) ;;
+        --invert-line) words='M S' ;;
         *)
             case ${COMP_WORDS[1]} in
                 sigrok) words='--swap --skip-damaged --from --until' ;;
-                rows) words='--unit --controller --peripheral --from --until' ;;
+                rows) words='--unit --controller --peripheral --decimal --from --until' ;;
                 saleae) words='--controller --peripheral --break --skip-damaged --from --until' ;;
-                edges) words='--unit --controller --peripheral --invert --skip-damaged --from --until' ;;
-                vcd) words='--controller --peripheral --invert --skip-damaged --from --until' ;;
-                messages) words='--unit --controller --peripheral --time-of --from --until' ;;
+                edges) words='--unit --controller --peripheral --invert --invert-line --skip-damaged --from --until' ;;
+                vcd) words='--controller --peripheral --invert --invert-line --skip-damaged --from --until' ;;
+                messages) words='--unit --controller --peripheral --time-of --decimal --from --until' ;;
                 manual) [ "$COMP_CWORD" -gt 2 ] || words='sigrok rows saleae edges vcd messages manual' ;;
                 *) words='sigrok rows saleae edges vcd messages manual' ;;
             esac

@@ -3,6 +3,8 @@
 // the rows. Lengths of time go through `seconds`.
 import {by, fieldBy, openWays} from "./elements.js";
 import {madeFiles} from "./import/made.js";
+import {MOST_TIME} from "./import/numbers.js";
+import {CLOCK} from "./import/times.js";
 import {state} from "./run/now.js";
 import {fraction, padded, rowTime} from "./times.js";
 
@@ -11,8 +13,12 @@ const DAY = 86400e6;
 // (`hasDate`), since 1970. `first` is the day of the first row. Null if no clock is known.
 /** @type {{zero: number, hasDate: boolean, first: number} | null} */
 export let clock = null;
-// The TIME whose clock the field has: 0, or that of the first row where the export has times of day.
+// The TIME whose clock the field has: 0, or that of the first row where that is known of it.
 let clockAt = 0;
+// The recording from which the field was filled.
+let filled = null;
+// From this TIME on, in 2001, times are since 1970: no recorder has counted for so long.
+const SINCE_1970 = 1e15;
 
 const dateWords = (day) => new Date(day * 86400000).toISOString().slice(0, 10);
 
@@ -73,7 +79,7 @@ export function startClock({list, listed}) {
 // Says beside the field what it is the time of, and when row 1 is then.
 export function tellClock() {
   const isRow = clockAt > 0,
-        what = isRow ? "This is the time of row 1, as the export has it. Correct it if that clock was wrong." :
+        what = isRow ? "This is the time of row 1, as the file has it. Correct it if that clock was wrong." :
                        "This is the time at which the recorder counted 0.";
   const first = clock && state?.listed && !isRow ? ` Row 1 is then at ${when(state.list.start(0))}.` : "";
   by("began-told").textContent = what + first;
@@ -88,20 +94,22 @@ export function openClock() {
 // Another recording began at another time.
 export function forgetClock() {
   clockAt = 0;
+  filled = null;
   fieldBy("began").value = "";
   setClock();
 }
 
-// Fills the field from rows that were made of times of day, once.
+// Fills the field from rows whose times are those of a clock, once: of times of day, of dates, or since 1970.
 /** @type {(rows: File) => Promise<void>} */
 export async function fillClock(rows) {
-  const source = madeFiles.get(rows);
-  if (!source?.hasClocks || source.isClockTold) return;
-  const [, time] = /^(\d+),/.exec(await rows.slice(0, 64).text()) ?? [];
-  if (time === undefined) return;
-  source.isClockTold = true;
-  clockAt = Number(time);
-  fieldBy("began").value = clockTimeOf(clockAt, clockAt % 1000 ? 6 : 3);
+  const source = madeFiles.get(rows), whole = source?.whole ?? rows;
+  if (filled === whole) return;
+  const [, written = "0"] = /^\s*(\d+),/.exec(await rows.slice(0, 64).text()) ?? [], time = Number(written);
+  if (!source?.clockForm && time < SINCE_1970 || time >= MOST_TIME) return;
+  filled = whole;
+  clockAt = time;
+  const date = source?.clockForm === CLOCK ? "" : `${dateWords(Math.floor(time / DAY))} `;
+  fieldBy("began").value = date + clockTimeOf(time, time % 1000 ? 6 : 3);
   setClock();
 }
 
@@ -109,7 +117,7 @@ export async function fillClock(rows) {
 /** @type {() => string | null} */
 export function beganWords() {
   if (!clock) return null;
-  const what = clockAt ? "row 1, as the export has it" : "where its rows count 0, as given on this page";
+  const what = clockAt ? "row 1, as the file has it" : "where its rows count 0, as given on this page";
   return `${fieldBy("began").value.trim()} (${what})`;
 }
 

@@ -380,7 +380,9 @@ interface ImportWords {
   length?: string;
   from?: string;
   until?: string;
+  decimal?: boolean;
   invert?: boolean;
+  invertLine?: string;
   swap?: boolean;
   skip?: boolean;
   decoded?: boolean;
@@ -401,7 +403,6 @@ interface OpenImport {
   options?: ImportWords;
   asks?: string[];
   preview?: object;
-  isEarly?: boolean;
   isChecked?: boolean;
   isExchanged?: boolean;
 }

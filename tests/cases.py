@@ -1,13 +1,12 @@
-"""The worked cases of crates/conformance/data, as Python reads them: for all scripts of tests/.
+"""The worked cases of tests/cases, as Python reads them: for all scripts of tests/.
 
-The page beside the cases (README) says how a case is written. The proved reader of the same language
-is crates/conformance/src/main.rt; there is no third.
+The page beside the cases (README) says how a case is written. There is no other reader of them.
 """
 
 import pathlib
 import re
 
-FOLDER = pathlib.Path(__file__).resolve().parent.parent / "crates" / "conformance" / "data"
+FOLDER = pathlib.Path(__file__).resolve().parent / "cases"
 ESCAPES = {"n": "\n", "r": "\r", "m": "\xef\xbb\xbf", "x": "\xff", "\\": "\\"}
 # A value of --setup: a line of `show`, perhaps without its rows, perhaps without `reply` or `ask` too. Or a reader's level.
 SETUP = re.compile(r"(?:(?:\d+-\d+ )?(?:reply|ask) )?(\S+) (.+)")

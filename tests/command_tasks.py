@@ -368,14 +368,20 @@ def trace_of(wave):
     return ('{"traceEvents": [\n' + ",\n".join(records) + "\n]}\n").encode()
 
 
+def high_of(options):
+    """What a high level of each line is in an export."""
+    turned = options.get("--invert-line", "").upper()
+    return {line: int("--invert" not in options and line != turned) for line in "MS"}
+
+
 def edges_export(options, wave):
     """A table of edges."""
-    unit, names, high = options.get("--unit", "s"), names_of(options), "--invert" not in options
+    unit, names, high = options.get("--unit", "s"), names_of(options), high_of(options)
     changes, levels = import_cases.changes_of(wave), {"M": 1, "S": 1}
     lines = [f"Time,{names['M']},{names['S']}\n"]
     for time in sorted({0, *changes}):
         levels.update(changes.get(time, {}))
-        shown = [int(bool(levels[line]) == high) for line in "MS"]
+        shown = [int(bool(levels[line]) == high[line]) for line in "MS"]
         lines.append(f"{number_in(unit, time)},{shown[0]},{shown[1]}\n")
     return "".join(lines).encode()
 
@@ -384,8 +390,9 @@ def vcd_export(options, wave):
     """A value change dump."""
     names, text = names_of(options), import_cases.dump(import_cases.changes_of(wave))
     text = text.replace(" ! M ", f" ! {names['M']} ").replace(' " S ', f' " {names["S"]} ')
-    if "--invert" in options:
-        text = re.sub(r"^[01](?=[!\"]$)", lambda level: "10"[int(level[0])], text, flags=re.M)
+    for line, code in zip("MS", "!\""):
+        if not high_of(options)[line]:
+            text = re.sub(rf"^[01](?={code}$)", lambda level: "10"[int(level[0])], text, flags=re.M)
     return text.encode()
 
 
@@ -410,19 +417,21 @@ class Imports:
         self.known = {}
 
     def inputs(self, task):
-        """One export, or two: without damage, and with it."""
+        """One export, or several: without damage, and with it; with a line upside down, and with none."""
         passed = ("--from", "--until", "--swap")
         options = {name: value for name, value in task.options.items() if name not in passed}
         key = (task.command, *options.items())
         if key not in self.known:
             waves = [DAMAGED] if "--skip-damaged" in options else [WAVE, DAMAGED]
+            upright = {name: value for name, value in options.items() if name != "--invert-line"}
+            both = [options] if upright == options else [options, upright]
             self.known[key] = {
                 "manual": lambda: [b""],
                 "rows": lambda: [rows_export(options)],
                 "saleae": lambda: [saleae_export(options)],
                 "sigrok": lambda: [trace_of(wave) for wave in waves],
-                "edges": lambda: [edges_export(options, wave) for wave in waves],
-                "vcd": lambda: [vcd_export(options, wave) for wave in waves],
+                "edges": lambda: [edges_export(one, wave) for wave in waves for one in both],
+                "vcd": lambda: [vcd_export(one, wave) for wave in waves for one in both],
                 "messages": lambda: [log_of(options)],
             }[task.command]()
         return self.known[key]
@@ -440,21 +449,21 @@ class Imports:
         names, part = (value("--controller"), value("--peripheral")), (value("--from"), value("--until"))
         skip, invert = value("--skip-damaged", False), value("--invert", False)
         if task.command == "rows":
-            answer = second_rows.read(text, value("--unit"), *names, *part)
+            answer = second_rows.read(text, value("--unit"), *names, *part, value("--decimal", False))
         elif task.command == "saleae":
             answer = second_saleae.read(text, *names, value("--break"), *part, skip)
         elif task.command == "edges":
-            answer = second_edges.read(text, *names, value("--unit", "s"), invert, *part, skip)
+            answer = second_edges.read(text, *names, value("--unit", "s"), invert, value("--invert-line"), *part, skip)
         elif task.command == "vcd":
-            answer = second_vcd.read(text, *names, invert, *part, skip)
+            answer = second_vcd.read(text, *names, invert, value("--invert-line"), *part, skip)
         elif task.command == "messages":
-            answer = second_messages.read(text, value("--unit"), *names, value("--time-of"), *part)
+            answer = second_messages.read(text, value("--unit"), *names, value("--time-of"), *part, value("--decimal", False))
         else:
             came = second_import.read(text, value("--swap", False), skip)
             if isinstance(came, second_import.Refusal):
                 return 2, second_rows.REFUSED + "\n"
             answer = second_edges.answer_of(*came, *part)
-        is_refused = answer.refused is not None
+        is_refused = second_rows.is_refused(answer)
         rows = [*answer.rows, second_rows.REFUSED] if is_refused else answer.rows
         return 2 * is_refused, "".join(row + "\n" for row in rows)
 

@@ -3,6 +3,8 @@ parts of recordings, options, and damage done to a text.
 """
 
 import scenes
+from made_times import part_end
+from second_clock import end_of
 
 
 class Export:
@@ -17,7 +19,7 @@ class Export:
         self.damaged = list(damaged)
 
 
-FLAGS = ("--swap", "--invert", "--skip-damaged")
+FLAGS = ("--decimal", "--swap", "--invert", "--skip-damaged")
 
 
 def options_of(words):
@@ -28,7 +30,7 @@ def options_of(words):
     options.update(zip(words[::2], words[1::2]))
     for option in ("--from", "--until", "--break"):
         if option in options:
-            options[option] = int(options[option])
+            options[option] = end_of(options[option])
     return options, flags
 
 
@@ -55,7 +57,7 @@ def wanted_of(truth, words):
     if truth.rows is None:
         return {"rows": None, "refused": True}
     options, _ = options_of(words)
-    first, last = options.get("--from", 0), options.get("--until", 10**15)
+    first, last = options.get("--from", 0), options.get("--until", 10**18)
     rows = [f"{time},{line},{value}" for time, line, value in truth.rows if first <= time <= last]
     return {"rows": rows, "pulses": truth.pulses, "damaged": truth.damaged}
 
@@ -65,7 +67,8 @@ def part_words(rng, times, share):
     words = []
     for option in ("--from", "--until"):
         if times and rng.random() < share:
-            words += [option, str(max(0, rng.choice(times) + rng.choice([-1, 0, 1])))]
+            far = choose(rng, (60, 0), (1, 10**9), (1, -10**9), (1, 10**15))
+            words += [option, part_end(rng, max(0, rng.choice(times) + rng.choice([-1, 0, 1]) + far))]
     return words
 
 
@@ -130,6 +133,16 @@ def around(rng, field, quotes, blanks):
         if rng.random() < blanks:
             field = field + " " * rng.randint(0, 2)
     return field
+
+
+# Records that are comments above a header, with whatever columns.
+COMMENTS = ["#", "# saved by a recorder", "; saved", ";", " # 1,2,3", '"#", "x"', "#\t5", "#;M;108", "; 0,M,108", "\"; a, b\"", "##"]
+
+
+def with_comments(rng, lines, share):
+    """The lines, in some with comments above them; and how many."""
+    comments = rng.choices(COMMENTS, k=rng.choice([1, 1, 2, 5])) if rng.random() < share else []
+    return comments + lines, len(comments)
 
 
 def wrong_words(rng, words):

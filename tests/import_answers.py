@@ -4,12 +4,13 @@ from typing import NamedTuple
 
 import second_edges
 import second_import
+import second_looks
 import second_messages
 import second_rows
 import second_saleae
 import second_vcd
 from export_parts import options_of
-from second_rows import REFUSED
+from second_rows import REFUSED, is_refused
 
 
 class Whole(NamedTuple):
@@ -22,7 +23,7 @@ class Whole(NamedTuple):
 
 def rows_answer(text, options, flags):
     words = ("--unit", "--controller", "--peripheral", "--from", "--until")
-    return second_rows.read(text, *map(options.get, words))
+    return second_rows.read(text, *map(options.get, words), "--decimal" in flags)
 
 
 def saleae_answer(text, options, flags):
@@ -33,25 +34,27 @@ def saleae_answer(text, options, flags):
 def sigrok_answer(text, options, flags):
     came = second_import.read(text, "--swap" in flags, "--skip-damaged" in flags)
     if isinstance(came, second_import.Refusal):
-        return second_edges.Answer([], came.record, f"wanted {came.why}", came.time, came.line, 0, 0, set(), False)
+        found = second_looks.looks(text, "sigrok") if came.record == 0 else ""
+        return second_edges.Answer([], came.record, f"wanted {came.why}", came.time, came.line, 0, 0, set(), False, found=found)
     return second_edges.answer_of(*came, options.get("--from"), options.get("--until"))
 
 
 def edges_answer(text, options, flags):
     return second_edges.read(
         text, options.get("--controller"), options.get("--peripheral"), options.get("--unit", "s"),
-        "--invert" in flags, options.get("--from"), options.get("--until"), "--skip-damaged" in flags)
+        "--invert" in flags, options.get("--invert-line"), options.get("--from"), options.get("--until"),
+        "--skip-damaged" in flags)
 
 
 def vcd_answer(text, options, flags):
     return second_vcd.read(
-        text, options.get("--controller"), options.get("--peripheral"), "--invert" in flags,
+        text, options.get("--controller"), options.get("--peripheral"), "--invert" in flags, options.get("--invert-line"),
         options.get("--from"), options.get("--until"), "--skip-damaged" in flags)
 
 
 def messages_answer(text, options, flags):
     words = ("--unit", "--controller", "--peripheral", "--time-of", "--from", "--until")
-    return second_messages.read(text, *map(options.get, words))
+    return second_messages.read(text, *map(options.get, words), "--decimal" in flags)
 
 
 ANSWERS = {"rows": rows_answer, "saleae": saleae_answer, "sigrok": sigrok_answer, "edges": edges_answer,
@@ -69,6 +72,6 @@ def answer_of(words, text):
 
 def whole(words, answer):
     """All that has to be written of it."""
-    rows = answer.rows + ([REFUSED] if answer.refused is not None else [])
+    rows = answer.rows + ([REFUSED] if is_refused(answer) else [])
     lines = "".join(f"mdbimport: {line}\n" for line in TOLD[words[0]](answer))
-    return Whole(0 if answer.refused is None else 2, "".join(row + "\n" for row in rows).encode(), lines.encode())
+    return Whole(2 if is_refused(answer) else 0, "".join(row + "\n" for row in rows).encode(), lines.encode())

@@ -2,7 +2,7 @@
 formats: exports by hand, and what mdbimport has to write and to tell of each.
 """
 
-from import_corners import LONG, NO_MODE, NO_WORD, ONLY_M, ONLY_S, PART, SKIP, SURVEY, shown, writes
+from import_corners import IN_PART, LONG, NO_MODE, NO_ROW, NO_WORD, ONLY_M, ONLY_S, PART, SKIP, SURVEY, shown, writes
 
 # ---------------------------------------------------------------------------------- sigrok
 
@@ -72,8 +72,8 @@ TEXTS = [
     ("", f"{HEAD}{B1},\n{E1}\n]\n", "", f"record 3: {LAST}"),
     ("", f"{HEAD}{B1},\n{E1}{TAIL}\n", "", f"record 3: {AFTER}"),
     ("", f"{HEAD}{B1},\n{E1}{TAIL}]}}", "", f"record 3: {AFTER}"),
-    ("", f"{HEAD}{B1},\n{E1}\n]}}", "", NO_WORD), ("", f"{HEAD}{B1},\n{E1}{TAIL}".replace("\n", "\r\n"), "", NO_WORD),
-    ("", f"{HEAD}{B1},\r\n{E1}\n]}}\r\n", "", NO_WORD), ("", f"{HEAD}{B1},\r\r\n{E1}{TAIL}", "",
+    ("", f"{HEAD}{B1},\n{E1}\n]}}", "", NO_ROW), ("", f"{HEAD}{B1},\n{E1}{TAIL}".replace("\n", "\r\n"), "", NO_ROW),
+    ("", f"{HEAD}{B1},\r\n{E1}\n]}}\r\n", "", NO_ROW), ("", f"{HEAD}{B1},\r\r\n{E1}{TAIL}", "",
      f"record 1: {RECORD}"),
     ("", f"{HEAD}{E1},\n{E1}{TAIL}", "", f"record 1 at 1: {NO_BEGIN}"),
     ("", f"{HEAD}{B1},\n{E1},\n{E1},\n{E1}{TAIL}", "", f"record 3 at 1: {NO_BEGIN}"),
@@ -86,8 +86,8 @@ TEXTS = [
         ("1.000000", "-1.000000"), ("1.000000", "1,000000"), ('"B"', '"b"'), ('"B"', '"X"'), (', "pid"', ',"pid"'),
         ("}", "} "), ("{", " {"), ("Start bit", 'Start "bit'), ("}", ""))),
     ("", f"{HEAD}{B1}, \n{E1}{TAIL}", "", f"record 1: {RECORD}"),
-    ("", f"{HEAD}{record('B', '999999999999999.500000', 'TX', 'Start bit')},\n{E1}{TAIL}", "", f"record 1: {LONG}"),
-    ("", f"{HEAD}{B1},\n{record('E', '1000000000000000', 'TX', 'Start bit')}{TAIL}", "", f"record 2: {LONG}"),
+    ("", f"{HEAD}{record('B', '999999999999999999.500000', 'TX', 'Start bit')},\n{E1}{TAIL}", "", f"record 1: {LONG}"),
+    ("", f"{HEAD}{B1},\n{record('E', '1000000000000000000', 'TX', 'Start bit')}{TAIL}", "", f"record 2: {LONG}"),
     ("", f"{HEAD}{record('B', '9' * 40, 'TX', 'Start bit')},\n{E1}{TAIL}", "", f"record 1: {LONG}"),
 ]
 TRACES = [
@@ -98,7 +98,8 @@ TRACES = [
     ("", "RX S 1000.400000/TX S 1000.500000/RX 100 1104/TX 108 1104", "1000,S,100 1001,M,108", ""),
     ("", "TX S 0.499999/TX 108 104/RX S 0.500000/RX 001 104", "0,M,108 1,S,001", ""),
     ("", "TX S 00000000000000000000007/TX 108 104", "7,M,108", ONLY_M),
-    ("", "TX S 999999999999999.499999/TX 008 999999999999999", "999999999999999,M,008", f"{ONLY_M}\n{NO_MODE}"),
+    ("", "TX S 999999999999999999.499999/TX 008 999999999999999999", "999999999999999999,M,008",
+     f"{ONLY_M}\n{NO_MODE}"),
     ("", M + "TX S 5000", "1000,M,108", ONLY_M),
     ("", M + "RX S 900/", "1000,M,108", ONLY_M),
     ("", "TX S 1000/TX 1FF 1104/", "1000,M,1FF", ONLY_M),
@@ -136,7 +137,7 @@ TRACES = [
     ("--skip-damaged", M + S + "RX F 4067.708333", "1000,M,108", damaged("3000 on S") + f"\n{ONLY_M}"),
     ("", ZERO + "TX F 6067.708334", "", f"record 5 at 6042 on M: {NO_STOP}"),
     ("--skip-damaged", ZERO + "TX F 6067.708334", "",
-     f"{PULSE.format('6068 on M')}\n{damaged('5000 on M')}\n{NO_WORD}"),
+     f"{PULSE.format('6068 on M')}\n{damaged('5000 on M')}\n{NO_ROW}"),
     ("--skip-damaged", ZERO + "TX F 6067.708333", "", f"record 5 at 6042 on M: {NO_STOP}"),
     ("", ZERO + "TX B 5000 5000", "5000,B,0", NO_WORD),
     ("", ZERO + "TX B 5000 4999.999999", "",
@@ -145,16 +146,16 @@ TRACES = [
     ("", ZERO + "TX B 5000 1000004999.499999", "5000,B,999999999", NO_WORD),
     ("", ZERO + "TX B 5000 1000004999.500000", "", f"record 7 at 5000 on M: {LONG_BREAK}"),
     ("--skip-damaged", ZERO + "TX B 5000 1000004999.499999", "5000,B,999999999", NO_WORD),
-    ("--skip-damaged", ZERO + "TX B 5000 1000004999.500000", "", f"{damaged('5000 on M')}\n{NO_WORD}"),
-    ("--skip-damaged", ZERO + "TX B 5000 99999.499999", "", f"{damaged('5000 on M')}\n{NO_WORD}"),
+    ("--skip-damaged", ZERO + "TX B 5000 1000004999.500000", "", f"{damaged('5000 on M')}\n{NO_ROW}"),
+    ("--skip-damaged", ZERO + "TX B 5000 99999.499999", "", f"{damaged('5000 on M')}\n{NO_ROW}"),
     ("--skip-damaged", ZERO + "TX B 5000 99999.500000", "5000,B,95000", NO_WORD),
     ("", ZERO + "TX B 5000 99999.499999", "5000,B,94999", NO_WORD),
-    ("--skip-damaged", ZERO.replace("000 ", "001 ") + "TX B 5000 205000", "", f"{damaged('5000 on M')}\n{NO_WORD}"),
+    ("--skip-damaged", ZERO.replace("000 ", "001 ") + "TX B 5000 205000", "", f"{damaged('5000 on M')}\n{NO_ROW}"),
     ("", DEVICE_ZERO + "RX B 5000 205000", "", f"record 7 at 5000 on S: {ON_S}"),
     ("", DEVICE_ZERO + "RX B 5000 4000", "", f"record 7 at 5000 on S: {ON_S}"),
     ("--skip-damaged", DEVICE_ZERO + "RX B 5000 4000", "",
      "record 7 at 5000 on S: wanted the end of the break after its beginning"),
-    ("--skip-damaged", DEVICE_ZERO + "RX B 5000 205000", "", f"{damaged('5000 on S')}\n{NO_WORD}"),
+    ("--skip-damaged", DEVICE_ZERO + "RX B 5000 205000", "", f"{damaged('5000 on S')}\n{NO_ROW}"),
     ("--swap", DEVICE_ZERO + "RX B 5000 205000", "5000,B,200000", NO_WORD),
     ("", M + "TX B 5000 205000", "", f"record 5 at 5000 on M: {NO_ZERO}"),
     ("", "TX B 5000 205000", "", f"record 1 at 5000 on M: {NO_ZERO}"),
@@ -173,7 +174,7 @@ TRACES = [
     ("", DEVICE_ZERO + ZERO, "", f"record 11 at 6042 on M: {NO_STOP}"),
     ("", ZERO + DEVICE_ZERO, "", f"record 5 at 6042 on M: {NO_STOP}"),
     ("", ZERO + M.replace("TX", "RX"), "", f"record 5 at 6042 on M: {NO_STOP}"),
-    ("--skip-damaged", ZERO + DEVICE_ZERO, "", f"{damaged('5000 on M', '5000 on S')}\n{NO_WORD}"),
+    ("--skip-damaged", ZERO + DEVICE_ZERO, "", f"{damaged('5000 on M', '5000 on S')}\n{NO_ROW}"),
     ("--skip-damaged", ZERO + "TX S 5000", "", f"record 7 at 5000 on M: {LATE}"),
     ("--skip-damaged", ZERO + "TX S 5001/TX 108 5105", "5001,M,108", f"{damaged('5000 on M')}\n{ONLY_M}"),
     ("", M + "TX S 1000", "", f"record 5 at 1000 on M: {LATE}"),
@@ -183,16 +184,17 @@ TRACES = [
     ("", M + "TX S 3000/TX 001 3104/TX S 2000", "", f"record 9 at 2000 on M: {LATE}"),
     ("", "RX F 500/RX F 500", "", f"record 3 at 500 on S: {LATE}"),
     ("", "RX F 500/RX F 499", "", f"record 3 at 499 on S: {LATE}"),
-    ("", "RX F 500/TX F 500", "", f"passed over 2 pulses shorter than half a bit; the first at 500 on M\n{NO_WORD}"),
+    ("", "RX F 500/TX F 500", "", f"passed over 2 pulses shorter than half a bit; the first at 500 on M\n{NO_ROW}"),
     ("", "RX F 500/RX S 500", "", f"record 3 at 500 on S: {LATE}"),
     ("", "RX F 0/RX S 1/RX 100 105", "1,S,100", f"{PULSE.format('0 on S')}\n{ONLY_S}"),
     ("", "/".join(f"RX F {at}000" for at in range(1, 301)), "",
-     f"passed over 300 pulses shorter than half a bit; the first at 1000 on S\n{NO_WORD}"),
+     f"passed over 300 pulses shorter than half a bit; the first at 1000 on S\n{NO_ROW}"),
     ("--from 1001 --until 3000", "TX F 5/" + M + S + "TX S 5000/TX 008 5104", "3000,S,100",
      f"{PART.format(1, 1)}\n{PULSE.format('5 on M')}"),
-    ("--from 9000", M + ZERO + "TX B 5000 205000", "", f"{PART.format(2, 0)}\n{ONLY_M}"),
+    ("--from 9000", M + ZERO + "TX B 5000 205000", "", f"{PART.format(2, 0)}\n{IN_PART.format(1000, 5000)}"),
     ("--from 9000", "TX S 1000/TX F 1104", "", f"record 3 at 1104 on M: {NO_STOP}"),
-    ("--skip-damaged --until 9", ZERO + S, "", f"{PART.format(0, 1)}\n{damaged('5000 on M')}\n{ONLY_S}"),
+    ("--skip-damaged --until 9", ZERO + S, "",
+     f"{PART.format(0, 1)}\n{damaged('5000 on M')}\n{IN_PART.format(3000, 3000)}"),
 ]
 
 # ----------------------------------------------------------------------------------- edges
@@ -200,7 +202,7 @@ TRACES = [
 NO_HEADER = "wanted a header that names the columns"
 NO_COLUMN = "wanted one column of each line: as --controller and --peripheral say, or M and S"
 FIELDS = "wanted as many fields as the header has"
-TIME = "wanted a time: up to 15 digits, perhaps with decimals"
+TIME = "wanted a time: up to 21 digits, perhaps with decimals"
 LEVEL = "wanted a level, 0 or 1"
 FRAMING = "wanted a high stop bit, or a break of 95 ms or more, and the stop bit is low" + SKIP
 DEVICE = "wanted words alone on the line of the peripherals, and it is low for a break" + SKIP
@@ -213,6 +215,22 @@ TABS = "; are its fields parted by tabs, and not by commas?"
 COMMA = "; is there a decimal comma that doesn't stand in quotes?"
 LETTERS = "; does a name differ by great and small letters alone?"
 
+# What a fault's text has in place of SKIP, where the line is low at rest; and remarks.
+LOW_M = "; line M is low at rest: --invert-line M reads it upside down"
+LOW_S = "; line S is low at rest: --invert-line S reads it upside down"
+BOTH_LOW = "; both lines are low at rest: --invert reads them upside down"
+TURNED_LOW = "; line {} is low at rest as --invert or --invert-line has it read"
+TURNED = "line {} is low at rest, and is read upside down"
+FRAME = FRAMING.removesuffix(SKIP)
+S_TURNED = "0:10 1000:00 1060:10 3000:11 3060:10 8000:11 8060:10 13000:11 13060:10"
+M_TURNED = "0:01 1000:00 1060:01 3000:11 3060:01 8000:11 8060:01 13000:11 13060:01"
+BOTH_TURNED = ("0:00 1000:10 1060:00 3000:01 3060:00 5000:10 5060:00 7000:01 7060:00 9000:10 9060:00 "
+               "11000:01 11060:00")
+UPRIGHT = "0:11 1000:01 1060:11 3000:10 3060:11 5000:01 5060:11 7000:10 7060:11 9000:01 9060:11 11000:10 11060:11"
+SIX = "1000,M,1FF 3000,S,1FF 5000,M,1FF 7000,S,1FF 9000,M,1FF 11000,S,1FF"
+S_DAMAGED = "0:10 1000:00 1060:10 3000:11 3060:10 8000:11 8060:10 12000:11 15000:10 40000:11 40060:10"
+M_DAMAGED = "0:10 20000:00 23000:10 25000:11 25060:10 28000:11 28060:10 31000:11 31060:10"
+
 # Levels over time in microseconds, as tables and dumps have them: `1000:01` are the levels of M and S. Next to
 # that the rows and lines; of a fault its place, which is the number of a change from 1, or one above the last.
 LEVELS = [
@@ -223,8 +241,8 @@ LEVELS = [
     ("", "0:00 1000:11 2000:01 2060:11", "2000,M,1FF", ONLY_M),
     ("", "0:01 500:00 1000:11 2000:01 2060:11", "500,S,1F0 2000,M,1FF", ""),
     ("", "0:00 500:10 1000:00 1060:10", "1000,M,1FF", ONLY_M),
-    ("", "0:00", "", NO_WORD), ("", "0:01", "", NO_WORD), ("", "0:11", "", NO_WORD),
-    ("", "1000:01 1060:11", "", NO_WORD),
+    ("", "0:00", "", NO_ROW), ("", "0:01", "", NO_ROW), ("", "0:11", "", NO_ROW),
+    ("", "1000:01 1060:11", "", NO_ROW),
     ("--invert", "0:00 1000:10 1060:00", "1000,M,1FF", ONLY_M),
     # Where levels are read.
     ("", "0:11 1000.5:01 1060:11", "1001,M,1FF", ONLY_M),
@@ -240,20 +258,20 @@ LEVELS = [
     ("", "0:11 1000:01 1989.583334:11", "1000,M,000", f"{ONLY_M}\n{NO_MODE}"),
     ("", "0:11 1000:01 2093.75:11", "1000,M,000", f"{ONLY_M}\n{NO_MODE}"),
     ("", "0:11 1000:01 2093.750001:11", "", f"?3 1000 M {FRAMING}"),
-    ("--skip-damaged", "0:11 1000:01 2093.750001:11", "", f"{damaged('1000 on M')}\n{NO_WORD}"),
+    ("--skip-damaged", "0:11 1000:01 2093.750001:11", "", f"{damaged('1000 on M')}\n{NO_ROW}"),
     ("", "0:11 1000:01 1060:11 2093.75:01 2100:11", "", f"?5 1000 M {FRAMING}"),
-    ("--skip-damaged", "0:11 1000:01 1060:11 2093.75:01 2100:11", "", f"{damaged('1000 on M')}\n{NO_WORD}"),
+    ("--skip-damaged", "0:11 1000:01 1060:11 2093.75:01 2100:11", "", f"{damaged('1000 on M')}\n{NO_ROW}"),
     ("", "0:11 1000:01 1060:11 2093.749999:01 2093.75:11", "1000,M,1FF", ONLY_M),
     ("", "0:11 1000:01 1060:11 2093.750001:01 2160:11", "1000,M,1FF 2094,M,1FF", ONLY_M),
     ("", "0:11 1000:01 1060:11 1070:01 1080:11 2000:01 2010:11", "1000,M,1FF", ONLY_M),
     # Pulses.
-    ("", "0:11 1000:01 1052.083333:11", "", f"{PULSE.format('1000 on M')}\n{NO_WORD}"),
+    ("", "0:11 1000:01 1052.083333:11", "", f"{PULSE.format('1000 on M')}\n{NO_ROW}"),
     ("", "0:11 1000:01 1052.083334:11", "1000,M,1FF", ONLY_M),
     ("", "0:11 1000:10 1052:11 1052.083333:10 1060:11", "1000,S,1FF", ONLY_S),
     ("", "0:11 1000:10 1052:11 1052.083334:10 1112:11", "1052,S,1FF", f"{PULSE.format('1000 on S')}\n{ONLY_S}"),
-    ("", "0:11 1000.5:10 1001:11", "", f"{PULSE.format('1001 on S')}\n{NO_WORD}"),
+    ("", "0:11 1000.5:10 1001:11", "", f"{PULSE.format('1001 on S')}\n{NO_ROW}"),
     ("", "0:11 " + " ".join(f"{at}000:10 {at}030:11" for at in range(1, 301)), "",
-     f"passed over 300 pulses shorter than half a bit; the first at 1000 on S\n{NO_WORD}"),
+     f"passed over 300 pulses shorter than half a bit; the first at 1000 on S\n{NO_ROW}"),
     # Breaks.
     ("", "0:11 1000:01 95999.499999:11", "", f"?3 1000 M {FRAMING}"),
     ("", "0:11 1000:01 95999.5:11", "1000,B,95000", NO_WORD),
@@ -261,7 +279,7 @@ LEVELS = [
     ("", "0:11 1000.5:01 96000.4:11", "1001,B,95000", NO_WORD),
     ("", "0:11 1000:01 1000000999.499999:11", "1000,B,999999999", NO_WORD),
     ("", "0:11 1000:01 1000000999.5:11", "", f"?3 1000 M {TOO_LONG}"),
-    ("--skip-damaged", "0:11 1000:01 1000000999.5:11", "", f"{damaged('1000 on M')}\n{NO_WORD}"),
+    ("--skip-damaged", "0:11 1000:01 1000000999.5:11", "", f"{damaged('1000 on M')}\n{NO_ROW}"),
     ("", "0:11 1000:10 95999.499999:11", "", f"?3 1000 S {FRAMING}"),
     ("", "0:11 1000:10 95999.5:11", "", f"?3 1000 S {DEVICE}"),
     ("", "0:11 1000:10 2000001000:11", "", f"?3 1000 S {DEVICE}"),
@@ -279,12 +297,12 @@ LEVELS = [
     ("", "0:11 1000:01 3000:00", "", f"?4 1000 M {CUT_LINE}"),
     ("", "0:11 1000:10", "", f"?3 1000 S {CUT_LINE}"),
     ("", "0:11 1000:11 1001:10 9000:10", "", f"?5 1001 S {CUT_LINE}"),
-    ("--skip-damaged", "0:11 1000:10 9000:00", "", f"{damaged('1000 on S', '9000 on M')}\n{NO_WORD}"),
+    ("--skip-damaged", "0:11 1000:10 9000:00", "", f"{damaged('1000 on S', '9000 on M')}\n{NO_ROW}"),
     ("--skip-damaged", "0:11 1000:10 9000:00 9060:10", "9000,M,1FF", f"{damaged('1000 on S')}\n{ONLY_M}"),
-    ("--skip-damaged", "0:11 1000:01 1060:11 1500:01", "", f"{damaged('1000 on M')}\n{NO_WORD}"),
+    ("--skip-damaged", "0:11 1000:01 1060:11 1500:01", "", f"{damaged('1000 on M')}\n{NO_ROW}"),
     ("", "0:11 1000:01 1060:11 1500:01 1600:11", "1000,M,1EF", ONLY_M),
     ("", "0:11 1000:01 1160:11 1170:01 201000:11", "", f"?5 1000 M {FRAMING}"),
-    ("--skip-damaged", "0:11 1000:01 1160:11 1170:01 201000:11", "", f"{damaged('1000 on M')}\n{NO_WORD}"),
+    ("--skip-damaged", "0:11 1000:01 1160:11 1170:01 201000:11", "", f"{damaged('1000 on M')}\n{NO_ROW}"),
     ("", "0:11 1000:01 3000:00 3060:01 5000:11", "", f"?5 1000 M {FRAMING}"),
     ("", "0:11 1000:01 1200:11 1300:01 3000:00 3060:01 5000:11", "", f"?5 1000 M {FRAMING}"),
     ("", "0:11 1000:01 1000.1:00 1200:01 1300:00 3000:01 3060:01 50000:11", "", f"?6 1000 S {FRAMING}"),
@@ -296,9 +314,56 @@ LEVELS = [
     ("--from 1001 --until 3000", "0:11 1000:01 1060:11 3000:10 3060:11 5000:01 5060:11", "3000,S,1FF", PART.format(1,
      1)),
     ("--from 9000", "0:11 1000:10 1030:11 3000:10 3060:11", "",
-     f"{PART.format(1, 0)}\n{PULSE.format('1000 on S')}\n{ONLY_S}"),
+     f"{PART.format(1, 0)}\n{PULSE.format('1000 on S')}\n{IN_PART.format(3000, 3000)}"),
     ("--from 9000", "0:11 1000:10 2200:11", "", f"?3 1000 S {FRAMING}"),
     ("--from 1001", "0:11 1000.5:10 1060:11", "1001,S,1FF", ONLY_S),
+    # One line upside down: S has words at 3000, 8000 and 13000, and M one at 1000; and the other way round.
+    *((words, S_TURNED, "1000,M,1FF 3000,S,1FF 8000,S,1FF 13000,S,1FF", told) for words, told in (
+        ("", TURNED.format("S")), ("--invert-line S", ""), ("--invert-line s", ""), ("--skip-damaged", TURNED.format("S")))),
+    *((words, M_TURNED, "1000,S,1FF 3000,M,1FF 8000,M,1FF 13000,M,1FF", told) for words, told in (
+        ("", TURNED.format("M")), ("--invert-line M", ""), ("--invert-line m", ""), ("--skip-damaged", TURNED.format("M")))),
+    ("--from 3000 --until 3000", S_TURNED, "3000,S,1FF", f"{TURNED.format('S')}\n{PART.format(1, 2)}"),
+    ("", S_TURNED.replace("1000:", "500:11 530:10 1000:"), "1000,M,1FF 3000,S,1FF 8000,S,1FF 13000,S,1FF",
+     f"{TURNED.format('S')}\n{PULSE.format('500 on S')}"),
+    ("--invert-line M", S_TURNED, "", f"?6 3060 S {FRAME}{LOW_S}"),
+    # Two words are too few: one low level alone is long.
+    ("", "0:10 1000:00 1060:10 3000:11 3060:10 8000:11 8060:10", "", f"?6 3060 S {FRAMING}"),
+    # A line that is high at the first level, upside down: it counts as low before that.
+    ("", "0:11 60:10 1000:00 1060:10 8000:11 8060:10 13000:11 13060:10", "1000,M,1FF 8000,S,1FF 13000,S,1FF",
+     TURNED.format("S")),
+    # Both lines upside down.
+    ("", BOTH_TURNED, "", f"?6 1060 M {FRAME}{BOTH_LOW}"),
+    *((words, BOTH_TURNED, SIX, "") for words in ("--invert", "--invert --invert-line M")),
+    ("--invert-line M", BOTH_TURNED, "", f"?8 3060 S {FRAME}{LOW_S}"),
+    ("--skip-damaged", BOTH_TURNED, "", "left out 6 damaged words, the first at 1060 on M, 3060 on S, 5060 on M, 7060 on "
+     f"S, 9060 on M{SURVEY}\n{BOTH_LOW[2:]}\n{NO_ROW}"),
+    # The right way up, and read upside down.
+    ("", UPRIGHT, SIX, ""),
+    ("--invert", UPRIGHT, "", f"?6 1060 M {FRAME}{TURNED_LOW.format('M')}"),
+    ("--invert-line S", UPRIGHT, "", f"?8 3060 S {FRAME}{TURNED_LOW.format('S')}"),
+    # S upside down, and something on it is damaged.
+    ("", S_DAMAGED, "", f"?6 3060 S {FRAME}{LOW_S}"),
+    ("--skip-damaged", S_DAMAGED, "1000,M,1FF",
+     f"{damaged('3060 on S', '8060 on S', '15000 on S', '40060 on S')}\n{LOW_S[2:]}\n{ONLY_M}"),
+    ("--skip-damaged --invert-line S", S_DAMAGED, "1000,M,1FF 3000,S,1FF 8000,S,1FF 40000,S,1FF", damaged("12000 on S")),
+    # S upside down, and something on M is damaged.
+    ("", M_DAMAGED, "", f"?3 20000 M {FRAMING}"),
+    ("--skip-damaged", M_DAMAGED, "25000,S,1FF 28000,S,1FF 31000,S,1FF",
+     f"{TURNED.format('S')}\n{damaged('20000 on M')}\n{ONLY_S}"),
+    # Low at rest, but with nothing wrong; and without a word upside down.
+    ("", "0:11 1000:01 1060:11 2100:01 98000:11 99000:01 199000:11", "1000,M,1FF 2100,B,95900 99000,B,100000", ONLY_M),
+    ("", "0:10 1000:00 1060:10 3000:11 3030:10 8000:11 8030:10 13000:11 13030:10", "", f"?6 3030 S {FRAME}{LOW_S}"),
+    ("--invert-line S", "0:10 1000:00 1060:10 3000:11 3030:10 8000:11 8030:10 13000:11 13030:10", "1000,M,1FF",
+     f"passed over 3 pulses shorter than half a bit; the first at 3000 on S\n{ONLY_M}"),
+    # Levels of 11 bits: S has two long low levels, and two high ones that are just long enough, or one.
+    ("", "0:10 1000:00 1060:10 3000:11 3060:10 5000:11 6145.833334:10 9000:11 10145.833334:10", "",
+     f"?6 3060 S {FRAMING}"),
+    ("", "0:10 1000:00 1060:10 3000:11 3060:10 5000:11 6145.833333:10 9000:11 10145.833334:10", "",
+     f"?6 3060 S {FRAME}{LOW_S}"),
+    # One that is off for most of the time isn't upside down.
+    ("", "0:11 5000:01 5060:11 9000:10 9060:11 20000:10 900000:11", "", f"?7 20000 S {DEVICE}"),
+    ("--skip-damaged", "0:11 5000:01 5060:11 9000:10 9060:11 20000:10 900000:11", "5000,M,1FF 9000,S,1FF",
+     damaged("20000 on S")),
 ]
 
 
@@ -334,13 +399,14 @@ def placed(told, wave, form):
 HEADERS = [
     ("", "", "", f"record 1: {NO_HEADER}"), ("", "\n\r\n", "", f"record 1: {NO_HEADER}"),
     *(("", f"{header}\n", "", f"record 1: {NO_HEADER}{shown(header)}") for header in ("0,M,S", "0.5,M,S", "12345,M,S",
-     "0")),
+     "0", "123456789012345678901,M,S")),
     ("", '"0,5",M,S\n', "", f'record 1: {NO_HEADER}; found "0,5,M,S"'),
     *(("", f"{header}\n", "", f"record 1: {NO_COLUMN}{shown(header)}") for header in (
-        "t,M,M,S", "t,M,m,S", "t,M,S,s", "M,S", "t,M", "t,S", "x", "-1,M", "1e3,A,B", "0x,m", "1234567890123456,M")),
-    *(("", f"{header}\n0,1,1\n", "", NO_WORD) for header in (
-        "t,M,S", "0x,M,S", ",M,S", "M,M,S", "S,s,m", "1.,M,S", '"t","M","S"', " t , M , S ", "1234567890123456,M,S")),
-    ("--controller A", "t,A,M,S\n0,1,x,1\n", "", NO_WORD), ("--controller A", "A,A,M,S\n0,1,x,1\n", "", NO_WORD),
+        "t,M,M,S", "t,M,m,S", "t,M,S,s", "M,S", "t,M", "t,S", "x", "-1,M", "1e3,A,B", "0x,m",
+        "1234567890123456789012,M")),
+    *(("", f"{header}\n0,1,1\n", "", NO_ROW) for header in (
+        "t,M,S", "0x,M,S", ",M,S", "M,M,S", "S,s,m", "1.,M,S", '"t","M","S"', " t , M , S ", "1234567890123456789012,M,S")),
+    ("--controller A", "t,A,M,S\n0,1,x,1\n", "", NO_ROW), ("--controller A", "A,A,M,S\n0,1,x,1\n", "", NO_ROW),
     ("--controller A", "t,M,S\n", "", f"record 1: {NO_COLUMN}{shown('t,M,S')}"),
     ("--controller A", "t,a,S\n", "", f"record 1: {NO_COLUMN}{shown('t,a,S')}{LETTERS}"),
     ("--controller A", "a,x,S\n", "", f"record 1: {NO_COLUMN}{shown('a,x,S')}"),
@@ -354,7 +420,23 @@ HEADERS = [
     ("", "t\tM;S\n", "", f"record 1: {NO_COLUMN}{shown(chr(9).join(('t', 'M;S')))}{SEMICOLONS}"),
 ]
 T = "t,M,S\n0,1,1\n"
-RECORDS = [
+# Comments above the header.
+ABOVE = [
+    ("", "; a, b\n;\n#c\nt,M,S\n0,1,1\n", "", NO_ROW),
+    ("", "#t,M,S\n0,1,1\n", "", NO_ROW),
+    ("", "#t,M,s,S\nt,M,S\n0,1,1\n", "", NO_ROW),
+    ("", ";t,M,S\n0,1,1\n", "", f'record 2: {NO_HEADER}; found "0,1,1"'),
+    ("", ";t;M,S\nt,M,S\n0,1,1\n", "", f"record 1: {NO_COLUMN}{shown(';t;M,S')}{SEMICOLONS}"),
+    ("", ' " # a"\n"; b, c",d\nt,M,S\n0,x,1\n', "", f'record 4 at 0 on line M: {LEVEL}; found "0,x,1"'),
+    ("", "# a\n\n# b\n", "", f"record 3: {NO_HEADER}"),
+    ("", "t,M,S\n# a\n0,1,1\n", "", f'record 2: {FIELDS}; found "# a"'),
+    ("--controller 0 --peripheral 1", "; CSV, generated by libsigrok4DSL 0.2.0 on Mon Nov 30 09:12:01 2026\n"
+     "; Channels (2/16)\n; Sample rate: 1 MHz\n; Sample count: 12 M Samples\nTime(s),0,1\n0.000000000,1,1\n"
+     "0.001000000,0,1\n0.001060000,1,1\n", "1000,M,1FF", ONLY_M),
+]
+TURNED_TABLE = ("t,M,S\n0,0,0\n1000,1,0\n1060,0,0\n3000,0,1\n3060,0,0\n5000,1,0\n5060,0,0\n7000,0,1\n7060,0,0\n"
+                "9000,1,0\n9060,0,0\n")
+RECORDS = ABOVE + [
     *(("", f"{T}{one}\n", "", f"record 3: {FIELDS}{shown(one)}{cause}") for one, cause in (
         ("1,1", ""), ("1", ""), ("0,5x,1,1", ""), ("0x,5,1,1", ""), (" 0 , 5 ,1,1", COMMA), ("1,1,1,x", COMMA),
         ("0,5,1,1", COMMA), ("0,5,1,1,1", COMMA), ("x,5,1,1", ""), ("0,x,1,1", ""),
@@ -362,16 +444,16 @@ RECORDS = [
     *(("", f"{T}{one},1,1\n", "", f"record 3: {TIME}{shown(f'{one},1,1')}{cause}") for one, cause in (
         ("", ""), ("x", ""), ("-1", ""), ("+1", ""), ("1.2E-05", ""), (".5", ""), ("5.", ""), ("1.2.3", ""),
         ("0:01", ""),
-        ("1234567890123456", ""), ("1.1234567890123456", ""), ("1 2", ""), ("1;5", SEMICOLONS), ("1\t", TABS),
+        ("1234567890123456789012", ""), ("1.1234567890123456", ""), ("1 2", ""), ("1;5", SEMICOLONS), ("1\t", TABS),
         ("1;\t", SEMICOLONS))),
     *((words, f"{T}{one},1,1\n", "", f"record 3: {LONG}{shown(f'{one},1,1')}") for words, one in (
-        ("", "999999999.9999995"), ("", "1000000000"), ("--unit ms", "999999999999.9995"),
-        ("--unit us", "999999999999999.5"),
-        ("", "999999999999999.999999999999999"))),
-    *((words, f"{T}{one},1,1\n", "", NO_WORD) for words, one in (
-        ("", "999999999.9999994"), ("--unit ms", "999999999999.9994"), ("--unit us", "999999999999999.4"),
-        ("--unit ns", "999999999999999.999999999999999"), ("", '"0,5"'), ("", " 1 "), ("", "0.000000000000001"),
-        ("", "000000000000001"))),
+        ("", "999999999999.9999995"), ("", "1000000000000"), ("--unit ms", "999999999999999.9995"),
+        ("--unit us", "999999999999999999.5"), ("--unit ns", "999999999999999999999.5"),
+        ("--unit ns", "999999999999999999500"), ("", "999999999999999999999.999999999999999"))),
+    *((words, f"{T}{one},1,1\n", "", NO_ROW) for words, one in (
+        ("", "999999999999.9999994"), ("--unit ms", "999999999999999.9994"), ("--unit us", "999999999999999999.4"),
+        ("--unit ns", "999999999999999999499.999999999999999"), ("", '"0,5"'), ("", " 1 "), ("", "0.000000000000001"),
+        ("", "000000000000000000001"))),
     *(("", f"{T}1,{one},1\n", "", f"record 3 at 1000000 on line M: {LEVEL}{shown(f'1,{one},1')}") for one in (
         "", "2", "01", "1.0", "-1", "x", "1;", "true", "\xb9")),
     ("", "t,M,S,x,y\n0,5,1,1\n", "", f"record 2: {FIELDS}{shown('0,5,1,1')}{COMMA}"),
@@ -379,22 +461,30 @@ RECORDS = [
     ("", T + "1,1,x\n", "", f'record 3 at 1000000 on line S: {LEVEL}; found "1,1,x"'),
     ("", T + "1,x,x\n", "", f'record 3 at 1000000 on line M: {LEVEL}; found "1,x,x"'),
     ("", T + "0.0000005,x,1\n", "", f'record 3 at 1 on line M: {LEVEL}; found "0.0000005,x,1"'),
-    ("", T + ' 1 ," ""1"" ", 1\n', "", NO_WORD),
+    ("", T + ' 1 ," ""1"" ", 1\n', "", NO_ROW),
     ("", T + "0,1,1\n", "", f'record 3 at 0: {SAME_RECORD}; found "0,1,1"'),
     ("", "t,M,S\n5,1,1\n5.0,1,1\n", "", f'record 3 at 5000000: {SAME_RECORD}; found "5.0,1,1"'),
     ("", "t,M,S\n5,1,1\n4.999999999999999,1,1\n", "",
      f'record 3 at 5000000: {EARLY_RECORD}; found "4.999999999999999,1,1"'),
-    ("", "t,M,S\n5,1,1\n5.000000000000001,1,1\n", "", NO_WORD),
+    ("", "t,M,S\n5,1,1\n5.000000000000001,1,1\n", "", NO_ROW),
     # Which of several things is reported.
     ("", T + "x,x\n", "", f'record 3: {FIELDS}; found "x,x"'),
     ("", T + "x,x,x\n", "", f'record 3: {TIME}; found "x,x,x"'),
-    ("", T + "9999999999,x,x\n", "", f'record 3: {LONG}; found "9999999999,x,x"'),
+    ("", T + "9999999999999,x,x\n", "", f'record 3: {LONG}; found "9999999999999,x,x"'),
     ("", T + "0,x,x\n", "", f'record 3 at 0 on line M: {LEVEL}; found "0,x,x"'),
     ("", T + "0.001,0,1\n0.09,1,1\n0.09,1,1\n", "", f"record 4 at 1000 on line M: {FRAMING}"),
     ("", T + "0.001,0,1\n0.09,x,1\n", "", f'record 4 at 90000 on line M: {LEVEL}; found "0.09,x,1"'),
     ("", T + "0.001,0,1\n0.0005,1,1\n", "", f'record 4 at 500: {EARLY_RECORD}; found "0.0005,1,1"'),
     ("", T + "0.001,0,1\n0.0011,1,1\n0.0012,0,1\n0.01,0,1\nx,1,1\n", "", f"record 6 at 1000 on line M: {FRAMING}"),
-    ("", "S,t,x,M\n0,1,,1\n".replace("S,t", "t,S"), "", NO_WORD),
+    ("", "S,t,x,M\n0,1,,1\n".replace("S,t", "t,S"), "", NO_ROW),
+    # A record that is refused for its form, below a fault in the levels.
+    ("--unit us", "t,M,S\n0,1,0\n1000,0,0\n1060,1,0\n3000,1,1\n3060,1,0\n6000,1,1\n6060,1,0\n9000,1,1\nx,1,0\n", "",
+     f'record 10: {TIME}; found "x,1,0"'),
+    ("--unit us", f"{TURNED_TABLE}11000,0,1\nx,1,0\n", "", f"record 7 at 1060 on line M: {FRAME}{BOTH_LOW}"),
+    ("--unit us", f"{TURNED_TABLE}x,1,0\n", "", f"record 9 at 3060 on line S: {FRAMING}"),
+    ("--controller A --peripheral C --invert-line C --unit us",
+     "t,A,C\n0,1,0\n1000,0,0\n1060,1,0\n3000,1,1\n3060,1,0\n8000,1,1\n8060,1,0\n", "1000,M,1FF 3000,S,1FF 8000,S,1FF",
+     ""),
     ("", 't,x,M,y,S\n0,"a,b",1,"c\nd",1\n0.001,,0,,1\n0.00106,;,1,\t,1\n', "1000,M,1FF", ONLY_M),
     ("--unit us", "t,M,S\n" + "".join(f"{time},1,1\n" for time in range(70_000)) + "x,1,1\n", "",
      f'record 70002: {TIME}; found "x,1,1"'),
@@ -446,7 +536,7 @@ BODIES = [
         ("!", TOKEN),
         ("#", DIGITS), ("#1.5", DIGITS), ("#-1", DIGITS), ("#+1", DIGITS), ("#1e3", DIGITS), ("##1", DIGITS),
         ("#1#", DIGITS),
-        ("#a", DIGITS), ("#999999999999999999999", LONG), ("#1000000000000000", LONG))),
+        ("#a", DIGITS), ("#999999999999999999999", LONG), ("#1000000000000000000", LONG))),
     *(("", f'1! 1"\n#7 {token}', "", f"line 5: {CUT_DUMP}") for token in ("b1", "B", "r1", "R", "s", "Sx", "$comment",
      "$comment !")),
     *(("", f'1! 1"\n#7\n{token}', "", f"line 5 at 7 on line M: {why}") for token, why in (
@@ -459,9 +549,9 @@ BODIES = [
     ("", 'r1\n"', "", f"line 4 at 0 on line S: {NO_LEVEL}"),
     ("", '1! 1"\n#7\n#6', "", f"line 5 at 6: {LATE_TIME}"), ("", '1! 1"\n#7\n#7\n#06', "",
      f"line 6 at 6: {LATE_TIME}"),
-    ("", '1! 1" #999999999999999', "", NO_WORD), ("", "", "", NO_WORD), ("", "$end", "", NO_WORD),
-    ("", "#5", "", NO_WORD),
-    ("", '1! 1"\x0b', "", NO_WORD), ("", '1! 1" \x0b', "", f"line 3: {TOKEN}"),
+    ("", '1! 1" #999999999999999999', "", NO_ROW), ("", "", "", NO_ROW), ("", "$end", "", NO_ROW),
+    ("", "#5", "", NO_ROW),
+    ("", '1! 1"\x0b', "", NO_ROW), ("", '1! 1" \x0b', "", f"line 3: {TOKEN}"),
     ("", '1!\t1"\r#1000\r0!\r\n#1060 1!', "1000,M,1FF", ONLY_M),
     ("", '1! 1"\r\r\n#x', "", f"line 4: {DIGITS}"), ("", "\n" * 70_000 + "#x", "", f"line 70003: {DIGITS}"),
     # A fault in the levels is seen at the next later time, and what a token shows by itself comes first.
@@ -485,11 +575,11 @@ def dumps():
             begin = max(1, 10**12 // scale)  # a millisecond, or the first time above 0
             end = begin + max(1, 2 * 10**14 // scale)  # 200 ms later
             row = f"{begin * scale // 10**9},B,{(end - begin) * scale // 10**9}"
-            most = (10**24 - 5 * 10**8 - 1) // scale
+            most = (10**27 - 5 * 10**8 - 1) // scale
             for form in (f"{number}{unit}", f"{number} {unit}", f"\n{number}\n{unit}\n"):
                 header = f"$timescale {form} $end {CODES}$enddefinitions $end\n"
                 yield "", f'{header}#0 1! 1" #{begin} 0! #{end} 1!', row, NO_WORD
-                yield "", f'{header}#0 1! 1" #{most}', "", NO_WORD
+                yield "", f'{header}#0 1! 1" #{most}', "", NO_ROW
                 line = header.count("\n") + 1
                 yield "", f'{header}#0 1! 1" #{most + 1}', "", f"line {line}: {LONG}"
     for form in ("1", "us", "2us", "0 us", "1000us", "1 US", "1 Us", "1us us", "1 1 us", "01us", "1.0us", "1 u s",

@@ -6,13 +6,14 @@ from second_rows import REFUSED
 
 # The usage lines of mdbimport, and its list of commands (docs/bench/importing.md, *Options*).
 USAGE = {
-    "rows": "rows [--unit s|ms|us|ns] [--controller NAME] [--peripheral NAME] [--from T] [--until T] < EXPORT",
+    "rows": "rows [--unit s|ms|us|ns] [--controller N] [--peripheral N] [--decimal] [--from T] [--until T]",
     "sigrok": "sigrok [--swap] [--skip-damaged] [--from T] [--until T] < TRACE",
     "saleae": "saleae [--controller N] [--peripheral N] [--break T] [--skip-damaged] [--from T] [--until T]",
-    "edges": "edges [--unit U] [--controller N] [--peripheral N] [--invert] [--skip-damaged] [--from T] [--until T]",
-    "vcd": "vcd [--controller NAME] [--peripheral NAME] [--invert] [--skip-damaged] [--from T] [--until T] "
-           "< DUMP",
-    "messages": "messages [--unit U] [--controller N] [--peripheral N] [--time-of first|last] [--from T] [--until T]",
+    "edges": "edges [--unit U] [--controller N] [--peripheral N] [--invert[-line N]] [--skip-damaged] "
+             "[--from|--until T]",
+    "vcd": "vcd [--controller N] [--peripheral N] [--invert[-line N]] [--skip-damaged] [--from T] [--until T] < DUMP",
+    "messages": "messages [--unit U] [--controller N] [--peripheral N] [--time-of last] [--decimal] "
+                "[--from|--until T]",
 }
 COMMANDS = ("rows (CSV), sigrok (trace), saleae (table), edges (CSV), vcd (dump), messages (log); "
             "all: mdbimport manual")
@@ -22,7 +23,7 @@ COMMANDS = ("rows (CSV), sigrok (trace), saleae (table), edges (CSV), vcd (dump)
 UNIT = "isn't s, ms, us or ns"
 NAME = "can't name a line"
 ONE_NAME = "--controller and --peripheral have one name"
-PART = "isn't whole microseconds"
+PART = "isn't a time or a date"
 BREAK = "isn't microseconds below 1000000000"
 TIME_OF = "isn't first or last"
 FILE = "standard input is read: write <"
@@ -59,7 +60,11 @@ LINES = [
     ("rows --from -1", 'unknown option "-1"'),
     ("rows --from=-1", f'--from "-1" {PART}'),
     ("rows --from 1e3", f'--from "1e3" {PART}'),
-    ("rows --until 1000000000000000", '--until "1000000000000000" has more than 15 digits'),
+    ("rows --until 1000000000000000000", '--until "1000000000000000000" has more than 18 digits'),
+    ("rows --until 1.5", f'--until "1.5" {PART}'),
+    ("rows --from 1:2", f'--from "1:2" {PART}'),
+    ("rows --from 2026-02-30T00:00:00", f'--from "2026-02-30T00:00:00" {PART}'),
+    ("rows --from 1969-12-31T00:00:00 --until x", f'--from "1969-12-31T00:00:00" {PART}'),
     ("rows --until 1 --until 1", "--until stands twice"),
     ("rows -- --unit", 'one word too many: "--unit"'),
     ("sigrok --unit s", "sigrok has no --unit: rows has it"),
@@ -104,9 +109,24 @@ LINES = [
     ("messages --controller A --peripheral A", ONE_NAME),
     ("messages sniffer.log", f"{FILE} sniffer.log"),
     ("rows --time-of last", "rows has no --time-of: messages has it"),
+    ("saleae --decimal", "saleae has no --decimal: rows has it"),
+    ("rows --decimal=1", '--decimal takes no value: "1"'),
+    ("rows --decimal --unit us --decimal", None),
+    ("rows --invert-line M", "rows has no --invert-line: edges has it"),
+    ("edges --invert-line", "--invert-line has no value"),
+    ("edges --invert-line=", '--invert-line "" names no line'),
+    ("edges --invert-line B", '--invert-line "B" names no line'),
+    ("edges --controller TX --invert-line tx", '--invert-line "tx" names no line'),
+    ("edges --controller TX --peripheral RX --invert-line RX", "record 1: wanted a header"),
+    ("edges --invert-line s --controller TX", "record 1: wanted a header"),
+    ("vcd --invert-line TX", '--invert-line "TX" names no line'),
+    ("vcd --invert --invert-line M", "line 1: wanted more of the dump"),
+    ("vcd --invert-line M --invert-line S", "--invert-line stands twice"),
     ("rows", None),
     ("rows --unit=s --controller -- --from=0", 'one word too many: "--from=0"'),
-    ("rows --unit=s --controller=-- --from=0 --until=999999999999999 --", None),
+    ("rows --unit=s --controller=-- --from=0 --until=999999999999999999 --", None),
+    ("vcd --from 0:0:1 --until 2026-11-30T09:14:22.447+01:00", "line 1: wanted more of the dump"),
+    ("rows --from 99:59:59,5 --until 30.11.2026,9:14:22Z", None),
     ("rows --controller A --peripheral a", None),
 ]
 
@@ -131,11 +151,11 @@ def lines_wrong(program):
     for line, wanted in LINES:
         ran = subprocess.run([str(program), *line.split()], input=b"", capture_output=True)
         told = ran.stderr.decode()
-        leaves = wanted is not None and line not in ASKING
+        leaves = line not in ASKING
         if ran.stdout.decode() != (f"{REFUSED}\n" if leaves else "") or told.count("\n") != 1:
             return f"{line!r}: it writes {ran.stdout!r} and {told!r}"
-        begins = "there is no word on either line" if wanted is None else whole_line(line, wanted)
-        if ran.returncode != (0 if wanted is None else 2):
+        begins = "there is no row in the export" if wanted is None else whole_line(line, wanted)
+        if ran.returncode != 2:
             return f"{line!r}: status {ran.returncode}"
         if not told.removeprefix("mdbimport: ").startswith(begins):
             return f"{line!r}: {told!r}, and not {begins!r}"

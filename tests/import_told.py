@@ -2,7 +2,9 @@
 import_cases.py have pulses and damaged words; these have what is refused, and what is remarked.
 """
 
-from import_corners import HEADER, NO_MODE, THREE
+import re
+
+from import_corners import HEADER, IN_PART, LONG, NO_MODE, NO_ROW, THREE
 from import_corners import SKIP as HINT
 from import_corners import TIME as NO_TIME
 from made_sigrok import pair
@@ -43,7 +45,9 @@ TOLD = [
     (US, b"1,S,108\n", "no word of the controller (M): was only the peripherals' line recorded?"),
     (US, b"1,S,8\n", "no word of the controller (M): was only the peripherals' line recorded?\n"
      + NO_MODE),
-    (US, b"", "there is no word on either line"),
+    (US, b"", NO_ROW),
+    (US, b"1,B,100000\n", "there is no word on either line"),
+    (US + " --from 3", BOTH, "left out 2 rows before the part and 0 after it\n" + IN_PART.format(1, 2)),
     (US + " --from 2", BOTH, "left out 1 rows before the part and 0 after it"),
     (US + " --until 1", BOTH, "left out 0 rows before the part and 1 after it"),
     (US + " --until 2", BOTH + b"3,X,0\n4\n", "left out 2 records outside the part that are no "
@@ -99,9 +103,9 @@ TOLD = [
     ("saleae --skip-damaged", b"name,start_time,data,error\nM,0.001,0x108,framing\nS,0.001,0x100,\n",
      "left out 1 damaged word, at 1000 on M; mdbcheck survey shows what is missing\n"
      "no word of the controller (M): was only the peripherals' line recorded?"),
-    ("edges", b"Time,M,S\n0,1,1\n", "there is no word on either line"),
+    ("edges", b"Time,M,S\n0,1,1\n", NO_ROW),
     ("vcd", b"$timescale 1us $end $var wire 1 a M $end $var wire 1 b S $end $enddefinitions $end",
-     "there is no word on either line"),
+     NO_ROW),
     # A line without a level counts as low, upside down too: where it then is low it doesn't fall.
     ("vcd --invert", b"$timescale 1us $end $var wire 1 a M $end $var wire 1 b S $end $enddefinitions $end\n"
      b"xa xb #1000 1a 1b #1104 0a 0b #2500 1b #2604 0b", "no word of the controller (M): was only the "
@@ -225,7 +229,6 @@ DUMPS_TOLD = [
     ("", {1: "$timescale 1 us $end $timescale 1 us\n$end"}, "line 2: " + SECOND_SCALE),
     ("", {1: "$timescale 1 us $end $timescale\n$end"}, "line 2: " + SECOND_SCALE),
     ("", {1: "$timescale 1 u s $end"}, "line 1: " + SCALE),
-    ("", {1: "$timescale 100fs $end", 17: "#900000000000000"}, None),
     ("", {2: "$scope module\n$end"}, "line 3: " + SCOPE),
     ("", {2: "$scope module bus 1 $end"}, "line 2: " + SCOPE),
     ("", {5: "$upscope $end $upscope\n$end"}, "line 6: wanted an open scope before $upscope"),
@@ -249,8 +252,8 @@ DUMPS_TOLD = [
     ("", {10: "2!"}, "line 10: " + NO_TOKEN),
     ("", {10: "$dumpports"}, "line 10: " + NO_TOKEN),
     ("", {10: "0! $var"}, "line 10: " + NO_TOKEN),
-    ("", {9: "#1000000000000000"}, "line 9: wanted a time of at most 15 digits of microseconds"),
-    ("", {9: "#" + "9" * 500}, "line 9: wanted a time of at most 15 digits of microseconds"),
+    ("", {9: "#1000000000000000000"}, "line 9: " + LONG),
+    ("", {9: "#" + "9" * 500}, "line 9: " + LONG),
     ("", {11: "#999"}, "line 11 at 999: wanted a time that isn't before the time before it"),
     ("", {11: "#1000"}, None),
     ("", {10: "b00 !"}, "line 10 at 1000 on line M: " + NO_LEVEL),
@@ -278,7 +281,7 @@ def tells(wanted):
     """Whether a whole answer tells these lines: a function that says what is wrong, or None. A line on what
     is refused, or of a part of it, makes the status 2."""
     lines = "".join(f"mdbimport: {line}\n" for line in wanted.split("\n") if line)
-    refused = wanted.startswith(("record ", "line "))
+    refused = bool(re.match(r"(record|line) \d", wanted)) or wanted.endswith(NO_ROW) or "the part has no row" in wanted
 
     def wrong(came):
         told = came.err.decode()
@@ -319,3 +322,6 @@ def cases():
         yield ["sigrok", *words.split()], text, tells(wanted)
     for words, changed, wanted in DUMPS_TOLD:
         yield ["vcd", *words.split()], dump(changed), begins(wanted)
+    # In tenths of a picosecond both words are pulses.
+    yield ["vcd"], dump({1: "$timescale 100fs $end", 17: "#900000000000000"}), tells(
+        f"passed over 2 pulses shorter than half a bit; the first at 0 on M\n{NO_ROW}")

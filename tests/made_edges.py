@@ -2,7 +2,7 @@
 
 import scenes
 from export_parts import (FLAGS, Export, around, choose, damage_bytes, damage_lines, disturbed, padded, part_of,
-                          part_words, ties, wanted_of, wrong_words)
+                          part_words, ties, wanted_of, with_comments, wrong_words)
 
 # In microseconds from where a line falls: middles of bits that decimals can tell exactly.
 MIDDLES = [156.25, 468.75, 781.25, 1093.75]
@@ -21,9 +21,10 @@ OTHER_TABLES = [
     "Time,M,S",
     "Time,M,M,S",
     "Time [s],Channel 0,Channel 1",
-    "999999999.9999994,1,1",
-    "999999999.9999995,1,1",
-    "999999999999999,1,1",
+    "999999999999.9999994,1,1",
+    "999999999999.9999995,1,1",
+    "999999999999999999999,1,1",
+    "2026-11-30 09:14:22,1,1",
     "0.001;1;1",
 ]
 TABLE_BYTES = b'0101010123456789.,;:"\t \r\n-+eMSms'
@@ -68,7 +69,7 @@ def damage_changes(rng, changes, places):
 
 def edges_export(rng, recordings):
     rows = part_of(rng, recordings, 95_000)
-    lead = rng.choice([2000, 5000, rng.randrange(2000, 10**6), rng.randrange(2000, 10**9)])
+    lead = rng.choice([2000, 5000, rng.randrange(2000, 10**6), rng.randrange(2000, 10 ** rng.choice([9, 9, 17]))])
     rows = [(time - rows[0][0] + lead, line, value) for time, line, value in rows]
     rows = ties(rng, rows, rng.choice([0, 0, 0.2]))
     unit = choose(rng, (5, "s"), (1, "ms"), (1, "us"), (1, "ns"))
@@ -95,9 +96,10 @@ def edges_export(rng, recordings):
         return f"{whole}.{decimals}" if decimals else f"{whole}"
 
     controller, peripheral = rng.choice(COLUMNS)
-    swap, more, invert = rng.random() < 0.3, rng.choice([0, 0, 0, 1, 3]), rng.random() < 0.2
+    swap, more = rng.random() < 0.3, rng.choice([0, 0, 0, 1, 3])
     blanks, quotes = rng.choice([0, 0, 0.3]), rng.choice([0, 0, 0.3])
     names = [("M", controller), ("S", peripheral)]
+    turned, told, known = upside_down(rng, dict(names))
     names += [("x", f"other {one}") for one in range(more)]
     if swap:
         rng.shuffle(names)
@@ -115,14 +117,14 @@ def edges_export(rng, recordings):
             records.append((time + 1, {}))  # nothing changes
     records = [one for at, one in enumerate(records) if at == 0 or one[0] > records[at - 1][0]]
     lines = [",".join(around(rng, name, quotes, blanks)
-                      for name in [rng.choice(["Time [s]", "Time", "t", ""])]
+                      for name in [rng.choice(["Time [s]", "Time", "t", "", "# Time"])]
                       + [name for _, name in names])]
     for time, new in records:
         levels.update(new)
         fields = [time_in(time)]
         for wire, _ in names:
             level = levels[wire] if wire in levels else rng.choice([0, 1, "", "x", 3.5])
-            fields.append(str(1 - level if invert and wire in levels else level))
+            fields.append(str(1 - level if wire in turned else level))
         lines.append(",".join(around(rng, field, quotes, blanks) for field in fields))
 
     if controller not in "Mm":
@@ -140,8 +142,8 @@ def edges_export(rng, recordings):
             flags = [words.pop(words.index(flag)) for flag in list(words) if flag in FLAGS]
             wrong_words(rng, words)
             words += flags
-    if invert:
-        words.append("--invert")
+    words += told if set(told[1:2]) <= {"M", "m", "S", "s", "--invert", *words} else []
+    lines, _ = with_comments(rng, lines, 0.1)
     for _ in range(choose(rng, (6, 0), (1, 1), (1, 5))):
         lines.insert(rng.randint(0, len(lines)), "")
     ends = rng.choice([["\n"], ["\r\n"], ["\r"], ["\n", "\r\n", "\r"]])
@@ -154,7 +156,39 @@ def edges_export(rng, recordings):
     if damage and in_edges < damage and rng.random() < 0.4:
         text = damage_bytes(rng, text, TABLE_BYTES)
     truth = scene.truth("--skip-damaged" in words)
-    return Export(text, words, **wanted_of(None if damage else truth, words))
+    truth = None if damage else known_truth(turned, known, changes, places, truth)
+    return Export(text, words, **wanted_of(truth, words))
+
+
+def upside_down(rng, names):
+    """The lines that are written upside down, the words that are given, and whether these say which; None without words."""
+    line = rng.choice("MS")
+    words = ["--invert-line", rng.choice([line, line.lower(), names[line]])]
+    return choose(rng, (28, ("", [], None)), (4, ("MS", ["--invert"], True)), (3, (line, words, True)),
+                  (1, ("MS", words + ["--invert"], True)), (4, (line, [], None)), (1, ("MS", [], False)),
+                  (1, ("", words, False)), (1, (line, ["--invert"], False)))
+
+
+def known_truth(turned, known, changes, places, truth):
+    """What is read of lines of which some are written upside down; None where that isn't sure."""
+    if known is not None:
+        return truth if known else None
+    without = truth.rows is not None and not any(line in (turned or "MS") for _, line in truth.damaged)
+    if not turned:
+        return truth if without or not any(low > max(high, 1) for low, high in (long(changes, places, it) for it in "MS")) else None
+    low, high = long(changes, places, turned)
+    seen = without and high > max(low + 1, 1) and any(row[1] == turned for row in truth.rows)
+    return truth if seen else None
+
+
+def long(changes, places, line):
+    """How many low levels and high ones of a line are longer than 11 bits, from its first fall to its last change."""
+    level, since, found = 1, None, [0, 0]
+    for time in sorted(changes):
+        if changes[time].get(line, level) != level:
+            found[level] += since is not None and (time - since) * 9600 > 11 * 10**places
+            since, level = time, 1 - level
+    return found
 
 
 def scene_of(rng, rows, places, words):
@@ -172,8 +206,8 @@ def edges_field_emptied(rng, line):
     field = fields[at]
     if at == 0:
         more = rng.choice(["0", ".5", "e3", "h", '"', ".000000000000000", "0000000"])
-        fields[at] = rng.choice(["", field + more, "0" + field, field.zfill(15), "-" + field,
-                                 f'"{field.replace(".", ",")}"', "9" * 15, "1" + "0" * 9])
+        fields[at] = rng.choice(["", field + more, "0" + field, field.zfill(15), "0" * 9 + field, "-" + field,
+                                 f'"{field.replace(".", ",")}"', "9" * 21, "1" + "0" * 12, "1" + "0" * 21])
     else:
         fields[at] = rng.choice(["", "2", "01", "1.0", " ", '"1"', "true", "0", "1", field * 2])
     return ",".join(fields)

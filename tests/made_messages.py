@@ -15,6 +15,7 @@ from typing import NamedTuple
 
 import import_answers
 import made_rows
+import made_times
 import messages_cases
 from export_parts import (Export, choose, damage_bytes, damage_lines, options_of, padded, part_of, part_words,
                           wrong_words)
@@ -59,12 +60,14 @@ NAMES = made_rows.NAMES + [("Master 1", "Master 12"), ("C", "A0"), ("VMC:", "PER
 MARKS = [(">", "<"), ("->", "<-"), ("<", ">"), ("=", "=="), ("(M)", "(S)"), (":", "|"), ("-M", "-S")]
 HEADERS = ["Time,Speaker,Bytes", "time;who;data", "[time] from -> to", "----", "Zeit\tWer\tWas", "M S AA", "S", "\xb5s"]
 NO_HEADERS = ["Time [1], who", "sniffer 1.2, 9600 baud", "2026-11-29", "M: 08", "time who bytes 0..9", "-1 M 08", "1e5 M 08"]
+EARLY_COMMENTS = [";", "; saved", " \t;x 12", ";5 M 08 08"]  # above the header and the first message alone
 COMMENTS = ["#", "# 12.5 M 08 08", " \t# it was off", "#M", "##", "# \xe4"]
 BLANKS = ["", " ", "\t", " \t "]
 OTHER_LINES = ["-----", "Time,Line,Data", "#", "1 M 08", "1;S;00", "0:00:01 S 00", "99:59:59 M 08 08", "12:60:00 M 08",
-               "999999999999999 M 08", "9999999999999999 S 00", "0 M 108", "0 S", "M", "1 X 08", "2 M 0G", "0 S 100 0B",
+               "999999999999999999 M 08", "9999999999999999999999 S 00", "2026-11-30 09:14:22 M 08", "30.11.2026;9:14:22,5;S;00",
+               "2026-11-30T10:14:22+01:00 M 08", "M,2026-11-30,09:14:22,08", "M 1.1.1970 00:30:00Z 08", "0 M 108", "0 S", "M", "1 X 08", "2 M 0G", "0 S 100 0B", "1 M 08* 08", "1 S *00", ";5 M 08", "2 S 256", "3 M 511 8",
                "5 M 0B0B0B", "5 M 10B10B", "-5 M 08", "1 M " + "00 " * 37, "1 S 200", "x", "3 M 1FF 1FF", "\xa0"]
-BYTES = b"0123456789ABCDEFabcdefMmSsxX.,:;-> \t\"\r\n#[]=|()<\x00\xa0"
+BYTES = b"0123456789ABCDEFabcdefMmSsxXTZ+*.,:;-> \t\"\r\n#[]=|()<\x00\xa0"
 
 
 def messages_of(rows):
@@ -124,14 +127,16 @@ class Writer:
         self.rng = rng
         self.style = rng.choice(STYLES)
         self.digits = choose(rng, (2, 2), (1, 3))
-        self.kind = rng.choice(["s", "ms", "us", "ns", "day"])
+        self.is_decimal = rng.random() < 0.06
+        self.stars = [line for line in "MS" if rng.random() < (0.2 if self.digits == 2 else 0.3 * self.is_decimal)]
+        self.kind = rng.choice(made_times.FORMS)
         self.comma = self.style.comma and rng.random() < 0.5
-        self.exact = rng.random() < 0.6
+        self.time = made_times.Written(rng, self.kind, rng.random() < 0.6).time
         self.is_last = rng.random() < 0.2  # times are those of the last words
         self.step = choose(rng, (4, 1), (1, 100), (4, 1000), (3, 10_000), (1, 100_000))  # microseconds between times
         self.case = rng.choice([str.upper, str.upper, str.lower, lambda text: rng.choice([text.lower(), text])])
-        self.glued = rng.random() < 0.2
-        self.before = choose(rng, (3, ""), (1, "0x"), (1, "0X"))
+        self.glued = rng.random() < 0.2 and not self.is_decimal
+        self.before = choose(rng, (3, ""), (1, "0x"), (1, "0X")) if not self.is_decimal else ""
         self.between = rng.choice([" ", " ", "  ", ",", ", ", self.style.last or "\t"])
         self.names = self.own_names()
 
@@ -139,7 +144,7 @@ class Writer:
         """The names of both lines, and those of which are given in options."""
         pairs = [pair for pair in NAMES if self.style.digits or not any(name[0].isdigit() for name in pair)]
         if ">" in self.style.form or "{arrow}" in self.style.form:  # what may be taken for the other's name
-            pairs = [pair for pair in pairs if not any(re.fullmatch("[0-9A-Fa-f]{2,}|.->.", name) for name in pair)]
+            pairs = [pair for pair in pairs if not any(re.fullmatch("[0-9A-Fa-f]{%d,}|.->." % (2 - self.is_decimal), name) for name in pair)]
         pair = self.rng.choice(pairs)
         if self.style.mark and self.rng.random() < 0.3:
             pair = self.rng.choice(MARKS)
@@ -150,17 +155,29 @@ class Writer:
             names[line] = [line, line.lower()] if name is None else self.rng.choice([[name], [name], [line, name]])
         return names
 
-    def time(self, micros):
-        """A time as it is written, or None if it can't be."""
-        if self.kind == "day":
-            return made_rows.time_of_day(self.rng, micros, self.comma, self.exact)
-        return made_rows.number(self.rng, micros, self.kind, self.comma, self.exact)
-
-    def words(self, words):
-        digits = [self.case(f"{word if self.digits == 3 else word & 0xFF:0{self.digits}X}") for word in words]
+    def words(self, line, words):
         if self.glued:
-            return self.before + "".join(digits)
-        return self.between.join(self.before + one for one in digits)
+            words = [self.case(f"{word if self.digits == 3 else word & 0xFF:0{self.digits}X}") for word in words]
+            return self.before + "".join(words)
+        return self.between.join(self.word(line, word) for word in words)
+
+    def word(self, line, word):
+        star = word > 0xFF and line in self.stars and (self.digits == 2 or self.rng.random() < 0.5)
+        if self.is_decimal:
+            text = f"{word - 256 * star:0{self.rng.choice([1, 2, 3])}}"
+        else:
+            text = self.before + self.case(f"{word if self.digits == 3 else word & 0xFF:0{self.digits}X}")
+        return self.rng.choice([f"*{text}", f"{text}*"]) if star else text
+
+    def may_write(self, line, words, decided):
+        """Whether it writes a message, after others by which it is decided which lines show their mode bits."""
+        if self.digits == 3 or self.is_decimal:
+            return True
+        if self.glued or line not in self.stars:
+            return is_as_on_a_bus(line, words)
+        shows, answers = any(word > 0xFF for word in words), line == "M" and words in ([0x00], [0xAA], [0xFF])
+        decided |= {line} if shows else set()
+        return line in decided or answers
 
     def is_unclear(self, words):
         """Whether a message's words may be bytes or words of three, by themselves."""
@@ -169,13 +186,12 @@ class Writer:
     def line(self, time, line, words):
         who, to = (self.rng.choice(self.names[one]) for one in (line, "S" if line == "M" else "M"))
         arrow = "->" if line == "M" else "<-"
-        return self.style.form.format(t=time, who=who, to=to, arrow=arrow, words=self.words(words))
+        return self.style.form.format(t=time, who=who, to=to, arrow=arrow, words=self.words(line, words))
 
 
 def moved_in_time(rng, rows, kind):
     """The rows at another time."""
-    most = {"s": 10**14, "ms": 10**14, "us": 10**14, "ns": 10**11, "day": 86_000 * 10**6}[kind]
-    shift = choose(rng, (3, 0), (1, rng.randrange(10**6)), (1, rng.randrange(most)))
+    shift = made_times.shift_of(rng, kind, rows[-1][0] - rows[0][0])
     shift -= rows[0][0] if kind == "day" else rng.choice([rows[0][0], 0])
     return [(max(0, time + shift), line, value) for time, line, value in rows]
 
@@ -188,6 +204,8 @@ def with_others(rng, entries):
         entries = [(rng.choice(what), None)] + entries
     for _ in range(choose(rng, (4, 0), (2, 1), (1, 5))):
         entries.insert(rng.randint(0, len(entries)), (rng.choice(COMMENTS + BLANKS), None))
+    if rng.random() < 0.1:
+        entries = [(rng.choice(EARLY_COMMENTS), None) for _ in range(rng.choice([1, 1, 3]))] + entries
     if what is NO_HEADERS:
         refused = next(at for at, (line, _) in enumerate(entries, 1) if line in NO_HEADERS)
     return entries, refused
@@ -209,19 +227,21 @@ def as_bytes(rng, lines, names, blanks):
 def options(rng, writer, rows):
     """The words of the command line."""
     words = ["messages"]
-    if writer.kind != "day" or rng.random() < 0.1:
-        words += ["--unit", writer.kind if writer.kind != "day" else rng.choice(list(made_rows.UNITS))]
+    if writer.kind in made_times.UNITS or rng.random() < 0.1:
+        words += ["--unit", writer.kind if writer.kind in made_times.UNITS else rng.choice(list(made_times.UNITS))]
     for option, name in zip(("--controller", "--peripheral"), writer.given):
         words += [option, name] if name is not None else []
     if writer.is_last or rng.random() < 0.1:
         words += ["--time-of", "last" if writer.is_last else "first"]
+    words += ["--decimal"] * writer.is_decimal
     return words + part_words(rng, [time for time, _, _ in rows], 0.15)
 
 
 def told_messages(rng, writer, recordings):
     """Messages, the times that the log has of them, the rows that it has to give, and which is refused, or None."""
     rows = moved_in_time(rng, part_of(rng, recordings, 0), writer.kind)
-    messages = [it for it in messages_of(rows) if writer.digits == 3 or is_as_on_a_bus(*it[2:])]
+    decided = set()
+    messages = [it for it in messages_of(rows) if writer.may_write(*it[2:], decided)]
     if writer.step == 1:  # no time is rounded, and none moved: the rows come back as they are
         messages = parted(messages)
         wanted = [(begin + place * WORD, line, f"{word:03X}") for begin, _, line, words in messages
@@ -237,7 +257,7 @@ def messages_export(rng, recordings):
     """A log, and the rows that it has to give."""
     writer = Writer(rng)
     messages, times, wanted, at = told_messages(rng, writer, recordings)
-    written = [writer.time(time) for time in times]
+    written = [writer.time(time, writer.comma) for time in times]
     if not messages or None in written:
         return messages_export(rng, recordings)
     at = 0 if writer.is_unclear(messages[0][3]) else at
@@ -251,26 +271,30 @@ def messages_export(rng, recordings):
     for _ in range(in_lines):
         damage_lines(rng, lines, at_an_edge, OTHER_LINES)
     if damage and rng.random() < 0.1:
+        flags = [words.pop(words.index(flag)) for flag in ("--decimal",) if flag in words]
         wrong_words(rng, words)
+        words += flags if rng.random() < 0.7 else []
     text = as_bytes(rng, lines, writer.given, " \t" if refused else " \t\n\r")
     for _ in range(damage - in_lines):
         text = damage_bytes(rng, text, BYTES)
     if damage or refused is not None:
         return Export(text, words, None, refused=None if damage else refused)
     its, _ = options_of(words)
-    part = range(its.get("--from", 0), its.get("--until", 10**15) + 1)
+    part = range(its.get("--from", 0), its.get("--until", 10**18) + 1)
     return Export(text, words, ["%d,%s,%s" % row for row in wanted if row[0] in part])
 
 
 def at_an_edge(rng, line):
     """A line in which one thing is at an edge of what may stand there."""
+    if rng.random() < 0.2:
+        return made_times.at_an_edge(rng, line)
     things = list(re.finditer(r"[0-9.,:]+|[A-Za-z]+|[^0-9A-Za-z]+", line))
     if not things:
         return rng.choice(OTHER_LINES)
     thing = rng.choice(things)
     old = thing[0]
     new = rng.choice([old + old, old + " " + old, old.swapcase(), "", " ", "-" + old, old + "-", "0x" + old, old + "0",
-                      old.zfill(15), old.zfill(16), old + ".5", old + ",5", old.replace(",", "."), old.replace(".", ","),
+                      old.zfill(21), old.zfill(22), old + ".5", old + ",5", "*" + old, old + "*", f"*{old}*", "*", "256", "08*", "511", "512", old.replace(",", "."), old.replace(".", ","),
                       "M", "S", "1FF", "200", "0" + old, f'"{old}"', old + "\xa0", "->", ">S", "M>", "00 " * 36, "#"])
     return line[: thing.start()] + new + line[thing.end() :]
 

@@ -2,7 +2,7 @@
 
 import scenes
 from export_parts import (Export, choose, damage_bytes, damage_lines, maybe_skip, options_of, padded, part_of,
-                          part_words, wanted_of, wrong_words)
+                          part_words, wanted_of, with_comments, wrong_words)
 
 ANALYSERS = [
     ("MDB master", "MDB slave"),
@@ -25,9 +25,9 @@ TITLES = [
     (None, ["duration", "Packet ID", "Address", "Data", "Start_time", ""]),
 ]
 EDGES = {
-    "time": ["-0.001", "-", "", "1", "0,5", "1e-05", "0:00:01", "+1", ".5", "1.", "999999999.9999994",
-             "999999999.9999995", "0.0000005", "0.0000004999", "1234567890123456", "0.1234567890123456",
-             "999999999.999999500000000", "000000000000001", "0.000000000000000",
+    "time": ["-0.001", "-", "", "1", "0,5", "1e-05", "0:00:01", "+1", ".5", "1.", "999999999999.9999994",
+             "999999999999.9999995", "0.0000005", "0.0000004999", "1234567890123456789012", "0.1234567890123456",
+             "999999999999.999999500000000", "000000000000000000001", "0.000000000000000", "2026-11-30T09:14:22.447Z",
              "0.00000049999999999999999999", "0.12345678901234567e", "0.1234567890123456.7"],
     "name": ["M", "m", "S", "s", "B", "", "MM", "Async Serial", " M "],
     "data": ["0x000", "0", "0x", "0x1FF", "0x200", "0xFF", "0x100", "0XFF", "108", "0x0108h", "108h",
@@ -78,14 +78,14 @@ def saleae_time(rng, micros, exact):
         decimals = decimals.rstrip("0")
     whole = str(whole)
     if rng.random() < 0.05:
-        whole = whole.zfill(rng.randint(len(whole), 15))
+        whole = whole.zfill(rng.randint(len(whole), 21))
     return f"{whole}.{decimals}" if decimals else whole
 
 
 def saleae_export(rng, recordings):
     rows = part_of(rng, recordings, 0)
     length = rng.choice([0, 100_500, 150_000, 999_999_999, rng.randrange(10**6)])
-    shift = choose(rng, (3, 0), (1, rng.randrange(10**6)), (1, rng.randrange(10**14)))
+    shift = choose(rng, (3, 0), (1, rng.randrange(10**6)), (1, rng.randrange(10**14)), (1, rng.randrange(10**17)))
     shift -= rng.choice([rows[0][0], 0])
     rows = [(max(0, time + shift), line, value) for time, line, value in rows]
 
@@ -107,6 +107,8 @@ def saleae_export(rng, recordings):
     if rng.random() < 0.7:
         rng.shuffle(columns)
     titles = [rng.choice(dict(TITLES)[column]) for column in columns]
+    if columns[0] is None and rng.random() < 0.3:
+        titles[0] = rng.choice(["#", "# id"])  # no comment, since it has the columns
     quotes, blanks = rng.choice([0, 0, 0.2, 1]), rng.choice([0, 0, 0.2, 1])
     exact, digits = rng.random() < 0.5, rng.choice([1, 2, 3, 4, 4, 4])
     lower = rng.random() < 0.3
@@ -156,6 +158,9 @@ def saleae_export(rng, recordings):
     wanted = saleae_wanted(kinds, words, length)
     if any(name and name != name.strip(' "') for name in (controller, peripheral)):
         wanted = {"rows": None}  # such a name is never found
+    lines, comments = with_comments(rng, lines, 0.1)
+    if wanted.get("refused"):
+        wanted["refused"] += comments
     for _ in range(choose(rng, (4, 0), (1, 1), (1, 5))):
         lines.insert(rng.randint(0, len(lines)), "")
     ends = rng.choice([["\n"], ["\r\n"], ["\r"], ["\n", "\r\n", "\r"]])

@@ -70,7 +70,7 @@ def sigrok_export(rng, recordings, traces=None):
     else:
         rows = part_of(rng, recordings, 1200)
         rows = ties(rng, rows, 0.02)
-        shift = rng.choice([0, 0, -rows[0][0], rng.randrange(10**12)])
+        shift = rng.choice([0, 0, -rows[0][0], rng.randrange(10**12), rng.randrange(10**17)])
         rows = [(time + shift, line, value) for time, line, value in rows]
         scene = scenes.Scene(rng, rows, rng.choice([1_000_000, 4_000_000, 24_000_000]))
         disturbed(rng, scene, words)
@@ -139,14 +139,14 @@ def damage_pairs(rng, pairs):
         starts = [two[0] for two in pairs[:at] if '"Start bit"' in two[0] and '"TX"' in two[0]]
         begin = re.search(r"([0-9]+)\.([0-9]{6})", rng.choice([pairs[at][0]] + starts[-2:]))
         begin = int(begin[1] + begin[2])
-        end = begin + choose(rng, (1, 10**15 - 500_001), (1, 10**15 - 500_000), (1, 10**11), (1, -1))
+        end = begin + choose(rng, (1, 10**15 - 500_001), (1, 10**15 - 500_000), (1, 10**18), (1, 10**11), (1, -1))
         tid = re.search('"tid": "(.*?)"', pairs[at][0])[1]
         pairs[at] = pair(tid, "Break condition", begin, max(0, end))
     else:  # another time
         ts = rng.choice(
             [
-                f"{rng.choice([0, 1000, 99999, 10**12, 10**15 - 1, 10**15])}.000000",
-                f"{10**15 - 1}.{rng.choice(['499999', '500000'])}",
+                f"{rng.choice([0, 1000, 99999, 10**12, 10**18 - 1, 10**18])}.000000",
+                f"{10**18 - 1}.{rng.choice(['499999', '500000'])}",
                 f"{rng.randrange(10**9)}.{rng.randrange(10**6):06}",
                 "+", "+", "-", "-", "copy", "copy",
             ]
@@ -156,7 +156,7 @@ def damage_pairs(rng, pairs):
         for one in which:
             found = re.search(r'"ts": ([0-9]+)\.([0-9]{6})', pairs[at][one])
             if ts in "+-":
-                much = rng.choice([1, 499_999, 500_000, 10**6, 10**8, 10**9, 10**15])
+                much = rng.choice([1, 499_999, 500_000, 10**6, 10**8, 10**9, 10**18])
                 now = int(found[1] + found[2]) + (much if ts == "+" else -much)
                 new = f"{max(0, now) // 10**6}.{max(0, now) % 10**6:06}"
             elif ts == "copy":

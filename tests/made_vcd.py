@@ -2,7 +2,7 @@
 
 from export_parts import (FLAGS, Export, choose, damage_bytes, damage_lines, padded, part_of, part_words, ties,
                           wanted_of, wrong_words)
-from made_edges import damage_changes, scene_of
+from made_edges import damage_changes, known_truth, scene_of, upside_down
 
 TIMESCALES = {6: ("1", "us"), 7: ("100", "ns"), 8: ("10", "ns"), 9: ("1", "ns"), 10: ("100", "ps"),
               12: ("1", "ps"), 13: ("100", "fs"), 15: ("1", "fs")}
@@ -17,7 +17,7 @@ OTHER_COMMANDS = [
     "$other$end $end",
 ]
 OTHER_TOKENS = [
-    "", "#", "#-1", "#1.5", "#1e3", "#0", "#5", "#999999999999999", "#1000000000000000000000000000000000",
+    "", "#", "#-1", "#1.5", "#1e3", "#0", "#5", "#999999999999999999", "#1000000000000000000000000000000000000",
     "0", "1", "x", "b", "b1", "b10", "r1.5", "sHigh", "$end", "$comment", "$dumpvars", "$dumpoff",
     "$dumpports", "$", "$var wire 1 ! M $end", "$enddefinitions $end", "$timescale 1 us $end",
     "$scope module m $end", "$upscope $end", "$comment 1 $end", "2!", "Z?", "-", "1 !", "hello", "1,M,108",
@@ -29,7 +29,7 @@ DUMP_BYTES = b'0101#!"xzb$ \t\r\n$endMSms123456789.'
 
 def vcd_export(rng, recordings):
     rows = part_of(rng, recordings, 95_000)
-    lead = rng.choice([2000, 5000, rng.randrange(2000, 10**6), rng.randrange(2000, 10**9)])
+    lead = rng.choice([2000, 5000, rng.randrange(2000, 10**6), rng.randrange(2000, 10 ** rng.choice([9, 9, 17]))])
     rows = [(time - rows[0][0] + lead, line, value) for time, line, value in rows]
     rows = ties(rng, rows, rng.choice([0, 0, 0.2]))
     places, words = rng.choice(list(TIMESCALES)), ["vcd"]
@@ -41,10 +41,11 @@ def vcd_export(rng, recordings):
         if changes:
             damage_changes(rng, changes, places)
 
-    invert = rng.random() < 0.2
     header, codes, others, options = vcd_header(rng, TIMESCALES[places])
+    called = dict(zip(options[::2], options[1::2]))
+    turned, told, known = upside_down(rng, {"M": called.get("--controller", "M"), "S": called.get("--peripheral", "S")})
     words += options + part_words(rng, [time for time, _, _ in rows], 0.2)
-    body = vcd_body(rng, changes, codes, others, invert)
+    body = vcd_body(rng, changes, codes, others, turned)
     for _ in range(in_edges, damage):
         what = rng.random()
         if what < 0.25:
@@ -58,8 +59,7 @@ def vcd_export(rng, recordings):
             flags = [words.pop(words.index(flag)) for flag in list(words) if flag in FLAGS]
             wrong_words(rng, words)
             words += flags
-    if invert:
-        words.append("--invert")
+    words += told if set(told[1:2]) <= {"M", "m", "S", "s", "--invert", *words} else []
     blanks = rng.random() < 0.2
     ends = rng.choice([["\n"], ["\n"], ["\r\n"], ["\n", "\r\n", "\n\n"]])
     text = ""
@@ -74,7 +74,8 @@ def vcd_export(rng, recordings):
     if damage > in_edges and rng.random() < 0.4:
         text = damage_bytes(rng, text, DUMP_BYTES)
     truth = scene.truth("--skip-damaged" in words)
-    return Export(text, words, **wanted_of(None if damage else truth, words))
+    truth = None if damage else known_truth(turned, known, changes, places, truth)
+    return Export(text, words, **wanted_of(truth, words))
 
 
 def vcd_header(rng, timescale):
@@ -113,13 +114,13 @@ def vcd_header(rng, timescale):
     return commands + variables + closed + [end], codes, others, words
 
 
-def vcd_body(rng, changes, codes, others, invert):
+def vcd_body(rng, changes, codes, others, turned):
     """The lines of a body, each a token or two."""
     vectors, twice, more = (rng.choice([0, 0, 0.1]) for _ in range(3))
     levels = {"M": 1, "S": 1}
 
     def change(line, level):
-        level = 1 - level if invert else level
+        level = 1 - level if line in turned else level
         if rng.random() < vectors:
             return f"{rng.choice('bB')}{level} {codes[line]}"
         return f"{level}{codes[line]}"

@@ -1,5 +1,5 @@
 #!/usr/bin/env python3
-"""make_vectors.py FILE: writes the worked cases of crates/conformance/data as JSON Lines.
+"""make_vectors.py FILE: writes the worked cases of tests/cases as JSON Lines.
 
 Each line is one case that the program answers as wanted, an object with these members, in this order:
 

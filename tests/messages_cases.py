@@ -5,17 +5,19 @@ after them; or a refusal, which begins with the number of the line. Without line
 nothing else is told but which line has no word.
 """
 
+from import_corners import DATE, IN_PART, LONG, MIDNIGHT, MIDNIGHTS, NO_ROW, OTHER, TIME, UNIT
 from second_csv import found
 from second_rows import REFUSED
 
-TIME = "wanted a time: up to 15 digits, perhaps with decimals, or HH:MM:SS"
-UNIT = "the unit of the times isn't known: give --unit s, ms, us or ns"
-LONG = "wanted a time of at most 15 digits of microseconds"
 WHO = "wanted M or S before the bytes, or a name given by --controller or --peripheral"
 WORDS = "wanted bytes of two hexadecimal digits, or words of three, at most 1FF"
 MIXED = "wanted two digits in each word, or three in each, as before"
 PARTED = "wanted blanks between the words: so many digits are bytes or words of three"
 MOST = "wanted at most 36 words, which is the longest block"
+DECIMALS = "wanted words in decimal digits, at most 511"
+MARKS = "wanted * in the messages of a line from the first on, or in none"
+ARE_DECIMAL = "; are the words decimal (--decimal)?"
+LIKELY = WORDS + ARE_DECIMAL  # the end stands after what was found
 ORDER = "wanted a message that begins after the one before it, or at most 50 ms too early"
 
 HEADER = "the first line is taken for a header"
@@ -27,7 +29,6 @@ SOME = MADE_UP + "moved {} messages, by at most {} microseconds"
 ONLY_M = "no word of a peripheral (S): was only the controller's line recorded?"
 ONLY_S = "no word of the controller (M): was only the peripherals' line recorded?"
 NO_MODE = "no word has its mode bit set: was it recorded with 8 bits and not 9?"
-NO_WORD = "there is no word on either line"
 
 US = "--unit us"
 TWO = f"{US} --controller VMC --peripheral PER"
@@ -55,14 +56,14 @@ LINES = [
     *((US, f"5 M{other}08", WHO) for other in "./\\'{}*+#\x0b\0"),
     *((US, f"5{other}M 08", TIME) for other in "./\\'+#\x0b\0us"),
     # The time.
-    (US, "0 M 00", "0,M,000"), (US, "000000000000001 M 00", ACK), (US, "0000000000000001 M 00", TIME),
-    (US, "999999999999999 M 00", "999999999999999,M,000"),
-    (US, "999999999999999.4 M 00", "999999999999999,M,000"), (US, "999999999999999.5 M 00", LONG),
-    (US, "1000000000000000 M 00", TIME), (US, "1.123456789012345 M 00", ACK),
+    (US, "0 M 00", "0,M,000"), (US, "000000000000001 M 00", ACK), (US, "0000000000000000000001 M 00", TIME),
+    (US, "999999999999999999 M 00", "999999999999999999,M,000"),
+    (US, "999999999999999999.4 M 00", "999999999999999999,M,000"), (US, "999999999999999999.5 M 00", LONG),
+    (US, "1000000000000000000 M 00", LONG), (US, "1.123456789012345 M 00", ACK),
     (US, "1.1234567890123456 M 00", TIME), (US, "0.5 M 00", ACK), (US, "0,5 M 00", ACK),
     (US, "1,499 M 00", ACK), ("--unit s", "0.0000005 M 00", ACK),
-    ("--unit s", "999999999.9999994 M 00", "999999999999999,M,000"),
-    ("--unit s", "999999999.9999995 M 00", LONG), ("--unit ms", "12,5 M 00", "12500,M,000"),
+    ("--unit s", "999999999999.9999994 M 00", "999999999999999999,M,000"),
+    ("--unit s", "999999999999.9999995 M 00", LONG), ("--unit ms", "12,5 M 00", "12500,M,000"),
     ("--unit ns", "1499 M 00", ACK), ("", "14:28:00.447 M 00", "52080447000,M,000"),
     ("", "1:2:3,5 M 00", "3723500000,M,000"), ("", "99:59:59 M 00", "359999000000,M,000"),
     ("--unit ns", "0:0:1 M 00", "1000000,M,000"), ("", "100:00:00 M 00", TIME), ("", "1:60:00 M 00", TIME),
@@ -71,9 +72,32 @@ LINES = [
     (US, "1. M 00", TIME), (US, "1.: M 00", TIME), (US, "1:. M 00", WHO), (US, "1,000,5 M 00", TIME),
     (US, "1.000.5 M 00", TIME), (US, "1.000,5 M 00", TIME), (US, ".5 M 00", TIME), (US, "1e5 M 00", TIME),
     (US, "+1 M 00", TIME), (US, "0x1 M 00", TIME), (US, "1us M 00", TIME), (US, "1M 00", TIME),
-    (US, "2026-11-29 14:28:00 M 00", TIME), (US, "29.11.2026 14:28:00 M 00", TIME),
     (US, "11/29/2026 14:28:00 M 00", TIME), (US, "29. 11. 2026 M 00", TIME), (US, ",1,M,00", ACK),
     (US, "::1 M 00", ACK), (US, "1 2 M 00", WHO), (US, "1,2 M 00", ACK),
+    # Dates, with 1,795,962,480 seconds from 1970-01-01 to 2026-11-29 14:28:00.
+    *((words, f"{text} M 00", "1795962480000000,M,000") for words in ("", "--unit ns") for text in (
+        "2026-11-29 14:28:00", "29.11.2026 14:28:00", "[2026-11-29T14:28:00]", "2026-11-29\t14:28:00:",
+        "2026-11-29;14:28:00;", "29.11.2026, 14:28:00,", "2026-11-29 ;,\t 14:28:00 -", "2026-11-29T14:28:00Z",
+        "(2026-11-29t14:28:00z)", "2026-11-29T15:28:00+01:00:", "2026-11-29T15:28:00+0100", "2026-11-29T15:28:00+01",
+        "2026-11-29T15:28:00+01: -", "2026-11-29 09:58:00-0430", "2026-11-29T14:28:00-", "29.11.2026 14:28:00.0:,")),
+    ("", "2026-11-29 14:28:00,447 M 00", "1795962480447000,M,000"),
+    ("", "2026-11-29,14:28:00,08,M,09", "1795962480080000,M,109"),
+    ("", "M,2026-11-29,14:28:00,08,09", block(1795962480000000, "M", "108", "009")),
+    ("", "M,2026-11-29,14:28:00.447Z,08,09", block(1795962480447000, "M", "108", "009")),
+    ("", "M 2026-11-29,14:28:00,5 08", "1795962480500000,M,108"), ("", "M 2026-11-29,14:28:00,5,08", TIME),
+    ("", "M;2026-11-29T14:28:00+00;08", "1795962480000000,M,108"),
+    *(("", f"{text} M 00", TIME) for text in (
+        "2026-11-29", "2026-11-29T", "2026-11-29 ,", "2026-11-29 14:28", "2026-11-29 5", "2026-11-29 24:00:00",
+        "2026-11-29[14:28:00]", "2026-11-29 [14:28:00]", "2026-11-29_14:28:00", "2026-11-29T 14:28:00",
+        "2026-11-2914:28:00", "26-11-29 14:28:00", "2026-11-9 14:28:00", "29.11.26 14:28:00", "29.11.2026",
+        "2026-11-29 14:28:00A", "2026-11-29 14:28:00-A", "2026-11-29 14:28:00-5", "2026-11-29 14:28:00+5",
+        "2026-11-29 14:28:00+", "2026-11-29 14:28:00+24:00", "2026-11-29 14:28:00-01:60", "2026-11-29 14:28:00+010",
+        "2026-11-29 14:28:00+01000", "2026-11-29 14:28:00+01:000", "2026-11-29 14:28:00ZZ", "2026-11-29 14:28:00Z1",
+        "2026-11-29T14:28:00.Z", "14:28:00Z", "14:28:00+01:00", "2026-11-29:14:28:00", "-2026-11-29 14:28:00")),
+    ("", "2026-11-29 14:28:00+01:5 M 00", WHO), ("", "2026-11-29 14:28:00 +01:00 M 00", WHO),
+    ("", "2026-11-29 14:28:00 Z M 00", WHO), ("", "2026-11-29 14:28:00 M", WORDS), ("", "M 2026-11-29 14:28:00", WORDS),
+    ("", "29.2.2026 14:28:00 X 0G", DATE), ("", "1970-01-01T00:00:00+00:01 M 00", DATE),
+    ("", "9999-12-31 23:59:59.999999 M 00", "253402300799999999,M,000"),
     # The speaker before the time: a comma between them separates.
     (US, "M 1 00", ACK), (US, "M,1,00", ACK), (US, "M,1,08,09", block(1, "M", "108", "009")),
     (US, "M,0.5,00", ACK), (US, "M;0,5;00", ACK), (US, "M 0,5 00", ACK), (US, "M:0,5 00", ACK),
@@ -132,7 +156,7 @@ LINES = [
     (f"{US} --peripheral >", "1 M -> > > 08", "1,M,108"),
     # The words.
     (US, "1 M 08 0b 0B", block(1, "M", "108", "00B", "00B")),
-    (US, "1 M 108 1ff 1FF", block(1, "M", "108", "1FF", "1FF")), (US, "1 M 200", WORDS),
+    (US, "1 M 108 1ff 1FF", block(1, "M", "108", "1FF", "1FF")), (US, "1 M 200", LIKELY),
     (US, "1 M 1FF 200", WORDS), (US, "1 M 8", WORDS), (US, "1 M 08 8", WORDS), (US, "1 M 08 0G", WORDS),
     (US, "1 M ,", WORDS), (US, "1 M 08 x", WORDS), (US, "1 M 08 # x", WORDS), (US, "1 M 08.09", WORDS),
     (US, "1 M 08h", WORDS), (US, "1 M 08 (ACK)", WORDS), (US, "1 M 08\xe4", WORDS),
@@ -164,7 +188,7 @@ LINES = [
     (US, "1 M " + "101" * 35, block(1, "M", *["101"] * 35)), (US, "1 M 08 108", MIXED),
     (US, "1 M 108 08", MIXED), (US, "1 M 0809 108", MIXED), (US, "1 M 08 10800910B", MIXED),
     (US, "1 M 108 0809", MIXED), (US, "1 M 080910 08 108", MIXED), (US, "1 M 080910 " + "08 " * 40, PARTED),
-    (US, "1 M 08 108 0G", WORDS), (US, "1 M 08 200", WORDS), (US, "1 M 080910 8", WORDS),
+    (US, "1 M 08 108 0G", WORDS), (US, "1 M 08 200", LIKELY), (US, "1 M 080910 8", WORDS),
     # Mode bits.
     (US, "1 M 00", "1,M,000"), (US, "1 M AA", "1,M,0AA"), (US, "1 M ff", "1,M,0FF"),
     (US, "1 M 01", "1,M,101"), (US, "1 M 00 00", block(1, "M", "100", "000")),
@@ -172,21 +196,36 @@ LINES = [
     (US, "1 S 00 00", block(1, "S", "000", "100")), (US, "1 M 008 008", block(1, "M", "008", "008")),
     (US, "1 S 100 000", block(1, "S", "100", "000")), (US, "1 M 100", "1,M,100"), (US, "1 S 000", "1,S,000"),
     # The time of the last word, and the greatest time.
-    (US, "999999999999999 M 08 08", LONG),
-    (US, "999999999998853 M 08 08", block(999999999998853, "M", "108", "008")),
-    (US, "999999999998854 M 08 08", LONG),
-    (f"{US} --time-of last", "999999999999999 M 08 08", block(999999999998853, "M", "108", "008")),
+    (US, "999999999999999999 M 08 08", LONG),
+    (US, "999999999999998853 M 08 08", block(999999999999998853, "M", "108", "008")),
+    (US, "999999999999998854 M 08 08", LONG),
+    (f"{US} --time-of last", "999999999999999999 M 08 08", block(999999999999998853, "M", "108", "008")),
     (f"{US} --time-of last", "2292 M 08 08 08", block(0, "M", "108", "008", "008")),
     (f"{US} --time-of first", "2292 M 08 08 08", block(2292, "M", "108", "008", "008")),
     (f"{US} --time-of last", "5 M 00", "5,M,000"),
     # What comes first of several things.
-    ("", "x 0G", TIME), ("", "1 X 0G", UNIT), ("--unit s", "9999999999 X 0G", LONG), (US, "1 X 0G", WHO),
-    (US, "9999999999999999 X", TIME), ("--unit s", "9999999999 M", LONG),
-    (US, "999999999999999 M 08 0G", WORDS), (US, "999999999999999 M 08 108", MIXED),
+    ("", "x 0G", TIME), ("", "1 X 0G", UNIT), ("--unit s", "9999999999999 X 0G", LONG), (US, "1 X 0G", WHO),
+    (US, "9999999999999999999999 X", TIME), ("--unit s", "9999999999999 M", LONG),
+    (US, "999999999999999999 M 08 0G", WORDS), (US, "999999999999999999 M 08 108", MIXED),
+    # Mode bits that are shown.
+    *((US, f"5 M {words}", block(5, "M", "108", "008")) for words in (
+        "08* 08", "*08 08", "0x08* 0x08", "*0x08,08", "08*[08]")),
+    (US, "5 M 08 08*", block(5, "M", "008", "108")), (US, "5 M 08*,*08", block(5, "M", "108", "108")),
+    (US, "5 M 00*", "5,M,100"), (US, "5 S 08* 08", block(5, "S", "108", "008")),
+    (US, "5 S 03 01*", block(5, "S", "003", "101")), (US, "5 S FF*", "5,S,1FF"),
+    *((US, f"5 M {words}", WORDS) for words in ("08*08", "*08*", "108*", "*108", "0808*", "8*", "08 *", "* 08", "**08",
+                                              "08**", "08*-F", "0x*08", "*")),
+    # Decimal words.
+    *((f"{US} --decimal", f"5 M {words}", block(5, "M", "108", "008")) for words in ("264 8", "264,008", "8* 8", "*8 08")),
+    (f"{US} --decimal", "5 S 256", "5,S,100"), (f"{US} --decimal", "5 S 8 8", block(5, "S", "008", "008")),
+    (f"{US} --decimal", "5 M 511 255*", block(5, "M", "1FF", "1FF")), (f"{US} --decimal", "5 M", DECIMALS),
+    *((f"{US} --decimal", f"5 M {words}", DECIMALS) for words in ("512", "0264", "256*", "*8*", "0B", "0x8", "8h", "8-F",
+                                                               "8*8", "*", "999", "8 *")),
+    (f"{US} --decimal", "5 M" + " 8" * 36, block(5, "M", *["008"] * 36)), (f"{US} --decimal", "5 M" + " 8" * 37, MOST),
 ]
 B = "0 M 08\n"  # a first line of bytes, and one of words
 T = "0 M 108\n"
-NO_LINE = STAYS, NO_WORD
+NO_LINE = STAYS, NO_ROW
 # Logs of several lines: what they give, then the lines; or the rows, the number of the refused line, and why.
 LOGS = [
     # Ends of lines, blank ones and comments.
@@ -224,7 +263,7 @@ LOGS = [
     (US, T + "5000 S 008209\n", "0,M,108", 2, WORDS), (US, B + "5000 S 108\n", "0,M,108", 2, MIXED),
     (US, T + "5000 S 08\n", "0,M,108", 2, MIXED), (US, T + "5000 S 0809\n", "0,M,108", 2, MIXED),
     (US, B + "5000 S 008009100\n", "0,M,108", 2, MIXED), (US, B + "5000 S 108 FFFFFF\n", "0,M,108", 2, MIXED),
-    (US, T + "5000 S 08 FFFFFF\n", "0,M,108", 2, WORDS), (US, B + "5000 S 200\n", "0,M,108", 2, WORDS),
+    (US, T + "5000 S 08 FFFFFF\n", "0,M,108", 2, WORDS), (US, B + "5000 S 200\n", "0,M,108", 2, LIKELY),
     (US, B + "5000 S 8\n", "0,M,108", 2, WORDS),
     (US, T + "5000 S " + "101" * 36, f"0,M,108 {block(5000, 'S', *['101'] * 36)}"),
     (US, B + "5000 S " + "01" * 36, f"0,M,108 {block(5000, 'S', *['001'] * 35, '101')}"),
@@ -248,22 +287,59 @@ LOGS = [
     (f"{US} --time-of last", "0 M 08\n1000 S 00 00\n", "0,M,108 1146,S,000 2292,S,100", ONE.format(1292)),
     (f"{US} --time-of last", "100000 M 08\n52292 S 00 00\n", "100000,M,108 101146,S,000 102292,S,100",
      ONE.format(50000)), (f"{US} --time-of last", "100000 M 08\n52291 S 00 00\n", "100000,M,108", 2, ORDER),
-    ("", "23:59:59.999 M 08\n0:00:00.010 S 00\n", "86399999000,M,108", 2, ORDER),
+    ("", "23:59:59.999 M 08\n0:00:00.010 S 00\n", "86399999000,M,108 86400010000,S,100", MIDNIGHT, STAYS),
+    ("", "13:00:00 M 08\n1:00:00 S 00\n", "46800000000,M,108", 2, ORDER),
+    ("", "13:00:00.000001 M 08\n\n#\n1:00:00 S 00\n", "46800000001,M,108 90000000000,S,100", MIDNIGHT, STAYS),
+    ("", "T\n23:0:0 M 08\n1:0:0 S 00\n23:0:0 M 08\n1:0:0 S 0G\n",
+     "82800000000,M,108 90000000000,S,100 169200000000,M,108", 5, WORDS),
+    ("", "T\n23:0:0 M 08\n1:0:0 S 00\n23:0:0 M 08\n1:0:0 S 00\n",
+     "82800000000,M,108 90000000000,S,100 169200000000,M,108 176400000000,S,100", HEADER, MIDNIGHTS.format(2), STAYS),
+    ("", "23:0:0 M 08\n1:0:0 S 00\n0:59:59 M 08\n", "82800000000,M,108 90000000000,S,100", 3, ORDER),
+    ("", "23:59:59.9999 M 08 08\n0:0:0 S 00\n", "86399999900,M,108 86400001046,M,008 86400002192,S,100", MIDNIGHT,
+     ONE.format(2192)),
+    ("--time-of last", "23:59:59.9999 M 08\n0:0:0 S 00 00\n", "86399999900,M,108 86400001046,S,000 86400002192,S,100",
+     MIDNIGHT, ONE.format(2192)),
+    ("--from 24:00:00", "23:59:59 M 08\n0:00:01 S 00\n", "86401000000,S,100", MIDNIGHT, PART.format(1, 0), STAYS),
+    ("", "2026-11-29 23:00:00 M 08\n2026-11-29 1:00:00 S 00\n", "1795993200000000,M,108", 2, ORDER),
+    ("", "29.11.2026 14:28:00 M 08\n2026-11-29T14:28:01 S 00\n", "1795962480000000,M,108 1795962481000000,S,100"),
+    ("", "2026-10-25T02:59:59+02:00 M 08\n2026-10-25T02:00:00+01:00 S 00\n",
+     "1792889999000000,M,108 1792890000000000,S,100"),
+    (US, "1 M 08\n0:0:2 S 00\n", "1,M,108", 2, OTHER.format("a time of day")),
+    ("", "0:0:1 M 08\n2 S 00\n", "1000000,M,108", 2, OTHER.format("a number")),
+    ("", "0:0:1 M 08\n30.2.2026 0:0:2 X\n", "1000000,M,108", 2, OTHER.format("a date without an offset")),
+    ("", "2026-11-29 14:28:00 M 08\n2026-11-29 14:28:01Z S 00\n", "1795962480000000,M,108", 2,
+     OTHER.format("a date with an offset")),
     ("", "23:59:59.999 M 08\n24:00:00.010 S 00\n", "86399999000,M,108 86400010000,S,100"),
-    (US, "999999999998000 M 08\n999999999998000 S 00\n", "999999999998000,M,108 999999999999146,S,100",
+    (US, "999999999999998000 M 08\n999999999999998000 S 00\n", "999999999999998000,M,108 999999999999999146,S,100",
      ONE.format(1146)),
-    (US, "999999999998854 M 08\n999999999998854 S 00\n", "999999999998854,M,108", 2, LONG),
-    (US, "999999999999999 M 08\n5 S 00 00\n", "999999999999999,M,108", 2, ORDER),
+    (US, "999999999999998854 M 08\n999999999999998854 S 00\n", "999999999999998854,M,108", 2, LONG),
+    (US, "999999999999999999 M 08\n5 S 00 00\n", "999999999999999999,M,108", 2, ORDER),
     (US, "999999 M 08\n5 S 0G\n", "999999,M,108", 2, WORDS),
     (US, "999999 M 08\n5 S 108\n", "999999,M,108", 2, MIXED),
     # Parts, by the times of the rows; the log is read and checked as a whole.
     (f"{US} --from 1146", "0 M 08 08\n0 S 00\n", "1146,M,008 2292,S,100", PART.format(1, 0), ONE.format(2292)),
     (f"{US} --until 1146", "0 M 08 08\n0 S 00\n", "0,M,108 1146,M,008", PART.format(0, 1), ONE.format(2292)),
     (f"{US} --from 0 --until 2292", "0 M 08 08\n0 S 00\n", "0,M,108 1146,M,008 2292,S,100", ONE.format(2292)),
-    (f"{US} --from 9 --until 5", "T\n5 M 08\n9000 S 00\n", "", HEADER, PART.format(1, 1), STAYS),
+    (f"{US} --from 9 --until 5", "T\n5 M 08\n9000 S 00\n", "", HEADER, PART.format(1, 1), STAYS,
+     IN_PART.format(5, 9000)),
+    (f"{US} --from 10000", "5 M 08 09\n0 S 00\n", "", PART.format(3, 0), ONE.format(2297), IN_PART.format(5, 2297)),
     (f"{US} --until 5", "5 M 08\n9000 S 0G\n", "5,M,108", 2, WORDS),
     (f"{US} --from 9000", "5 M 08\n6 X 00\n9000 S 00\n", "", 2, WHO),
     (f"{US} --from 9000", "5 M 08\n9000 S 00\n", "9000,S,100", PART.format(1, 0), STAYS),
+    # Comments above the header and the first message.
+    (US, "; a\n \t;\n# b\n1 M 00\n; c\n", ACK, 5, TIME), (US, "; 5 M 00\n6 M 00\n", "6,M,000"),
+    (US, "; a\nWhen Who\n1 M 00\n", ACK, HEADER, STAYS, ONLY_M, NO_MODE),
+    (US, "; a;b\n1 M 00\n", ACK, HEADER, STAYS, ONLY_M, NO_MODE), (US, ";1;M;00\n", ACK),
+    (US, "When Who\n; a\n1 M 00\n", "", 2, TIME),
+    # Mode bits that are shown, or not.
+    (US, "1 M 00\n2000 M 08* 08\n9000 S 00*\n12000 M 00\n",
+     "1,M,000 2000,M,108 3146,M,008 9000,S,100 12000,M,000"),
+    (US, "1 M 08* 08\n5000 M 0B 0B\n9000 S 00\n", "1,M,108 1147,M,008 5000,M,00B 6146,M,00B 9000,S,100"),
+    (US, "1 M 08 08\n5000 M 0B* 0B\n", "1,M,108 1147,M,008", 2, MARKS),
+    (US, "1 S 00\n5000 S 00*\n", "1,S,100", 2, MARKS), (US, "1 S 00*\n5000 S 00\n", "1,S,100 5000,S,000"),
+    (US, "1 M 00*\n5000 M 08 08\n", "1,M,100 5000,M,008 6146,M,008"),
+    (US, "1 M AA\n5000 M 08 08\n9000 M FF\n12000 M 08* 08\n", "1,M,0AA 5000,M,108 6146,M,008 9000,M,0FF", 4, MARKS),
+    (US, "1 M 108\n5000 M 08*\n", "1,M,108", 2, MIXED),
     # What is told of the words.
     (US, "1 M 00\n2000 S 000\n", ACK, 2, MIXED),
     (US, "1 M 000\n2000 S 0FF\n", "1,M,000 2000,S,0FF", STAYS, NO_MODE),
@@ -277,6 +353,12 @@ FOUND = [
     (b"1 M " + b"x" * 41 + b"\ty", f'"1 M {"x" * 41}\\x09.."'),
     (b"1 M " + b"x" * 70_000, f'"1 M {"x" * 44}.."'),
 ]
+
+
+# Lines that are refused for their words, and whether they may be decimal.
+PERHAPS = [("5 M 264 8", True), ("5 M 200", True), ("5 M 511*8", False), ("5 M 200* 8", True), ("5 M 199 8", False),
+          ("5 M 8 8", False), ("5 M 264 B", False), ("5 M 512 8", False), ("5 M 264 8 x", False), ("5 M 8 *8 300", True),
+          ("5 M 300" + " 8" * 36, False)]
 
 
 def writes(rows, lines):
@@ -306,13 +388,16 @@ def cases():
         log, rows = log if isinstance(log, bytes) else log.encode(), rows.split()
         if lines and isinstance(lines[0], int):
             line = second_line(log, lines[0])
-            return words, log, writes(rows + [REFUSED], [f"line {lines[0]}: {lines[1]}{found([line])}"])
-        return words, log, writes(rows, lines or without_moves(rows))
+            why, hint = lines[1].removesuffix(ARE_DECIMAL), ARE_DECIMAL * lines[1].endswith(ARE_DECIMAL)
+            return words, log, writes(rows + [REFUSED], [f"line {lines[0]}: {why}{found([line])}{hint}"])
+        return words, log, writes(rows or [REFUSED], lines or without_moves(rows))
 
     for words, line, gives in LINES:
         yield case(words, line, "", 1, gives) if gives[0] in "wt" else case(words, line, gives)
     for it in LOGS:
         yield case(*it)
+    for line, is_likely in PERHAPS:
+        yield case(US, line, "", 1, LIKELY if is_likely else WORDS)
     for line, shown in FOUND:
         yield ["messages", *US.split()], line, writes([REFUSED], [f"line 1: {WORDS}; found {shown}"])
 

@@ -120,7 +120,7 @@ def hastened(dice, rows):
     if before and before[-1][1:] == ("M", 0) and dice.random() < 0.6:
         before[-1] = (before[-1][0], "M", 0xAA)  # the ACK of an answer becomes a RET
     else:
-        poll = dice.choice((0x0B, 0x33, 0x12, 0x62))
+        poll = dice.choice((0x0B, 0x33, 0x12, 0x62, 0x1A))
         before += [(time, "M", 0x100 + poll), (time + 1_200, "M", poll)]
     gap = dice.choice((WORD, 5_995, 5_996, dice.randint(WORD, 6_100)))
     block = moved_to(rows[begin:end], before[-1][0] + gap)

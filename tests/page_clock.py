@@ -172,7 +172,7 @@ def try_export(page):
     came = shown(page)
     write = clock_time(EPOCH, False, base)
     want([told for _, told in came["acts"]][0] == write(base + int(rows[0][0])), f"an export with times of day: {came['acts'][:2]}")
-    want("row 1, as the export has it" in came["told"] and "row 1, as the export has it" in came["facts"], f"{came['told']}; {came['facts']}")
+    want("row 1, as the file has it" in came["told"] and "row 1, as the file has it" in came["facts"], f"{came['told']}; {came['facts']}")
     set_began(page, "2026-11-28 14:30:00")
     came = shown(page)
     want(came["acts"][0][1] == "14:30:00.000" and "2026-11-28 14:30:00 (row 1" in came["facts"], f"corrected: {came['acts'][0]}, {came['facts']}")

@@ -22,7 +22,7 @@ function imported({format, options, text, sizes}) {
   const made = newImport(format, optionsOf(options), (part) => rows.push(Buffer.from(part)));
   for (const piece of pieces(bytes, sizes)) made.take(piece);
   const {refused, notes} = made.end();
-  return {status: refused ? 2 : 0, rows: Buffer.concat(rows).toString("latin1"), told: linesOf(refused ? [refused] : notes)};
+  return {status: refused ? 2 : 0, rows: Buffer.concat(rows).toString("latin1"), told: linesOf(refused ? [...notes, refused] : notes)};
 }
 
 const WORK = {

@@ -62,6 +62,19 @@ def trimmed(field):
     return field.strip(b' "')
 
 
+def fields_of(record):
+    """The fields of a record of rows, which tabs, semicolons or commas separate."""
+    record = b",".join(record)
+    separator = next((one for one in (b"\t", b";") if one in record), b",")
+    return [trimmed(field) for field in record.split(separator)]
+
+
+def is_comment(record):
+    """Whether a record is a comment, where comments may stand."""
+    mark = trimmed(record[0])[:1]
+    return mark == b"#" or mark == b";" and b",".join(record).count(b";") == 1
+
+
 def found(record):
     """What a line shows of a record that is refused."""
     shown = ""

@@ -4,7 +4,7 @@ docs/bench/edges.md and not from a program's code, to compare with. Which likely
 tried, since the page leaves it open.
 
     tests/second_edges.py [--controller NAME] [--peripheral NAME] [--unit s|ms|us|ns] [--invert]
-                          [--skip-damaged] [--from MICROSECONDS] [--until MICROSECONDS] < TABLE
+                          [--invert-line NAME] [--skip-damaged] [--from TIME] [--until TIME] < TABLE
 
 prints the rows; or, where the table is refused, the line that is no row, and on standard error why,
 with status 2. As a module: `read(text, ..)` answers all that the pages say of a table, and `told(..)` the lines on
@@ -16,8 +16,10 @@ from bisect import bisect_right
 from fractions import Fraction
 from typing import NamedTuple
 
-from second_csv import found, plain, records_of, trimmed
-from second_rows import REFUSED, remarks
+from second_clock import LAST_TIME, LONG, end_of
+from second_csv import found, is_comment, plain, records_of, trimmed
+from second_looks import looks
+from second_rows import REFUSED, is_refused, remarks
 
 BIT = Fraction(1, 9600)
 MICROSECOND = Fraction(1, 10**6)
@@ -45,15 +47,18 @@ class Answer(NamedTuple):
     after: int  # and after it
     lines: "set[str]"  # M, S: those that have a word
     marked: bool  # a word has its mode bit set
+    times: "list[int]" = ()  # those of all rows
     pulses: "list" = ()  # (time, line) of each, those outside the part included
     damaged: "list" = ()  # the same of each damaged word
-    found: "str" = ""  # what the line shows of the record that is refused, and the likely cause
+    found: "str" = ""  # what the line shows of the record that is refused, the likely cause, and what the table looks like
+    upside_down: "str | None" = None  # the line that is low at rest, and is read upside down
+    low: "str | None" = None  # what is told of a line that is low at rest, and has damaged words
 
 
 NO_HEADER = "wanted a header that names the columns"
 NO_COLUMN = "wanted one column of each line: as --controller and --peripheral say, or M and S"
 FEWER = "wanted as many fields as the header has"
-HINT = "; --skip-damaged leaves out what is damaged"
+HINT = "--skip-damaged leaves out what is damaged"
 FRAMING = "wanted a high stop bit, or a break of 95 ms or more, and the stop bit is low"
 DEVICE_BREAK = ("wanted words alone on the line of the peripherals, and it is low for a break")
 LONG_BREAK = "wanted a break of at most 999999999 microseconds, and it is longer"
@@ -66,8 +71,9 @@ def number_of(field):
     if len(marks) > 1:
         return None
     parts = [field] if not marks else [field[: marks[0]], field[marks[0] + 1 :]]
-    if any(not 1 <= len(part) <= 15 or not all(48 <= one <= 57 for one in part) for part in parts):
-        return None
+    for part, most in zip(parts, (21, 15)):
+        if not 1 <= len(part) <= most or not all(48 <= one <= 57 for one in part):
+            return None
     number = Fraction(int(parts[0]))
     if marks:
         number += Fraction(int(parts[1]), 10 ** len(parts[1]))
@@ -106,7 +112,7 @@ class Records(NamedTuple):
     """The levels of the lines over time, up to what is refused by itself or to the end."""
 
     times: "list[Fraction]"
-    levels: "dict[str, list[bool]]"  # for M and S whether the line is high from each time on
+    levels: "dict[str, list[bool | None]]"  # for M and S whether it is 1 from each time on, or no level
     numbers: "list[int]"  # where each is read: the number of its record
     end: int  # the number of what would come next
     fault: "Refused | None"  # what is wrong with what comes after them; None: nothing comes
@@ -119,6 +125,10 @@ class Records(NamedTuple):
             return self.numbers[at]
         return None if self.fault else self.end
 
+    def is_high(self, letter, is_turned):
+        """Whether a line is high from each time on; upside down, if it is turned."""
+        return [level is not None and level != is_turned for level in self.levels[letter]]
+
 
 class LineRead(NamedTuple):
     """What a line gives."""
@@ -129,9 +139,9 @@ class LineRead(NamedTuple):
     fault: "Refused | None"  # what is wrong with it
 
 
-def line_of(records, letter, skip):
+def line_of(records, letter, is_turned, skip):
     """What is read of a line: rules 1 to 6."""
-    times, levels, end = records.times, records.levels[letter], records.end
+    times, levels, end = records.times, records.is_high(letter, is_turned), records.end
     rows, pulses, damaged = [], [], []
 
     def level(time):
@@ -146,7 +156,7 @@ def line_of(records, letter, skip):
         return LineRead(rows, pulses, damaged, fault)
 
     def refused(number, start, why):
-        return answer(Refused(number, why + HINT, micros(start), letter))
+        return answer(Refused(number, why, micros(start), letter))
 
     idle = next_of(True, 0)
     while idle is not None:
@@ -196,19 +206,19 @@ def line_of(records, letter, skip):
 class Table:
     """What is known of a table while its records are read."""
 
-    def __init__(self, controller, peripheral, unit, invert):
-        self.names, self.unit, self.invert = (controller, peripheral), unit, invert
+    def __init__(self, controller, peripheral, unit):
+        self.names, self.unit = (controller, peripheral), unit
         self.width, self.columns = None, None
         self.times, self.levels = [], {"M": [], "S": []}
 
-    def header(self, record):
+    def header(self, number, record):
         fields = [trimmed(field) for field in record]
         if number_of(fields[0]) is not None:
-            self.refuse(1, record, NO_HEADER)
+            self.refuse(number, record, NO_HEADER)
         sent = columns_named(fields, self.names[0], "Mm")
         answered = columns_named(fields, self.names[1], "Ss")
         if len(sent) != 1 or len(answered) != 1 or sent == answered:
-            self.refuse(1, record, NO_COLUMN)
+            self.refuse(number, record, NO_COLUMN)
         self.width, self.columns = len(fields), {"M": sent[0], "S": answered[0]}
 
     def refuse(self, number, record, why):
@@ -220,10 +230,10 @@ class Table:
             self.refuse(number, record, FEWER)
         time = number_of(fields[0])
         if time is None:
-            self.refuse(number, record, "wanted a time: up to 15 digits, perhaps with decimals")
+            self.refuse(number, record, "wanted a time: up to 21 digits, perhaps with decimals")
         time /= UNITS[self.unit]
-        if micros(time) >= 10**15:
-            self.refuse(number, record, "wanted a time of at most 15 digits of microseconds")
+        if micros(time) > LAST_TIME:
+            self.refuse(number, record, LONG)
         for letter, column in self.columns.items():
             if fields[column] not in (b"0", b"1"):
                 raise Refused(number, "wanted a level, 0 or 1", micros(time), letter, found(record))
@@ -233,44 +243,95 @@ class Table:
             raise Refused(number, why, micros(time), None, found(record))
         self.times.append(time)
         for letter, column in self.columns.items():
-            self.levels[letter].append((fields[column] == b"1") != self.invert)
+            self.levels[letter].append(fields[column] == b"1")
 
 
-def records_in(text, controller, peripheral, unit, invert):
-    table, number, fault = Table(controller, peripheral, unit, invert), 0, None
+def records_in(text, controller, peripheral, unit):
+    table, number, fault, begin = Table(controller, peripheral, unit), 0, None, 2
     try:
         for number, record in enumerate(records_of(plain(text)), 1):
-            if number == 1:
-                table.header(record)
-            else:
+            if table.columns:
                 table.record(number, record)
-        if number == 0:
-            raise Refused(1, NO_HEADER)
+            elif not is_comment(record):
+                table.header(number, record)
+            elif trimmed(record[0])[:1] == b"#":
+                try:
+                    table.header(number, record)
+                except Refused:
+                    pass
+            begin = begin if table.times else number + 1
+        if not table.columns:
+            raise Refused(number + 1, NO_HEADER)
     except Refused as refused:
         fault = refused
-    end = len(table.times) + 2
-    return Records(table.times, table.levels, range(2, end), end, fault)
+        fault.found += "" if table.columns else looks(text, "edges")
+    end = begin + len(table.times)
+    return Records(table.times, table.levels, range(begin, end), end, fault)
 
 
-def rows_of(records, skip):
-    """The rows, the pulses, and the damaged words, all in the order of their times."""
-    sent, answered = (line_of(records, letter, skip) for letter in "MS")
-    faults = [fault for fault in (sent.fault, answered.fault, records.fault) if fault]
+def is_low_at_rest(records, letter, is_turned):
+    """Whether two or more levels of a line are low and long, and more than are high and long, from the first time that it is
+    high to its last change."""
+    high, long = records.is_high(letter, is_turned), [0, 0]
+    changes = [at for at in range(len(high)) if high[at] != (at > 0 and high[at - 1])]  # the first is to high
+    for number, (at, until) in enumerate(zip(changes, changes[1:])):
+        long[number % 2] += records.times[until] - records.times[at] > 11 * BIT
+    return long[1] >= 2 and long[1] > long[0]
+
+
+class Lines:
+    """What both lines give, of which some are turned by options."""
+
+    def __init__(self, records, turned, skip):
+        self.turned = turned
+        self.low = {letter: is_low_at_rest(records, letter, letter in turned) for letter in "MS"}
+        self.read = {letter: line_of(records, letter, letter in turned, skip) for letter in "MS"}
+        other = {letter: line_of(records, letter, True, skip) for letter in "MS" if self.low[letter] and not turned}
+        stand = [letter for letter, its in other.items() if (self.read[letter].fault or self.read[letter].damaged)
+                 and not its.fault and not its.damaged and any(row[1] != "B" for row in its.rows)]
+        self.upside_down = stand[0] if len(stand) == 1 else None
+        self.read.update((letter, other[letter]) for letter in stand if len(stand) == 1)
+
+    def hint(self, letter):
+        """What may help where a line has something damaged."""
+        if not self.low[letter]:
+            return HINT
+        if letter in self.turned:
+            return f"line {letter} is low at rest as --invert or --invert-line has it read"
+        if all(self.low.values()):
+            return "both lines are low at rest: --invert reads them upside down"
+        return f"line {letter} is low at rest: --invert-line {letter} reads it upside down"
+
+    def in_order(self, what):
+        """What both lines have of this, in the order of the times."""
+        both = [one for line in self.read.values() for one in getattr(line, what)]
+        return sorted(both, key=lambda one: (one[0], one[1] == "S"))
+
+
+def answer_from(records, turned, first, last, skip):
+    """What the levels of a text give, or why it is refused."""
+    lines = Lines(records, turned, skip)
+    faults = [line.fault for line in lines.read.values() if line.fault]
+    for fault in faults:
+        fault.why += f"; {lines.hint(fault.line)}"
+    faults += [records.fault] if records.fault else []
     if faults:
-        raise min(faults, key=lambda fault: fault.number)  # of two at one record the first
-    return tuple(sorted(two[0] + two[1], key=lambda row: (row[0], row[1] == "S"))
-                 for two in zip(sent[:3], answered[:3]))
+        return refusal(min(faults, key=lambda fault: fault.number))  # of two at one record the first
+    answer = answer_of(*map(lines.in_order, ("rows", "pulses", "damaged")), first, last)
+    low = [lines.hint(letter) for letter in "MS" if lines.low[letter] and lines.read[letter].damaged]
+    return answer._replace(upside_down=lines.upside_down, low=low[0] if low else None)
 
 
-def read(text, controller=None, peripheral=None, unit="s", invert=False, first=None, last=None,
-         skip=False):
+def turned_by(invert, line, controller, peripheral):
+    """The lines that options turn."""
+    return {letter for letter, name in (("M", controller), ("S", peripheral))
+            if invert or line is not None and line in (letter, letter.lower(), name)}
+
+
+def read(text, controller=None, peripheral=None, unit="s", invert=False, line=None, first=None, last=None, skip=False):
     """All that the pages say of a table."""
-    try:
-        records = records_in(text, controller, peripheral, unit, invert)
-        rows, pulses, damaged = rows_of(records, skip)
-    except Refused as fault:
-        return refusal(fault)
-    return answer_of(rows, pulses, damaged, first, last)
+    records = records_in(text, controller, peripheral, unit)
+    return answer_from(records, turned_by(invert, line, controller, peripheral), first, last, skip)
 
 
 def refusal(fault):
@@ -299,12 +360,12 @@ def answer_of(rows, pulses, damaged, first, last):
             after += 1
         else:
             part.append(f"{time},{line},{value}")
-    return Answer(part, None, None, None, None, before, after, lines, marked, pulses, damaged)
+    return Answer(part, None, None, None, None, before, after, lines, marked, [time for time, _, _ in rows], pulses, damaged)
 
 
 def main(words):
     options = {"unit": "s", "invert": False}
-    names = {"--controller": "controller", "--peripheral": "peripheral", "--unit": "unit",
+    names = {"--controller": "controller", "--peripheral": "peripheral", "--unit": "unit", "--invert-line": "line",
              "--from": "first", "--until": "last"}
     words = list(words)
     while words:
@@ -313,16 +374,16 @@ def main(words):
             options["invert" if word == "--invert" else "skip"] = True
         elif word in names and words:
             value = words.pop(0)
-            options[names[word]] = int(value) if word in ("--from", "--until") else value
+            options[names[word]] = end_of(value) if word in ("--from", "--until") else value
         else:
             print(__doc__, file=sys.stderr)
             return 2
     answer = read(sys.stdin.buffer.read(), **options)
-    for row in answer.rows if answer.refused is None else [REFUSED]:
+    for row in answer.rows + ([REFUSED] if is_refused(answer) else []):
         print(row)
     for line in told(answer):
         print(f"second_edges: {line}", file=sys.stderr)
-    return 0 if answer.refused is None else 2
+    return 2 if is_refused(answer) else 0
 
 
 if __name__ == "__main__":

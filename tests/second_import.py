@@ -3,8 +3,7 @@
 written from the pages in words (docs/bench/sigrok-trace.md) and not from a program's code, to compare
 with.
 
-    tests/second_import.py sigrok [--swap] [--skip-damaged] [--from MICROSECONDS]
-                                  [--until MICROSECONDS] < TRACE
+    tests/second_import.py sigrok [--swap] [--skip-damaged] [--from TIME] [--until TIME] < TRACE
 
 prints the rows, or the line that is no row and on standard error one that tells why, with status 2. As
 a module: `read(text, swap, skip)` answers the rows, each (time, line, value) with the value as it stands
@@ -15,8 +14,9 @@ import re
 import sys
 from typing import NamedTuple
 
+from second_clock import LAST_TIME, LONG, end_of
 from second_edges import answer_of
-from second_rows import REFUSED, remarks
+from second_rows import REFUSED, is_refused, remarks
 
 
 class Refusal(NamedTuple):
@@ -55,7 +55,6 @@ NAMES = {
     (b" break", b"Break condition"): BREAK,
 }
 
-LAST_TIME = 10**15 - 1
 SHORTEST_BREAK = 95_000  # where damage is skipped
 LONGEST_BREAK = 10**9 - 1
 
@@ -99,9 +98,9 @@ def records_of(text):
             raise Refused(number, None, "a record as sigrok-cli writes it for its decoder uart-1")
         phase, units, parts, tid, name, comma = found.groups()
         units = units.lstrip(b"0")
-        time = int(units + parts) if len(units) <= 15 else None
+        time = int(units + parts) if len(units) <= 18 else None
         if time is None or whole(time) > LAST_TIME:
-            raise Refused(number, None, "a time of at most 15 digits of microseconds")
+            raise Refused(number, None, LONG.removeprefix("wanted "))
         next_is = "record" if comma else "end"
         if opened is None:
             if phase != b"B":
@@ -278,7 +277,7 @@ def main(words):
         if option not in ("--from", "--until", *flags) or (option not in flags and not rest):
             words = []
             break
-        told[option] = True if option in flags else int(rest.pop(0))
+        told[option] = True if option in flags else end_of(rest.pop(0))
     if words[:1] != ["sigrok"]:
         print(__doc__, file=sys.stderr)
         return 2
@@ -288,11 +287,11 @@ def main(words):
         print(f"second_import: {came}", file=sys.stderr)
         return 2
     answer = answer_of(*came, told.get("--from"), told.get("--until"))
-    for row in answer.rows:
+    for row in answer.rows + ([REFUSED] if is_refused(answer) else []):
         print(row)
     for line in remarks(answer):
         print(f"second_import: {line}", file=sys.stderr)
-    return 0
+    return 2 if is_refused(answer) else 0
 
 
 if __name__ == "__main__":

@@ -3,7 +3,7 @@
 written from the page docs/bench/messages.md and not from a program's code, to compare with.
 
     tests/second_messages.py [--unit s|ms|us|ns] [--controller NAME] [--peripheral NAME]
-                             [--time-of first|last] [--from MICROSECONDS] [--until MICROSECONDS] < LOG
+                             [--time-of first|last] [--decimal] [--from TIME] [--until TIME] < LOG
 
 prints the rows, and those before a line that is refused, then the line that is no row, with one line
 on standard error that has the line's number and what was wanted, and status 2. As a module: `read(..)`
@@ -15,16 +15,19 @@ import sys
 from typing import NamedTuple
 
 import second_rows
+from second_clock import DATE, LAST_TIME, LONG, NO_TIME, OFFSET, Clock, end_of, midnight
 from second_csv import found, plain
-from second_rows import LAST_TIME, REFUSED
+from second_looks import looks
+from second_rows import REFUSED, is_refused
 
 SPEAKER = "wanted M or S before the bytes, or a name given by --controller or --peripheral"
 WORDS = "wanted bytes of two hexadecimal digits, or words of three, at most 1FF"
+DECIMAL = "wanted words in decimal digits, at most 511"
+STARS = "wanted * in the messages of a line from the first on, or in none"
 MIXED = "wanted two digits in each word, or three in each, as before"
 PARTED = "wanted blanks between the words: so many digits are bytes or words of three"
 LONGEST = "wanted at most 36 words, which is the longest block"
 ORDER = "wanted a message that begins after the one before it, or at most 50 ms too early"
-NO_TIME = second_rows.time_of(b"", None)
 TIMES = ("each message has one time: the times of its words are made up, and rules about times say nothing "
          "here; moved ")
 
@@ -34,7 +37,7 @@ MOST_WORDS = 36
 
 
 class Refused(Exception):
-    """A line that is no message: what was wanted."""
+    """A line that is no message: what was wanted; and what stands after what was found."""
 
 
 class Answer(NamedTuple):
@@ -50,6 +53,8 @@ class Answer(NamedTuple):
     moved: "list[int]"  # by how many microseconds each message was moved that was
     lines: "set[str]"  # M, S: those that the rows of the whole log have
     marked: bool  # one of its words has its mode bit set
+    times: "list[int]"  # those of all rows
+    midnights: int  # how often midnight passed
     pulses: "tuple" = ()  # a log has none
     damaged: "tuple" = ()
 
@@ -57,9 +62,11 @@ class Answer(NamedTuple):
 # ------------------------------------------------------------------------------- what stands in a line
 
 HEXADECIMAL = b"0123456789ABCDEFabcdef"
-GROUP = re.compile(rb"(?:0[xX](?=[0-9A-Fa-f]))?([0-9A-Fa-f]+)")
-RUN = re.compile(rb"[0-9.:,]+")
-RUN_TO_COMMA = re.compile(rb"[0-9.:]+")
+GROUP = re.compile(rb"(\*?)(?:0[xX](?=[0-9A-Fa-f]))?([0-9A-Fa-f]+)(\*?)")
+NUMBER = re.compile(rb"(\*?)([0-9]{1,3})(\*?)")
+# A date may stand before a time of day, and an offset after it; a comma may end the time of day.
+TIME, TIME_TO_COMMA = (re.compile(rb"%b[0-9.:%b]*[0-9]%b?|[0-9.:%b]*[0-9]" % (DATE, comma, OFFSET, comma))
+                       for comma in (b",", b""))
 
 
 def is_mark(line, at):
@@ -104,11 +111,10 @@ def head_of(line, names):
                 now = others if line[at : at + 1] == b">" else now
             at += 1
         elif time is None:
-            run = (RUN_TO_COMMA if comma else RUN).match(line, at)
-            time = run[0].rstrip(b".:,") if run else b""
-            at += len(time)
-            if time == b"" or not ends(line, at):
+            run = (TIME_TO_COMMA if comma else TIME).match(line, at)
+            if not run or not ends(line, run.end()):
                 raise Refused(NO_TIME)
+            time, at = run[0], run.end()
         else:
             break
     if time is None:
@@ -126,59 +132,102 @@ def digits_of(group):
     return may
 
 
-def words_of(line, at, digits):
-    """The words that stand from a place on, and how many digits they have, which is None if no word of the
-    log stands before them."""
+def groups_of(line, at, form, why):
+    """What stands between marks from a place on, each (a star before it or none, its digits, a star after it or none)."""
     groups = []
     while at < len(line):
         if is_mark(line, at):
             at += 1
             continue
-        group = GROUP.match(line, at)
-        if not group:
-            raise Refused(WORDS)
-        groups.append((group[1], digits_of(group[1])))
+        group = form.match(line, at)
+        if not group or group[1] and group[3] or not ends(line, group.end()):
+            raise Refused(why)
+        groups.append(group.groups())
         at = group.end()
+    if not groups:
+        raise Refused(why)
+    return groups
+
+
+def decimal_words(line, at):
+    """The words that stand from a place on as decimal numbers, and whether one has three digits and is 200 or more."""
+    groups = [(int(digits), bool(before or after)) for before, digits, after in groups_of(line, at, NUMBER, DECIMAL)]
+    if any(word > (255 if star else 511) for word, star in groups):
+        raise Refused(DECIMAL)
+    return [word + 256 * star for word, star in groups], any(word >= 200 for word, _ in groups)
+
+
+def words_of(line, at, digits):
+    """The words that stand from a place on, each with whether it has a star; how many digits they have, which is None if no
+    word of the log stands before them; whether others have another number; and whether that isn't clear."""
     words, mixed, unclear = [], False, False
-    for group, may in groups:
+    for (before, group, after), may in [(it, digits_of(it[1])) for it in groups_of(line, at, GROUP, WORDS)]:
+        if (before or after) and len(group) != 2:
+            raise Refused(WORDS)
         if len(may) == 2 and digits is None:
             unclear = True
             continue
         own = digits if digits in may else may[0]
         digits = digits or own
         mixed = mixed or own != digits
-        words += [int(group[place : place + own], 16) for place in range(0, len(group), own)]
-    if not groups or max(words, default=0) > 0x1FF:
+        some = [[int(group[place : place + own], 16), False] for place in range(0, len(group), own)]
+        some[0][1] = bool(before or after)
+        words += some
+    if any(word > 0x1FF for word, _ in words):
         raise Refused(WORDS)
-    for wrong, why in ((mixed, MIXED), (unclear, PARTED), (len(words) > MOST_WORDS, LONGEST)):
-        if wrong:
-            raise Refused(why)
-    return words, digits
+    return words, digits, mixed, unclear
 
 
-def with_mode_bits(speaker, words):
-    """Words of two digits as the bus has them."""
-    words = list(words)
-    if speaker == "S":
-        words[-1] |= 0x100
-    elif words not in ([0x00], [0xAA], [0xFF]):
-        words[0] |= 0x100
-    return words
+def with_mode_bits(speaker, words, stars):
+    """Words of two digits with the mode bits of the bus, or with those that stars show: `stars` has whether they do, by the
+    first message of a line that decides."""
+    words, shown = [word for word, _ in words], [star for _, star in words]
+    answers = speaker == "M" and words in ([0x00], [0xAA], [0xFF])
+    if not answers or any(shown):
+        stars.setdefault(speaker, any(shown))
+    if not answers and not stars[speaker]:
+        shown[-1 if speaker == "S" else 0] = True
+    return [word | 0x100 * star for word, star in zip(words, shown)]
 
 
 # ------------------------------------------------------------------------------------------- the log
 
 
-def message_of(line, unit, names, digits):
-    """The message of a line: (time, speaker, words), and the digits of its words."""
-    time, speaker, at = head_of(line, names)
-    time = second_rows.time_of(time, unit)
-    if isinstance(time, str):
-        raise Refused(time)
-    if speaker is None:
-        raise Refused(SPEAKER)
-    words, digits = words_of(line, at, digits)
-    return (time, speaker, with_mode_bits(speaker, words) if digits == 2 else words), digits
+class Log:
+    """What is known of a log while its lines are read."""
+
+    def __init__(self, unit, names, is_decimal):
+        self.clock, self.names, self.is_decimal = Clock(unit), names, is_decimal
+        self.digits, self.stars = None, {}
+
+    def message(self, line):
+        """The message of a line: (time, speaker, words)."""
+        time, speaker, at = head_of(line, self.names)
+        time = self.clock.time_of(time)
+        if isinstance(time, str):
+            raise Refused(time)
+        if speaker is None:
+            raise Refused(SPEAKER)
+        words = decimal_words(line, at)[0] if self.is_decimal else self.words(line, at, speaker)
+        if len(words) > MOST_WORDS:
+            raise Refused(LONGEST)
+        return time, speaker, words
+
+    def words(self, line, at, speaker):
+        try:
+            words, self.digits, mixed, unclear = words_of(line, at, self.digits)
+        except Refused:
+            try:
+                words, hint = decimal_words(line, at)
+                hint = hint and len(words) <= MOST_WORDS
+            except Refused:
+                hint = False
+            raise Refused(WORDS, second_rows.ARE_DECIMAL * hint)
+        stray = self.stars.get(speaker) is False and any(star for _, star in words)
+        for wrong, why in ((mixed, MIXED), (stray, STARS), (unclear, PARTED)):
+            if wrong:
+                raise Refused(why)
+        return with_mode_bits(speaker, words, self.stars) if self.digits == 2 else [word for word, _ in words]
 
 
 def begin_of(time, count, time_of, free):
@@ -188,29 +237,30 @@ def begin_of(time, count, time_of, free):
     if begin - own > MOST_MOVED:
         raise Refused(ORDER)
     if begin + (count - 1) * WORD > LAST_TIME:
-        raise Refused("wanted a time of at most 15 digits of microseconds")
+        raise Refused(LONG)
     return begin, begin - own
 
 
-def read(text, unit=None, controller=None, peripheral=None, time_of=None, first=None, last=None):
+def read(text, unit=None, controller=None, peripheral=None, time_of=None, first=None, last=None, is_decimal=False):
     """All that the page says of a log."""
     names = {b"M": "M", b"m": "M", b"S": "S", b"s": "S"}
     names.update({name.encode(): line for name, line in ((controller, "M"), (peripheral, "S")) if name})
-    rows, moves, free, digits, is_first, header = [], [], 0, None, True, False
+    rows, moves, free, is_first, header, log = [], [], 0, True, False, Log(unit, names, is_decimal)
     refused, why, shown = None, None, ""
     for number, line in enumerate(re.split(rb"\r\n|\r|\n", plain(text)), 1):
         begins = line.lstrip(b" \t")[:1]
-        if begins in (b"", b"#"):
+        if begins in (b"", b"#") or begins == b";" and line.count(b";") == 1 and not (header or rows):
             continue
         was_first, is_first = is_first, False
-        if was_first and not re.search(rb"[0-9]", line):
+        if was_first and not re.match(rb"\x1f\x8b|.*[0-9]", line, re.DOTALL):
             header = True
             continue
         try:
-            (time, speaker, words), digits = message_of(line, unit, names, digits)
+            time, speaker, words = log.message(line)
             begin, move = begin_of(time, len(words), time_of, free)
         except Refused as refusal:
-            refused, why, shown = number, str(refusal), found([line])
+            refused, why, shown = number, refusal.args[0], found([line]) + "".join(refusal.args[1:])
+            shown += "" if rows else looks(text, "messages")
             break
         moves += [move] if move else []
         rows += [(begin + place * WORD, speaker, word) for place, word in enumerate(words)]
@@ -220,7 +270,7 @@ def read(text, unit=None, controller=None, peripheral=None, time_of=None, first=
     before = sum(time < first for time, _, _ in rows)
     after = sum(time > last and time >= first for time, _, _ in rows)
     return Answer(part, refused, why, shown, header, before, after, moves, {line for _, line, _ in rows},
-                  any(word > 0xFF for _, _, word in rows))
+                  any(word > 0xFF for _, _, word in rows), [time for time, _, _ in rows], log.clock.midnights)
 
 
 def told(answer):
@@ -228,28 +278,30 @@ def told(answer):
     if answer.refused is not None:
         return [f"line {answer.refused}: {answer.why}{answer.found}"]
     lines = ["the first line is taken for a header"] if answer.header else []
+    lines += midnight(answer.midnights)
     if answer.before or answer.after:
         lines.append(f"left out {answer.before} rows before the part and {answer.after} after it")
     count, most = len(answer.moved), max(answer.moved, default=0)
     moved = f"{count} messages, by at most {most} microseconds"
     moved = {0: "no message", 1: f"1 message, by {most} microseconds"}.get(count, moved)
-    return lines + [TIMES + moved] + second_rows.remarks(answer._replace(header=False, before=0, after=0))
+    return lines + [TIMES + moved] + second_rows.remarks(answer._replace(header=False, midnights=0, before=0, after=0))
 
 
 def main(words):
+    is_decimal, words = "--decimal" in words, [word for word in words if word != "--decimal"]
     options = dict(zip(words[::2], words[1::2]))
     known = ("--unit", "--controller", "--peripheral", "--time-of", "--from", "--until")
     if len(words) != 2 * len(options) or any(option not in known for option in options):
         print(__doc__, file=sys.stderr)
         return 2
     unit, controller, peripheral, time_of, *part = (options.get(option) for option in known)
-    part = (None if time is None else int(time) for time in part)
-    answer = read(sys.stdin.buffer.read(), unit, controller, peripheral, time_of, *part)
-    for row in answer.rows + ([] if answer.refused is None else [REFUSED]):
+    part = (time and end_of(time) for time in part)
+    answer = read(sys.stdin.buffer.read(), unit, controller, peripheral, time_of, *part, is_decimal)
+    for row in answer.rows + ([REFUSED] if is_refused(answer) else []):
         print(row)
     for line in told(answer):
         print(f"second_messages: {line}", file=sys.stderr)
-    return 0 if answer.refused is None else 2
+    return 2 if is_refused(answer) else 0
 
 
 if __name__ == "__main__":

@@ -151,7 +151,7 @@ def read_row(fields: list[bytes], record: int) -> tuple[int, bytes, int]:
     if len(fields) != 3:
         raise NoAnswer(f"row {record}: FieldCount")
     time, line, value = fields
-    if not is_number(time, 15):
+    if not is_number(time, 18):
         raise NoAnswer(f"row {record}: BadTime")
     if line == b"M" or line == b"S":
         word = WORDS.get(value)
@@ -464,8 +464,8 @@ LONG_AGO = -times.BASE[times.AFTER_BREAK].least
 #: The positions of the bus.
 QUIET, IN_COMMAND, ASKED, IN_DATA, REPLIED, RETURNED, IN_REPEAT, FOREIGN = range(8)
 
-_ACK, _NAK = 0x100, 0x1FF
-_VMC_ANSWERS = {0x000: "vmc-ack", 0x0FF: "vmc-nak", 0x0AA: "vmc-ret"}
+_ACK, _NAK, _RET = 0x100, 0x1FF, 0x0AA
+_VMC_ANSWERS = {0x000: "vmc-ack", 0x0FF: "vmc-nak", _RET: "vmc-ret"}
 
 
 class Act(NamedTuple):
@@ -510,7 +510,9 @@ class Link:
         self.started = -1
         self.since = LONG_AGO
         self.is_after_break = False
-        #: Whether the controller began the last block before the time to answer was over.
+        #: Whether nothing was answered since the controller began its last block, or sent RET.
+        self.is_unanswered = False
+        #: Whether it began the last block before the time to answer was over.
         self.is_before_its_time = False
         #: For whom the last row is untimely, if it is.
         self.untimely: Optional[str] = None
@@ -543,6 +545,8 @@ class Link:
             raise self.blamed(broken, line) from None
         self.started = self.since = time
         self.is_after_break = False
+        is_to_answer = value > 0xFF or value == _RET or self.is_unanswered
+        self.is_unanswered = line == b"M" and is_to_answer
         return act
 
     def blamed(self, broken: Broken, line: bytes) -> Broken:
@@ -562,7 +566,7 @@ class Link:
         self._in_time(length, times.BREAK_LENGTH, CONTROLLER)
         self.started = time
         self.since = time + length
-        self.is_after_break, self.is_before_its_time = True, False
+        self.is_after_break, self.is_unanswered, self.is_before_its_time = True, False, False
         self.position = QUIET
         self.device = None
         self.options_unknown.clear()
@@ -599,7 +603,8 @@ class Link:
         awaits = self.position in (ASKED, REPLIED, RETURNED)
         kind = times.AFTER_BREAK if self.is_after_break else times.BETWEEN_WORDS
         self._in_time(gap, times.TO_NEXT_BLOCK if awaits else kind, CONTROLLER)
-        self.is_before_its_time = self.position != REPLIED and awaits and self.untimely is not None
+        is_soon = times.is_untimely(gap, times.TO_NEXT_BLOCK)
+        self.is_before_its_time = self.extended and self.is_unanswered and is_soon
 
     def _begin_block(self, first: int):
         opening = self.openings.get(first)

@@ -2,22 +2,22 @@
 """Reads an export that is nearly rows, and gives the rows of a recording: a second reader, written
 from the page docs/bench/importing.md and not from a program's code, to compare with.
 
-    tests/second_rows.py [--unit s|ms|us|ns] [--controller NAME] [--peripheral NAME]
-                         [--from MICROSECONDS] [--until MICROSECONDS] < EXPORT
+    tests/second_rows.py [--unit s|ms|us|ns] [--controller NAME] [--peripheral NAME] [--decimal]
+                         [--from TIME] [--until TIME] < EXPORT
 
 prints the rows, and those before a record that is refused, then the line that is no row, with one line
 on standard error that has the record's number, and status 2. As a module:
-`read_rows(text, unit, controller, peripheral, first, last)` answers the rows and no number, or no rows
-and the number of the record that is refused; `read(..)` answers more, and `told(..)` the lines on standard
-error. What the page says of all formats is here too: REFUSED, disturbances() and remarks().
+`read(text, unit, controller, peripheral, first, last)` answers all that the page says of it, and `told(..)` the
+lines on standard error. What the page says of all formats is here too: REFUSED, disturbances(), remarks() and is_refused().
 """
 
 import re
 import sys
 from typing import NamedTuple
 
-from second_csv import found, plain, records_of, trimmed
-
+from second_clock import LAST_TIME, Clock, end_of, form_of, microseconds, midnight, number_of
+from second_csv import fields_of, found, is_comment, plain, records_of
+from second_looks import looks, word_of
 
 # What is written at the end of a refused export.
 REFUSED = "mdbimport refused this export"
@@ -43,16 +43,30 @@ def disturbances(pulses, damaged):
     return lines
 
 
+def is_refused(answer):
+    """Whether the export is refused: a record of it, or the whole since there is no row."""
+    return answer.refused is not None or not answer.rows
+
+
 def remarks(answer):
-    """The lines on standard error at status 0, in their order."""
+    """The lines on standard error where no record is refused, in their order."""
     lines = []
+    if getattr(answer, "upside_down", None):
+        lines.append(f"line {answer.upside_down} is low at rest, and is read upside down")
     if getattr(answer, "header", False):
         lines.append("the first record is taken for a header")
+    lines += midnight(getattr(answer, "midnights", 0))
     if answer.before or answer.after:
         lines.append(f"left out {answer.before} rows before the part and {answer.after} after it")
     if getattr(answer, "passed", 0):
         lines.append(f"left out {answer.passed} records outside the part that are no rows, or not in order")
     lines += disturbances(answer.pulses, answer.damaged)
+    lines += [answer.low] if getattr(answer, "low", None) else []
+    if not answer.times:
+        return lines + ["there is no row in the export"]
+    if not answer.rows:
+        first, last = min(answer.times), max(answer.times)
+        return lines + [f"the part has no row: the rows have times from {first} to {last}"]
     if not answer.lines & {"M", "S"}:
         return lines + ["there is no word on either line"]
     if "M" not in answer.lines:
@@ -78,73 +92,19 @@ class Answer(NamedTuple):
     passed: int  # how many records outside it are no rows, or not in order
     lines: "set[str]"  # M, S, B: those that the rows of the whole export have
     marked: bool  # one of its words has its mode bit set
+    times: "list[int]"  # those of its rows
+    midnights: int  # how often midnight passed
     pulses: "list" = ()  # (time, line) of each pulse; rows have none
     damaged: "list" = ()  # the same of each damaged word
     found: "str" = ""  # what the line shows of the record that is refused
+    looks: "str" = ""  # and what the export looks like
 
 
-# Nanoseconds are the smallest unit, with 15 decimals: all times are whole numbers of these.
-MICROSECOND = 10**18
-UNITS = {"s": 10**24, "ms": 10**21, "us": 10**18, "ns": 10**15}
-
-NUMBER = re.compile(rb"([0-9]{1,15})(?:[.,]([0-9]{1,15}))?")
-TIME_OF_DAY = re.compile(rb"([0-9]{1,2}):([0-9]{1,2}):([0-9]{1,15}(?:[.,][0-9]{1,15})?)")
-WORD = re.compile(rb"0[xX]([0-9A-Fa-f]{1,4})|([0-9A-Fa-f]{1,4})[hH]?")
-
-LAST_TIME = 10**15 - 1
 LONGEST_BREAK = 10**9 - 1
-
-
-def fields_of(record):
-    record = b",".join(record)
-    separator = next((one for one in (b"\t", b";") if one in record), b",")
-    return [trimmed(field) for field in record.split(separator)]
-
-
-def number_of(field):
-    """The number in a field in 10**-15, or None."""
-    found = NUMBER.fullmatch(field)
-    if not found:
-        return None
-    whole, decimals = found.groups()
-    return int(whole) * 10**15 + int((decimals or b"").ljust(15, b"0"))
-
-
-def microseconds(units, unit):
-    """The nearest whole number of microseconds, the later of two."""
-    return (units * (UNITS[unit] // 10**15) * 2 + MICROSECOND) // (2 * MICROSECOND)
-
-
-def time_of_day(field):
-    """The seconds of a time of day in 10**-15, or None. The minutes and the seconds are below 60,
-    the hours are any that have one or two digits."""
-    found = TIME_OF_DAY.fullmatch(field)
-    if not found:
-        return None
-    hours, minutes, seconds = int(found[1]), int(found[2]), number_of(found[3])
-    if minutes > 59 or seconds >= 60 * 10**15:
-        return None
-    return (hours * 60 + minutes) * 60 * 10**15 + seconds
-
-
-def time_of(field, unit):
-    """The microsecond that a field tells, or a text that says what was wanted."""
-    if time_of_day(field) is not None:
-        time = microseconds(time_of_day(field), "s")
-    elif number_of(field) is None:
-        return "wanted a time: up to 15 digits, perhaps with decimals, or HH:MM:SS"
-    elif unit is None:
-        return "the unit of the times isn't known: give --unit s, ms, us or ns"
-    else:
-        time = microseconds(number_of(field), unit)
-    return "wanted a time of at most 15 digits of microseconds" if time > LAST_TIME else time
-
-
-def word_of(field):
-    """The word that a field tells, or None."""
-    found = WORD.fullmatch(field)
-    word = int(found[1] or found[2], 16) if found else 0x200
-    return word if word <= 0x1FF else None
+HEXADECIMAL = "wanted a word in hexadecimal digits, at most 1FF"
+DECIMAL = "wanted a word in decimal digits, at most 511"
+NO_ROWS = "wanted rows below the comments, and there are none"
+ARE_DECIMAL = "; are the words decimal (--decimal)?"
 
 
 def has_digit(field):
@@ -152,25 +112,21 @@ def has_digit(field):
 
 
 def is_header(record, names):
-    """Whether a record has three fields or more, none of which is empty or has the form of a time;
+    """Whether a record isn't compressed, and has three fields or more, none of which is empty or has the form of a time;
     neither the first nor the last has a digit; and the second of three names no line or break."""
     fields = fields_of(record)
-    if len(fields) < 3 or (len(fields) == 3 and fields[1] in names):
+    if record[0].startswith(b"\x1f\x8b") or len(fields) < 3 or (len(fields) == 3 and fields[1] in names):
         return False
     if has_digit(fields[0]) or has_digit(fields[-1]):
         return False
-    return all(field and number_of(field) is None and time_of_day(field) is None for field in fields)
+    return all(field and form_of(field) is None for field in fields)
 
 
-def row_of(record, unit, names, before):
-    """The row of a record: (time, line, value), or a text that says what was wanted."""
-    fields = fields_of(record)
+def row_of(fields, time, unit, names, before, is_decimal):
+    """The row of a record: (time, line, value), or a text that says what was wanted. Its time is one too, or such a text."""
     if len(fields) != 3:
         return "wanted three fields: TIME, LINE and VALUE"
-    time, line, value = fields
-    if time_of_day(time) is not None:
-        unit = unit or "s"
-    time = time_of(time, unit)
+    _, line, value = fields
     if isinstance(time, str):
         return time
     line = names.get(line)
@@ -178,13 +134,13 @@ def row_of(record, unit, names, before):
         return "wanted M, S or B, or a name given by --controller or --peripheral"
     if line == "B":
         length = number_of(value)
-        if length is None or microseconds(length, unit) > LONGEST_BREAK:
+        if length is None or microseconds(length, unit or "s") > LONGEST_BREAK:
             return "wanted the length of the break, below 1000 seconds"
-        value = str(microseconds(length, unit))
+        value = str(microseconds(length, unit or "s"))
     else:
-        word = word_of(value)
+        word = word_of(value, is_decimal)
         if word is None:
-            return "wanted a word in hexadecimal digits, at most 1FF"
+            return DECIMAL if is_decimal else HEXADECIMAL
         value = f"{word:03X}"
     if before is not None and time <= before:
         what = "the same" if time == before else "earlier"
@@ -192,41 +148,50 @@ def row_of(record, unit, names, before):
     return (time, line, value)
 
 
-def read(text, unit=None, controller=None, peripheral=None, first=None, last=None):
+def read(text, unit=None, controller=None, peripheral=None, first=None, last=None, is_decimal=False):
     """All that the pages say of an export."""
     names = {one.encode(): one.upper() for one in "MmSsBb"}
     if controller is not None:
         names[controller.encode()] = "M"
     if peripheral is not None:
         names[peripheral.encode()] = "S"
-    rows, header, before_part, after_part, passed = [], False, 0, 0, 0
-    before, lines, marked = None, set(), False
+    rows, header, before_part, after_part, passed, times = [], False, 0, 0, 0, []
+    before, lines, marked, clock = None, set(), False, Clock(unit)
+    refusal, shown, number, is_first = (None, None, None, None), "", 0, True
     for number, record in enumerate(records_of(plain(text)), 1):
-        time = fields_of(record)[0]
-        if number == 1 and is_header(record, names):
+        if is_first and is_comment(record):
+            continue
+        fields, was_first, is_first = fields_of(record), is_first, False
+        if was_first and is_header(record, names):
             header = True
             continue
-        row = row_of(record, unit, names, before)
+        own = clock.time_of(fields[0])
+        row = row_of(fields, own, unit, names, before, is_decimal)
         if isinstance(row, str):
-            own = time_of(time, unit)
             own = None if isinstance(own, str) else own
             if own is not None and (own < (first or 0) or (last is not None and own > last)):
                 passed += 1
                 continue
-            return Answer(rows, number, own, before, row, header, before_part, after_part, passed,
-                          lines, marked, found=found(record))
+            refusal, shown = (number, own, before, row), found(record)
+            if row == HEXADECIMAL and re.fullmatch(rb"[0-9]{1,18}", fields[2]) and 200 <= int(fields[2]) <= 511:
+                shown += ARE_DECIMAL
+            break
+        times.append(own)
         lines.add(row[1])
         marked = marked or (row[1] != "B" and row[2] >= "100")
-        if first is not None and row[0] < first:
+        if first is not None and own < first:
             before_part += 1
-        elif last is not None and row[0] > last:
+        elif last is not None and own > last:
             after_part += 1
             continue  # what comes next need not be later than that
         else:
             rows.append("%d,%s,%s" % row)
-        before = row[0]
-    return Answer(rows, None, None, None, None, header, before_part, after_part, passed, lines,
-                  marked)
+        before = own
+    if number and is_first:
+        refusal = number + 1, None, None, NO_ROWS
+    looks_like = looks(text, "rows") if refusal[0] and before is None else ""
+    return Answer(rows, *refusal, header, before_part, after_part, passed, lines, marked, times, clock.midnights,
+                  found=shown, looks=looks_like)
 
 
 def goes_on(answer):
@@ -242,31 +207,24 @@ def told(answer):
     at = "" if answer.behind is None else f" after {answer.behind}"
     at = at if answer.at is None else f" at {answer.at}"
     further = "" if goes_on(answer) is None else f"; go on with --from {goes_on(answer)}"
-    return [f"record {answer.refused}{at}: {answer.why}{answer.found}{further}"]
-
-
-def read_rows(text: bytes, unit=None, controller=None, peripheral=None, first=None, last=None):
-    """The rows of an export, and None; or None, and the number of the record that is refused."""
-    answer = read(text, unit, controller, peripheral, first, last)
-    return (answer.rows, None) if answer.refused is None else (None, answer.refused)
+    return [f"record {answer.refused}{at}: {answer.why}{answer.found}{further}{answer.looks}"]
 
 
 def main(words):
+    is_decimal, words = "--decimal" in words, [word for word in words if word != "--decimal"]
     options = dict(zip(words[::2], words[1::2]))
     known = ("--unit", "--controller", "--peripheral", "--from", "--until")
     if len(words) != 2 * len(options) or any(option not in known for option in options):
         print(__doc__, file=sys.stderr)
         return 2
     unit, controller, peripheral, first, last = (options.get(option) for option in known)
-    part = (None if time is None else int(time) for time in (first, last))
-    answer = read(sys.stdin.buffer.read(), unit, controller, peripheral, *part)
-    for row in answer.rows:
+    part = (time and end_of(time) for time in (first, last))
+    answer = read(sys.stdin.buffer.read(), unit, controller, peripheral, *part, is_decimal)
+    for row in answer.rows + ([REFUSED] if is_refused(answer) else []):
         print(row)
-    if answer.refused is not None:
-        print(REFUSED)
     for line in told(answer):
         print(f"second_rows: {line}", file=sys.stderr)
-    return 0 if answer.refused is None else 2
+    return 2 if is_refused(answer) else 0
 
 
 if __name__ == "__main__":

@@ -4,7 +4,7 @@ reader, written from the page in words (docs/bench/saleae.md) and not from a pro
 with.
 
     tests/second_saleae.py [--controller NAME] [--peripheral NAME] [--break MICROSECONDS]
-                           [--skip-damaged] [--from MICROSECONDS] [--until MICROSECONDS] < TABLE
+                           [--skip-damaged] [--from TIME] [--until TIME] < TABLE
 
 prints the rows, and those before a record that is refused, then the line that is no row, with one line
 on standard error that has the record's number, its time where it has one, and what was wanted, and
@@ -16,8 +16,10 @@ import sys
 from decimal import ROUND_HALF_UP, Decimal, localcontext
 from typing import NamedTuple
 
-from second_csv import found, plain, records_of, trimmed
-from second_rows import REFUSED, remarks
+from second_clock import LAST_TIME, LONG, end_of
+from second_csv import found, is_comment, plain, records_of, trimmed
+from second_looks import looks
+from second_rows import REFUSED, is_refused, remarks
 
 
 class Answer(NamedTuple):
@@ -31,6 +33,7 @@ class Answer(NamedTuple):
     after: int  # and after it
     lines: "set[str]"  # M, S, B: those that the rows of the whole table have
     marked: bool  # one of its words has its mode bit set
+    times: "list[int]"  # those of its rows
     pulses: "list" = ()  # a table has none
     damaged: "list" = ()  # (time, line) of each damaged word, those outside the part included
     found: "str" = ""  # what the line shows of the record that is refused
@@ -88,15 +91,15 @@ def columns_of(header):
 def time_of(field):
     if field.startswith(b"-"):
         raise Refused("wanted no negative time: set the time zero to the start of the capture", None)
-    if not re.fullmatch(rb"[0-9]{1,15}(\.[0-9]+)?", field):
-        raise Refused("wanted a time in seconds: up to 15 digits, perhaps with decimals after a "
+    if not re.fullmatch(rb"[0-9]{1,21}(\.[0-9]+)?", field):
+        raise Refused("wanted a time in seconds: up to 21 digits, perhaps with decimals after a "
                       "point", None)
     with localcontext() as context:
         context.prec = len(field) + 20
         seconds = Decimal(field.decode()) * 1_000_000
         micros = int(seconds.quantize(Decimal(1), rounding=ROUND_HALF_UP))
-    if len(str(micros)) > 15:
-        raise Refused("wanted a time of at most 15 digits of microseconds", None)
+    if micros > LAST_TIME:
+        raise Refused(LONG, None)
     return micros
 
 
@@ -152,13 +155,18 @@ def row_of(fields, columns, controller, peripheral, length, skip):
 def read(text, controller=None, peripheral=None, length=None, first=None, last=None, skip=False):
     """All that the page says of a table."""
     rows, before_part, after_part, before, lines, marked = [], 0, 0, None, set(), False
-    damaged = []
-    number, columns, width, record = 1, None, 0, None
+    damaged, times = [], []
+    number, columns, width, record = 0, None, 0, None
     try:
         for number, record in enumerate(records_of(plain(text)), 1):
             fields = [trimmed(field) for field in record]
             if columns is None:
-                columns, width = columns_of(fields), len(fields)
+                try:
+                    if not (is_comment(record) and fields[0].startswith(b";")):
+                        columns, width = columns_of(fields), len(fields)
+                except Refused:
+                    if not is_comment(record):
+                        raise
                 continue
             if len(fields) != width:
                 raise Refused("wanted as many fields as the header has", None)
@@ -173,6 +181,7 @@ def read(text, controller=None, peripheral=None, length=None, first=None, last=N
                 raise Refused("wanted a later time than the row before it: sort the table by the "
                               "start time", time)
             before = time
+            times.append(time)
             lines.add(line)
             marked = marked or (line != "B" and value[0] == "1")
             if first is not None and time < first:
@@ -182,13 +191,14 @@ def read(text, controller=None, peripheral=None, length=None, first=None, last=N
             else:
                 rows.append(f"{time},{line},{value}")
         if columns is None:
+            number, record = number + 1, None
             raise Refused("wanted a header with the names of the columns, and the table is empty",
                           None)
     except Refused as refused:
         why, time = refused.args
-        shown = "" if record is None else found(record)
-        return Answer(rows, number, time, why, before_part, after_part, lines, marked, found=shown)
-    return Answer(rows, None, None, None, before_part, after_part, lines, marked, (), damaged)
+        shown = ("" if record is None else found(record)) + ("" if columns else looks(text, "saleae"))
+        return Answer(rows, number, time, why, before_part, after_part, lines, marked, times, found=shown)
+    return Answer(rows, None, None, None, before_part, after_part, lines, marked, times, (), damaged)
 
 
 def told(answer):
@@ -208,15 +218,12 @@ def main(words):
         print(__doc__, file=sys.stderr)
         return 2
     controller, peripheral, *numbers = (options.get(option) for option in known)
-    numbers = (None if number is None else int(number) for number in numbers)
-    answer = read(sys.stdin.buffer.read(), controller, peripheral, *numbers, skip)
-    for row in answer.rows:
+    answer = read(sys.stdin.buffer.read(), controller, peripheral, *(it and end_of(it) for it in numbers), skip)
+    for row in answer.rows + ([REFUSED] if is_refused(answer) else []):
         print(row)
-    if answer.refused is not None:
-        print(REFUSED)
     for line in told(answer):
         print(f"second_saleae: {line}", file=sys.stderr)
-    return 0 if answer.refused is None else 2
+    return 2 if is_refused(answer) else 0
 
 
 if __name__ == "__main__":

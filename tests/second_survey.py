@@ -267,6 +267,11 @@ def level_2(acts: "list[Act]", told: "dict[str, int]") -> Optional[Fault]:
 # --------------------------------------------------------------------------------------------------
 
 
+def refusal(row: int, why: str) -> str:
+    """The line that refuses a row; only that of the first row says what the text looks like."""
+    return f"mdbcheck: row {row}: {why if row == 1 else re.sub('; this looks like .*', '', why)}"
+
+
 class Survey:
     """A recording that is cut, from its first row on."""
 
@@ -337,7 +342,7 @@ class Survey:
         if not found:
             raise RuntimeError(f"check ends with {answer}")
         row = first + int(found[1]) - 1
-        return row - 1, None, f"mdbcheck: row {row}: {err[found.end():]}"
+        return row - 1, None, refusal(row, err[found.end():])
 
     def adds(self, first: int, last: int, answer):
         """A stretch, with the answer to its rows."""
@@ -543,7 +548,7 @@ class ExtendedSurvey(Survey):
                 return number - 1, Fault(number, broken.rule, broken.blame), silences
             except replay.NoAnswer:
                 _, _, err = self.run(self.lines[number - 1], "check")
-                self.refused = re.sub(r"(?<=^mdbcheck: row )1(?=: )", str(number), err)
+                self.refused = refusal(number, err.removeprefix("mdbcheck: row 1: "))
                 return number - 1, None, silences
             silences = {device: counted[device].number for device in DEVICES}
         return len(self.lines), None, silences

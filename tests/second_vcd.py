@@ -3,8 +3,8 @@
 docs/bench/vcd.md and docs/bench/edges.md and not from a program's code, to compare with. What a line's
 levels give is read as second_edges.py does.
 
-    tests/second_vcd.py [--controller NAME] [--peripheral NAME] [--invert] [--skip-damaged]
-                        [--from MICROSECONDS] [--until MICROSECONDS] < DUMP
+    tests/second_vcd.py [--controller NAME] [--peripheral NAME] [--invert] [--invert-line NAME] [--skip-damaged]
+                        [--from TIME] [--until TIME] < DUMP
 
 prints the rows; or, where the dump is refused, the line that is no row, and on standard error why, with
 status 2. As a module: `read(text, ..)` answers all that the pages say of a dump.
@@ -14,8 +14,10 @@ import re
 import sys
 from fractions import Fraction
 
-from second_edges import Records, Refused, answer_of, micros, refusal, rows_of, told
-from second_rows import REFUSED
+from second_clock import LAST_TIME, LONG, end_of
+from second_edges import Records, Refused, answer_from, micros, refusal, told, turned_by
+from second_looks import looks
+from second_rows import REFUSED, is_refused
 
 NO_COMMAND = "wanted a command of the header, up to $enddefinitions $end"
 TIMESCALE = "wanted a timescale of 1, 10 or 100 s, ms, us, ns, ps or fs"
@@ -30,7 +32,6 @@ NO_VARIABLE = "wanted one variable of each line: as --controller and --periphera
 SAME = "wanted another variable for each line, and it is the same"
 NO_TOKEN = "wanted a time, a change of a value, or a command of the dump"
 NO_TIME = "wanted a time: digits after #"
-LONG_TIME = "wanted a time of at most 15 digits of microseconds"
 EARLY = "wanted a time that isn't before the time before it"
 NO_LEVEL = "wanted a level, 0 or 1, and the value is none"
 LOST_LEVEL = "wanted a level, 0 or 1, after the first one, and it is x or z"
@@ -135,22 +136,22 @@ class Header:
 class Body:
     """What the body was read to: the levels over time."""
 
-    def __init__(self, timescale, codes, invert):
-        self.timescale, self.codes, self.invert = timescale, codes, invert
+    def __init__(self, timescale, codes):
+        self.timescale, self.codes = timescale, codes
         self.now, self.levels = Fraction(0), {"M": None, "S": None}
-        self.times, self.high, self.numbers = [], {"M": [], "S": []}, []
+        self.times, self.read_as, self.numbers = [], {"M": [], "S": []}, []
 
     def moment(self, number):
         """The levels of the time that has passed are read."""
         self.times.append(self.now)
         self.numbers.append(number)
         for line, level in self.levels.items():
-            self.high[line].append(level is not None and level != self.invert)
+            self.read_as[line].append(level)
 
     def time(self, number, digits):
         time = int(digits) * self.timescale if len(digits) < 1000 else None
-        if time is None or micros(time) >= 10**15:
-            raise Refused(number, LONG_TIME)
+        if time is None or micros(time) > LAST_TIME:
+            raise Refused(number, LONG)
         if time < self.now:
             raise Refused(number, EARLY, micros(time))
         if time > self.now:
@@ -190,32 +191,34 @@ class Body:
         self.moment(tokens.at)
 
 
-def records_in(tokens, controller, peripheral, invert):
+def records_in(tokens, controller, peripheral):
     header = Header(controller, peripheral)
     header.read(tokens)
     codes = {code: line for line, code in header.codes.items()}
-    body, fault = Body(header.timescale, codes, invert), None
+    body, fault = Body(header.timescale, codes), None
     try:
         body.read(tokens)
     except Refused as refused:
         fault = refused
     # At the end of the text the levels of the last time are read, and then comes the end of the lines.
-    return Records(body.times, body.high, body.numbers, len(tokens.tokens) + 1, fault)
+    return Records(body.times, body.read_as, body.numbers, len(tokens.tokens) + 1, fault)
 
 
-def read(text, controller=None, peripheral=None, invert=False, first=None, last=None, skip=False):
+def read(text, controller=None, peripheral=None, invert=False, line=None, first=None, last=None, skip=False):
     """All that the pages say of a dump. `refused` is the number of a line of the text."""
     tokens = Tokens(text)
     try:
-        rows, pulses, damaged = rows_of(records_in(tokens, controller, peripheral, invert), skip)
+        records = records_in(tokens, controller, peripheral)
+        answer = answer_from(records, turned_by(invert, line, controller, peripheral), first, last, skip)
     except Refused as fault:
-        return refusal(fault)._replace(refused=tokens.line_of(fault.number))
-    return answer_of(rows, pulses, damaged, first, last)
+        fault.found = looks(text, "vcd") if fault.why == NO_COMMAND else ""
+        answer = refusal(fault)
+    return answer if answer.refused is None else answer._replace(refused=tokens.line_of(answer.refused))
 
 
 def main(words):
     options, words = {}, list(words)
-    names = {"--controller": "controller", "--peripheral": "peripheral", "--from": "first",
+    names = {"--controller": "controller", "--peripheral": "peripheral", "--invert-line": "line", "--from": "first",
              "--until": "last"}
     while words:
         word = words.pop(0)
@@ -223,16 +226,16 @@ def main(words):
             options["invert" if word == "--invert" else "skip"] = True
         elif word in names and words:
             value = words.pop(0)
-            options[names[word]] = int(value) if word in ("--from", "--until") else value
+            options[names[word]] = end_of(value) if word in ("--from", "--until") else value
         else:
             print(__doc__, file=sys.stderr)
             return 2
     answer = read(sys.stdin.buffer.read(), **options)
-    for row in answer.rows if answer.refused is None else [REFUSED]:
+    for row in answer.rows + ([REFUSED] if is_refused(answer) else []):
         print(row)
     for line in told(answer, "line"):
         print(f"second_vcd: {line}", file=sys.stderr)
-    return 0 if answer.refused is None else 2
+    return 2 if is_refused(answer) else 0
 
 
 if __name__ == "__main__":

@@ -15,6 +15,7 @@ import sys
 from typing import NamedTuple, Optional
 
 import second_replay
+from second_clock import end_of
 
 DEVICES = ("changer", "bill", "cashless", "cashless-2")
 ADDRESSES = {"cashless": 0x10, "cashless-2": 0x60}  # of the readers: the first byte of a RESET
@@ -30,17 +31,17 @@ COMMANDS = {
         "manual": ("[COMMAND]", ""),
     },
     "mdbimport": {
-        "rows": ("", "--unit --controller --peripheral --from --until"),
+        "rows": ("", "--unit --controller --peripheral --decimal --from --until"),
         "sigrok": ("", "--swap --skip-damaged --from --until"),
         "saleae": ("", "--controller --peripheral --break --skip-damaged --from --until"),
-        "edges": ("", "--unit --controller --peripheral --invert --skip-damaged --from --until"),
-        "vcd": ("", "--controller --peripheral --invert --skip-damaged --from --until"),
-        "messages": ("", "--unit --controller --peripheral --time-of --from --until"),
+        "edges": ("", "--unit --controller --peripheral --invert --invert-line --skip-damaged --from --until"),
+        "vcd": ("", "--controller --peripheral --invert --invert-line --skip-damaged --from --until"),
+        "messages": ("", "--unit --controller --peripheral --time-of --decimal --from --until"),
         "manual": ("[COMMAND]", ""),
     },
 }
 
-FLAGS = ("--joined", "--extended", "--json", "--swap", "--invert", "--skip-damaged")  # they have no value
+FLAGS = ("--joined", "--extended", "--json", "--decimal", "--swap", "--invert", "--skip-damaged")  # they have no value
 SEVERAL = ("--setup", "--without")  # they may stand again with another value
 
 #: What the words after `explain` may be.
@@ -50,11 +51,11 @@ GOALS = {
     "BOUND": ("least", "greatest"),
 }
 
-#: The form of a value. What --setup may say is below.
-NAME, TIME = "(?![MmSsBb]\\Z)(?s:.+)", "[0-9]{1,15}"
+#: The form of a value. What --setup may say is below, and what --from and --until may say in second_clock.py.
+NAME, ANY = "(?![MmSsBb]\\Z)(?s:.+)", "(?s:.*)"
 VALUES = {
-    "--setup": "(?s:.*)", "--without": "|".join(DEVICES), "--unit": "s|ms|us|ns", "--controller": NAME,
-    "--peripheral": NAME, "--time-of": "first|last", "--break": "(?=0*[0-9]{1,9}\\Z)" + TIME, "--from": TIME, "--until": TIME,
+    "--setup": ANY, "--without": "|".join(DEVICES), "--unit": "s|ms|us|ns", "--controller": NAME, "--peripheral": NAME,
+    "--invert-line": ANY, "--time-of": "first|last", "--break": "(?=0*[0-9]{1,9}\\Z)[0-9]{1,18}", "--from": ANY, "--until": ANY,
 }
 NUMBERS = ("--break", "--from", "--until")
 
@@ -166,7 +167,8 @@ def values_of(command, known, given):
         demand(option in FLAGS or all(re.fullmatch(VALUES[option], value) for value in values))
         if option == "--without":
             values = sorted(set(values), key=DEVICES.index)
-        first = int(values[0]) if option in NUMBERS else values[0]
+        first = end_of(values[0]) if option in NUMBERS else values[0]
+        demand(first is not None)
         options[option] = values if option in SEVERAL else first
     fit_together(command, options)
     if "--setup" in options:
@@ -181,6 +183,7 @@ def fit_together(command, options):
     demand(command != "show" or "--joined" not in options or "--extended" in options)
     names = [options[option] for option in ("--controller", "--peripheral") if option in options]
     demand(len(set(names)) == len(names))
+    demand(options.get("--invert-line", "M") in ["M", "m", "S", "s", *names])
 
 
 SETUP = re.compile(

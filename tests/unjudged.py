@@ -75,6 +75,8 @@ def unjudged(data, words, row, rule, blame):
         return None
     rows = list(rows_of(data))[:row]
     begun = next((word & 255 for line, word in reversed(rows) if line == "M" and word > 255), None)
+    if rows[-1][0] == "M" and rows[-1][1] > 255:
+        return None
     reader = READERS.get(begun >> 3) if begun is not None else None
     if reader is None or is_left_out(reader, words):
         return None

@@ -2,8 +2,8 @@
  * mdbcheck.h - checks a recording of an MDB/ICP bus that lies in memory as text.
  *
  * The call is compiled from the proved code of the program mdbcheck, and answers what
- * `mdbcheck check` answers. docs/programs/library.md explains how to build it, what is promised,
- * and what isn't.
+ * `mdbcheck check` answers. crates/mdb_c/CALLING.md explains how to build it, what is promised, and
+ * what isn't.
  *
  * Lengths are numbers of bytes. The call keeps nothing: after it the caller may change or free
  * everything that it passed. The call has no state of its own, so several threads may call it at
@@ -50,7 +50,7 @@ extern "C" {
 
 /* Why a record is no row: TIME,LINE,VALUE is expected (docs/bench/rows-and-command-line.md). */
 #define MDBCHECK_FIELD_COUNT 1u /* it hasn't three fields */
-#define MDBCHECK_BAD_TIME 2u    /* TIME isn't 1 to 15 decimal digits */
+#define MDBCHECK_BAD_TIME 2u    /* TIME isn't 1 to 18 decimal digits */
 #define MDBCHECK_BAD_LINE 3u    /* LINE isn't M, S or B */
 #define MDBCHECK_BAD_VALUE 4u   /* VALUE isn't three hexadecimal digits, or 1 to 9 decimal ones */
 

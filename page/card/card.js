@@ -31,7 +31,7 @@ import {showUnjudged} from "./unjudged-story.js";
 
 const FAULT_WORDS = {
   FieldCount: "The line doesn't have three fields with commas between them. Semicolons and tabs don't separate fields.",
-  BadTime: "The first field isn't a whole number of 1 to 15 digits. Is it a header, or a time with a decimal point?",
+  BadTime: "The first field isn't a whole number of 1 to 18 digits. Is it a header, or a time with a decimal point?",
   BadLine: "The second field isn't M, S or B.",
   BadValue: "The third field must have three hexadecimal digits, up to 1FF: write 8 as 008, and 0x108 as 108. " +
       "In a row with B it must have 1 to 9 decimal digits.",

@@ -1,6 +1,6 @@
 // @ts-check
 // Which no isn't judged: the rows don't show the feature level at which a reader and the controller speak, and at a
-// higher one than 1 the row may be right. crates/mdb_unjudged/specs/Unjudged.antt says the same of the program's line.
+// higher one than 1 the row may be right. crates/mdb_check/specs/Unjudged.antt says the same of the program's line.
 import {ASK, REPLY} from "../checker/acts.js";
 import {ANSWERS} from "../checker/answers.js";
 import {layout, readerPlace, setupPlace} from "../checker/layout.js";
@@ -14,12 +14,13 @@ import {blockOf, bytesOf, isLeftAside, noTraffic, rowsNear, sumOf, unfollowedDev
 // Blocks with amounts, which may have four bytes each at a higher level: SETUP and VEND.
 const WITH_AMOUNTS = [1, 3];
 
-// The byte with which the last block of the controller begins, up to the row; of a survey, after the fault before it. A
-// block and its answer have at most 72 words. Where more lie between, it is that of the last command that is listed.
+// The byte with which the last block of the controller begins, up to the row, or 0 if the row begins it; of a survey,
+// after the fault before it. A block and its answer have at most 72 words. Where more lie between, it is that of the
+// last command that is listed.
 function lastBegun(it) {
   const {faultBefore = 0, list: acts} = it, isNear = (row) => row > faultBefore && row <= it.row;
   const begun = rowsNear(it).filter((r) => isNear(r.row) && r.line === "M" && r.word > 255).at(-1);
-  if (begun) return begun.word & 255;
+  if (begun) return begun.row === it.row ? 0 : begun.word & 255;
   for (let i = actAtRow(it, it.row); i >= 0 && acts.first(i) > faultBefore; i--)
     if (acts.kind(i) === ASK && acts.first(i) <= it.row) return acts.byte(i, 0);
   return 0;

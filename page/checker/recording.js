@@ -2,7 +2,7 @@
 // A recording in the module's memory, and the module's calls on it. The text stays there, so that it can be checked
 // again in another way.
 import {freePlace, layout, readLayout} from "./layout.js";
-import {rowAfter} from "./rows.js";
+import {rowAfter, rowBefore, timeAt} from "./rows.js";
 import {tell} from "./say.js";
 
 const PAGE = 65536, CHUNK = 1 << 24;
@@ -78,7 +78,15 @@ export function load(file) {
     new Uint8Array(call.memory.buffer, at.text + done, part.length).set(part);
     done += part.length;
   } while (done < size);
+  refuseLate(new Uint8Array(call.memory.buffer, at.text, size));
   read = performance.now() - begin;
+}
+
+// Refuses a recording whose first or last TIME is none of JavaScript's whole numbers.
+function refuseLate(text) {
+  const isLate = (place) => timeAt(text, place) > Number.MAX_SAFE_INTEGER && timeAt(text, place) <= 1e18;
+  if (isLate(0) || isLate(rowBefore(text, size)))
+    throw new Refusal(`A TIME is above ${Number.MAX_SAFE_INTEGER}, and this page counts no further. mdbcheck does.`);
 }
 
 /** @type {() => {row: number, offset: number, fault: number, acts: number, news: number}} */

@@ -1,7 +1,8 @@
 // @ts-check
 // Only a part of the recording, from one time to another: a recording of its own, of a machine that was running
 // already, with the set-ups that the whole shows.
-import {rowAfter, timeAt} from "../checker/rows.js";
+import {rowAfter, rowBefore, timeAt} from "../checker/rows.js";
+import {when} from "../clock.js";
 import {by, fieldBy} from "../elements.js";
 import {madeFiles} from "../import/made.js";
 import {readTime} from "../list/moments.js";
@@ -39,6 +40,12 @@ async function placeOf(rows, time) {
   return place < 0 ? rows.size : low + place;
 }
 
+// When the first and the last row of a recording begin, in words.
+async function spanOf(rows) {
+  const front = await bytesOf(rows, 0, NEAR), end = await bytesOf(rows, Math.max(0, rows.size - NEAR), rows.size);
+  return `${when(timeAt(front, 0))} to ${when(timeAt(end, rowBefore(end, end.length)))}`;
+}
+
 // What the fields ask for; null where they can't be read.
 function rangeIn() {
   const [from, to] = FIELDS.map((id) => fieldBy(id).value.trim()), begins = from ? readTime(from, state) : [{low: 0}];
@@ -55,19 +62,20 @@ async function partOf(rows, {low, high}) {
   const until = high === Infinity ? "" : ` --until ${high - 1}`, cut = ` --from ${low}${until} <`;
   const command = (source?.command ?? "mdbimport rows --unit us < FILE").replace(" <", cut);
   madeFiles.set(part, {file: rows, ...source, command, whole: source?.whole ?? rows});
-  return {part, isCut: from > 0};
+  return {part, isCut: from > 0, isEmpty: from >= to};
 }
 
 // Checks what the fields ask for: the whole recording where they ask for nothing.
 export async function checkPart() {
   const whole = madeFiles.get(recording)?.whole ?? recording;
   if (FIELDS.every((id) => !fieldBy(id).value.trim())) return asked.run(whole, true);
-  const range = rangeIn();
-  by("part-fault").textContent = range ?
-      "" :
-      "Write two times as the page shows them, the earlier one first: 13:20 and 13:40, or 1:32.7 and 2:05.";
-  if (!range) return;
-  const {part, isCut} = await partOf(whole, range);
+  const range = rangeIn(), refuse = (words) => void (by("part-fault").textContent = words);
+  if (!range)
+    return refuse(
+        "Write two times as the page shows them, the earlier one first: 13:20 and 13:40, or 1:32.7 and 2:05.");
+  const {part, isCut, isEmpty} = await partOf(whole, range);
+  if (isEmpty) return refuse(`No row begins in that part. The recording has rows from ${await spanOf(whole)}.`);
+  refuse("");
   if (isCut && whole === recording) takeSetups(state, "The whole recording");
   if (isCut) fieldBy("joined").checked = true;
   return asked.run(part, true);

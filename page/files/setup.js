@@ -6,7 +6,7 @@ import {ANSWERS, ROW_FAULTS} from "../checker/answers.js";
 import {layout} from "../checker/layout.js";
 import {isConfigAsk, readerMessages} from "../checker/messages.js";
 import {by, fieldBy, h} from "../elements.js";
-import {madeFiles} from "../import/made.js";
+import {madeFiles, unpacked} from "../import/made.js";
 import {openImport, OVERTAKEN, recordingOf} from "../import/panel.js";
 import {check} from "../run/answer.js";
 import {isOptionsAsk} from "../run/options.js";
@@ -110,9 +110,9 @@ export async function readSetups(given) {
   const name = shownName(given.name);
   say(`Reading ${name}`);
   try {
-    const rows = await recordingOf(given, readSetups);
+    const held = await unpacked(given), rows = await recordingOf(held, readSetups);
     if (!rows) {
-      const isAsked = openImport?.file === given;
+      const isAsked = openImport?.file === held;
       say(isAsked ? `${name} isn't a recording: see what is said of it below.` : `${name}: ${OVERTAKEN}`);
       return;
     }

@@ -1,11 +1,13 @@
 // @ts-check
 // The import of a table of edges (docs/bench/edges.md).
 import {instantOf, isLess, isSame, rounded, Waves} from "./levels.js";
-import {areDigits, isLetter, lineOfRecord, LONG_TIME, numberOf, withNames} from "./rows.js";
+import {areDigits, LONG_TIME, numberOf} from "./numbers.js";
+import {isLetter, lineOfRecord, withNames} from "./rows.js";
 import {
   CONTROLLER,
   excerpt,
   fieldOf,
+  isComment,
   isText,
   LETTERS,
   Part,
@@ -46,6 +48,7 @@ function isNearlyNamed(header, name) {
 
 const asciiSmall = (bytes) => Array.from(bytes, (it) => it >= 65 && it < 91 ? it + 32 : it).join();
 
+const NO_HEADER = "wanted a header that names the columns";
 const COLUMNS = "wanted one column of each line: as --controller and --peripheral say, or M and S";
 const FIELDS = "wanted as many fields as the header has";
 
@@ -58,7 +61,7 @@ export class EdgesImport {
     this.records = new Records((record) => this.take(record));
     this.columns = null;
     this.last = null;
-    this.waves = new Waves(this.part, options.skip);
+    this.waves = new Waves(this.part, options);
     this.refused = null;
   }
 
@@ -66,33 +69,34 @@ export class EdgesImport {
     if (!this.columns) return this.takeHeader(record);
     if (record.count !== this.width) return this.refuse(record, FIELDS);
     const number = numberOf(fieldOf(record, 0));
-    if (!number) return this.refuse(record, "wanted a time: up to 15 digits, perhaps with decimals");
+    if (!number) return this.refuse(record, "wanted a time: up to 21 digits, perhaps with decimals");
     const time = instantOf(number, this.unit);
     if (!time) return this.refuse(record, LONG_TIME);
-    const levels = this.columns.map((place) => this.levelOf(fieldOf(record, place)));
+    const levels = this.columns.map((place, line) => this.levelOf(fieldOf(record, place), this.waves.inverted[line]));
     const bad = levels.indexOf(null);
-    if (bad >= 0) return this.refuseAt(record, rounded(time), bad, "wanted a level, 0 or 1");
+    if (bad >= 0) return this.refuse(record, "wanted a level, 0 or 1", rounded(time), bad);
     if (this.last && !isLess(this.last, time)) return this.refuseLate(record, time);
     this.last = time;
-    const wrong = this.waves.take(time, levels);
-    return wrong ? this.refuseLine(record.number, wrong) : true;
+    this.waves.take(record.number, time, levels);
+    return true;
   }
 
   takeHeader(header) {
-    if (numberOf(fieldOf(header, 0))) return this.refuse(header, "wanted a header that names the columns");
-    const {controller, peripheral} = this.options;
+    const {controller, peripheral} = this.options, hasTime = numberOf(fieldOf(header, 0)) !== null;
     const columns =
         [columnNamed(header, controller, LETTERS[CONTROLLER]), columnNamed(header, peripheral, LETTERS[PERIPHERAL])];
-    if (columns.includes(-1) || columns[0] === columns[1]) return this.refuse(header, COLUMNS);
+    const isHeader = !hasTime && !columns.includes(-1) && columns[0] !== columns[1];
+    if (isComment(header, isHeader)) return true;
+    if (!isHeader) return this.refuse(header, hasTime ? NO_HEADER : COLUMNS);
     this.columns = columns;
     this.width = header.count;
     return true;
   }
 
-  levelOf(field) {
+  levelOf(field, isInverted) {
     if (field.to - field.from !== 1) return null;
     const byte = field.all[field.from];
-    return byte === 49 ? !this.options.invert : byte === 48 ? Boolean(this.options.invert) : null;
+    return byte === 49 ? !isInverted : byte === 48 ? isInverted : null;
   }
 
   // The likely cause of a record that is refused by itself.
@@ -107,26 +111,21 @@ export class EdgesImport {
     return "";
   }
 
-  refuse(record, wrong) {
-    this.refused = `record ${record.number}: ${wrong}; found "${excerpt(record)}"${this.hint(record, wrong)}`;
-    return false;
-  }
-
-  refuseAt(record, micros, line, wrong) {
-    this.refused = `record ${record.number} at ${micros} on line ${"MS"[line]}: ${wrong}; found "${excerpt(record)}"`;
+  refuse(record, wrong, micros = -1, line = -1) {
+    const at = micros < 0 ? "" : ` at ${micros}${line < 0 ? "" : ` on line ${"MS"[line]}`}`;
+    const hint = micros < 0 ? this.hint(record, wrong) : "";
+    this.refused = this.wrongSoFar() ?? `record ${record.number}${at}: ${wrong}; found "${excerpt(record)}"${hint}`;
     return false;
   }
 
   refuseLate(record, time) {
-    const how = isSame(this.last, time) ? "the same" : "earlier", at = rounded(time);
-    const wrong = `wanted a time after that of the record before it, and it is ${how}`;
-    this.refused = `record ${record.number} at ${at}: ${wrong}; found "${excerpt(record)}"`;
-    return false;
+    const how = isSame(this.last, time) ? "the same" : "earlier";
+    return this.refuse(record, `wanted a time after that of the record before it, and it is ${how}`, rounded(time));
   }
 
-  refuseLine(number, {line, time, words}) {
-    this.refused = `record ${number} at ${time} on line ${"MS"[line]}: ${words}`;
-    return false;
+  // What is wrong with the levels so far, or null.
+  wrongSoFar() {
+    return wrongWords(this.waves.wrong());
   }
 
   addFirst(most, add) {
@@ -135,11 +134,10 @@ export class EdgesImport {
 
   end() {
     if (this.refused) return;
-    if (!this.columns) {
-      this.refused = "record 1: wanted a header that names the columns";
-      return;
-    }
-    const wrong = this.waves.end();
-    if (wrong) this.refuseLine(this.records.number + 1, wrong);
+    const next = this.records.number + 1;
+    this.refused = this.columns ? wrongWords(this.waves.end(next)) : `record ${next}: ${NO_HEADER}`;
   }
 }
+
+const wrongWords = (wrong) =>
+    wrong && `record ${wrong.number} at ${wrong.time} on line ${"MS"[wrong.line]}: ${wrong.words}`;

@@ -3,7 +3,9 @@
 import {fieldBy, h} from "../elements.js";
 import {shownName} from "../texts.js";
 
+import {packedFiles} from "./made.js";
 import {RAW_FORMATS} from "./text.js";
+import {CLOCK, NUMBER} from "./times.js";
 
 const UNIT_WORDS = {
   s: "seconds",
@@ -13,12 +15,12 @@ const UNIT_WORDS = {
 };
 /** @type {Record<string, string[]>} */
 export const FORMAT_FIELDS = {
-  rows: ["unit", "controller", "peripheral"],
+  rows: ["unit", "controller", "peripheral", "decimal"],
   saleae: ["controller", "peripheral", "length", "skip"],
   edges: ["controller", "peripheral", "unit", "invert", "skip"],
   sigrok: ["swap", "skip"],
   vcd: ["controller", "peripheral", "invert", "skip"],
-  messages: ["unit", "controller", "peripheral", "timeOf"],
+  messages: ["unit", "controller", "peripheral", "timeOf", "decimal"],
 };
 const PROGRAM_WORDS = {
   unit: "--unit",
@@ -26,7 +28,9 @@ const PROGRAM_WORDS = {
   peripheral: "--peripheral",
   timeOf: "--time-of",
   length: "--break",
+  decimal: "--decimal",
   invert: "--invert",
+  invertLine: "--invert-line",
   swap: "--swap",
   skip: "--skip-damaged",
   from: "--from",
@@ -53,9 +57,9 @@ const labelled = (words, ...inner) => h("label", {}, words, ...inner);
 
 /** @type {(it: OpenImport) => HTMLElement} */
 function unitField({format, look}) {
-  const isAsked = format === "edges" || look.hasNumbers !== false,
-        told = isAsked ? UNITS_TOLD[format](look) : undefined;
-  const first = isAsked ? "choose" : "none: times of day";
+  const {timeForm} = look, isAsked = format === "edges" || !timeForm || timeForm === NUMBER;
+  const told = isAsked ? UNITS_TOLD[format](look) : undefined;
+  const first = isAsked ? "choose" : timeForm === CLOCK ? "none: times of day" : "none: dates";
   const options =
       Object.entries(UNIT_WORDS).map(([value, words]) => h("option", {value, selected: value === told}, words));
   return labelled("Unit of the times", h("select", {id: "import-unit"}, h("option", {value: ""}, first), options));
@@ -83,8 +87,7 @@ function lineField(id, words, letter) {
 
 /** @type {(id: string, words: string) => HTMLElement} */
 export function microsField(id, words) {
-  return labelled(
-      words, h("input", {type: "text", id: `import-${id}`, inputmode: "numeric", size: 16, spellcheck: "false"}));
+  return labelled(words, h("input", {type: "text", id: `import-${id}`, size: 20, spellcheck: "false"}));
 }
 
 const checkField = (id, words) => () =>
@@ -96,7 +99,12 @@ export const FIELDS = {
   controller: lineField("controller", "Controller's line (M)", "M"),
   peripheral: lineField("peripheral", "Devices' line (S)", "S"),
   length: () => microsField("length", "Length of each break (microseconds)"),
-  invert: checkField("invert", "The levels are upside down"),
+  decimal: checkField("decimal", "The words are decimal numbers, not hexadecimal"),
+  invert: () => labelled(
+      "Upside down",
+      h("select", {id: "import-invert"}, h("option", {value: ""}, "no, or told by the levels"),
+        h("option", {value: "both"}, "both lines"), h("option", {value: "M"}, "the controller's line (M)"),
+        h("option", {value: "S"}, "the devices' line (S)"))),
   swap: checkField("swap", "RX is the controller's line"),
   skip: checkField("skip", "Leave damaged words out"),
   timeOf: () => labelled(
@@ -112,7 +120,10 @@ export function importOptions({format, look, found}) {
   for (const name of [...FORMAT_FIELDS[format], "from", "until"]) {
     const field = fieldBy(`import-${name}`), value = field.type === "checkbox" ? field.checked : field.value;
     if (value === "" || value === false) continue;
-    options[name] = name === "controller" || name === "peripheral" ? namedLine(name, value, look) : value;
+    if (name === "invert")
+      Object.assign(options, value === "both" ? {invert: true} : {invertLine: value});
+    else
+      options[name] = name === "controller" || name === "peripheral" ? namedLine(name, value, look) : value;
   }
   if (RAW_FORMATS.includes(format) && (found.hasMark || found.encoding?.startsWith("utf-16"))) options.decoded = true;
   return options;
@@ -150,10 +161,10 @@ export function exchangeFields({format}) {
 export function asksOf({format, look}, options) {
   const asks = [], {names = [], hasM, hasS} = look, {controller, peripheral} = options;
   const isFree = format !== "sigrok" && names.some((it) => it !== controller && it !== peripheral);
-  if (format === "rows" && look.hasNumbers && !options.unit)
+  if (format === "rows" && look.timeForm === NUMBER && !options.unit)
     asks.push(
         "Which unit do the times have? The words of one message follow each other after about a thousandth of a second.");
-  if (format === "messages" && look.hasNumbers && !options.unit)
+  if (format === "messages" && look.timeForm === NUMBER && !options.unit)
     asks.push("Which unit do the times have? Two messages are mostly some thousandths of a second apart.");
   if (format === "edges" && !options.unit) asks.push("Which unit do the times have?");
   if (isFree && !hasM && controller === undefined) asks.push("Which name is the controller's line (M)?");
@@ -164,10 +175,11 @@ export function asksOf({format, look}, options) {
 }
 
 // The command of mdbimport for these options.
-/** @type {(it: OpenImport, options: ImportWords) => string} */
+/** @type {(it: {format?: string | null, file: File}, options: ImportWords) => string} */
 export function importCommand({format, file}, options) {
   const quoted = (words) => /^[\w.-]+$/.test(words) ? words : `'${words.replaceAll("'", "'\\''")}'`;
   const words = Object.entries(PROGRAM_WORDS).filter(([name]) => options[name] !== undefined);
   const given = words.map(([name, word]) => options[name] === true ? word : `${word} ${quoted(options[name])}`);
-  return ["mdbimport", format, ...given, "<", quoted(file.name)].join(" ");
+  const packed = packedFiles.get(file), input = packed ? `<(zcat ${quoted(packed.name)})` : quoted(file.name);
+  return ["mdbimport", format, ...given, "<", input].join(" ");
 }

@@ -3,11 +3,13 @@
 import {EdgesImport} from "./edges.js";
 import {lettersOf} from "./known.js";
 import {MessagesImport} from "./messages.js";
+import {MOST_LENGTH, UNITS} from "./numbers.js";
 import {PlainImport} from "./plain.js";
-import {LINE_LETTERS, MOST_LENGTH, RowsImport, UNITS} from "./rows.js";
+import {LINE_LETTERS, RowsImport} from "./rows.js";
 import {SaleaeImport} from "./saleae.js";
 import {SigrokImport} from "./sigrok.js";
-import {Decoder, excerpt, notesOf, RAW_FORMATS, RowText, wordExcerpt} from "./text.js";
+import {Decoder, excerpt, noRowIn, notesOf, RAW_FORMATS, RowText, wholeField, wordExcerpt} from "./text.js";
+import {Times} from "./times.js";
 import {VcdImport} from "./vcd.js";
 
 // An import of any format, over pieces of bytes: `take` each piece, then `end`. The rows are given on
@@ -39,9 +41,9 @@ export function newImport(format, options, give, each = null) {
       decoder?.end();
       records.end();
       made.end();
-      return answerOf(made);
+      return wholeAnswer(made);
     },
-    front: (isWhole) => ({...(isWhole ? answers.end() : frontOf(made, give)), isEarly: isEarly(made)})
+    front: (isWhole) => isWhole ? answers.end() : frontOf(made, give)
   };
   return answers;
 }
@@ -64,22 +66,26 @@ function frontOf(made, give) {
     text.flush();
   } else
     made.end();
-  return {...answerOf(made), notes: []};
+  const answer = answerOf(made);
+  return {...answer, refused: answer.refused ?? made.wrongSoFar?.() ?? null};
 }
 
-// Whether fewer than 20 words and breaks were found so far, where they are read from levels.
-function isEarly(made) {
-  let count = 0;
-  made.addFirst?.(20, () => count++);
-  return count < 20;
-}
-
-// What mdbimport says at the end: why a record is refused, or what is reported of the whole. And what was left out.
+// What mdbimport says of a record that is refused, and what is known of the rows before it.
 function answerOf(made) {
   const {refused, goOn = null, part} = made, {rows, damaged = null} = part;
-  return {refused, goOn, rows, damaged, notes: refused || made instanceof PlainImport ? [] : notesOf(part)};
+  return {refused, goOn, rows, damaged, notes: []};
 }
-const isTime = (words) => /^[0-9]{1,15}$/.test(words);
+
+// The same of the whole, with what is reported. It is refused too if it has no row.
+function wholeAnswer(made) {
+  const answer = answerOf(made);
+  if (answer.refused || made instanceof PlainImport) return answer;
+  return {...answer, refused: noRowIn(made.part), notes: notesOf(made.part)};
+}
+
+// The microsecond that an end of a part writes: whole microseconds, a time of day or a date; or words, where it is
+// none.
+const endOf = (words) => /^[0-9]{1,18}$/.test(words) ? Number(words) : new Times().read(wholeField(words));
 
 // What mdbimport says of options that it refuses, or null. All are words, as they stand in fields.
 /** @type {(options: ImportWords) => string | null} */
@@ -91,18 +97,21 @@ export function optionsFault({unit, controller, peripheral, from, until, length,
   for (const [option, name] of Object.entries({controller, peripheral}))
     if (name === "" || LINE_LETTERS.includes(name)) return wrong(option, name, "can't name a line");
   if (isGiven(controller) && controller === peripheral) return "--controller and --peripheral have one name";
-  if (isGiven(length) && !(isTime(length) && Number(length) < MOST_LENGTH))
+  if (isGiven(length) && !(/^[0-9]{1,18}$/.test(length) && Number(length) < MOST_LENGTH))
     return wrong("break", length, "isn't microseconds below 1000000000");
   for (const [option, time] of Object.entries({from, until}))
-    if (isGiven(time) && !isTime(time))
-      return wrong(option, time, /^[0-9]+$/.test(time) ? "has more than 15 digits" : "isn't whole microseconds");
+    if (isGiven(time) && typeof endOf(time) === "string")
+      return wrong(
+          option, time,
+          /^[0-9]+$/.test(time) ? "has more than 18 digits" :
+                                  "isn't whole microseconds, or HH:MM:SS, perhaps after a date");
   return null;
 }
 
 // The options of an import by the words of the fields.
 /** @type {(options: ImportWords) => any} */
 export function optionsOf({from, until, length, ...rest}) {
-  const value = (words) => words === undefined || words === null ? null : Number(words);
+  const value = (words) => words === undefined || words === null ? null : endOf(words);
   return {...rest, from: value(from), until: value(until), length: value(length)};
 }
 

@@ -3,7 +3,8 @@
 import {LINE_LETTERS, lineOfRecord, partsOf, separatorOf} from "./rows.js";
 import {TITLES} from "./saleae.js";
 import {TRACE_HEAD} from "./sigrok.js";
-import {COMMA, CR, Decoder, fieldOf, LF, QUOTE, Records, SEMICOLON, TAB, wordsOf} from "./text.js";
+import {COMMA, CR, Decoder, fieldOf, isComment, LF, QUOTE, Records, SEMICOLON, TAB, wordsOf} from "./text.js";
+import {NUMBER, timeFormOf} from "./times.js";
 import {DumpHeader, LATIN_BYTES, letters, Tokens} from "./vcd.js";
 
 const RAW_AS_CSV = "open the capture in Logic, and export the raw data as CSV";
@@ -14,7 +15,7 @@ const BEGINS = [
   ["\xFF\xD8\xFF", "a picture (JPEG)"],
   ["GIF8", "a picture (GIF)"],
   ["%PDF-", "a PDF document"],
-  ["\x1F\x8B", "a packed file (gzip): unpack it first, and choose what is in it"],
+  ["\x1F\x8B", "a packed file (gzip) that is damaged, or packed twice"],
   ["7z\xBC\xAF\x27\x1C", "an archive (7z): take the file out of it, and choose that"],
   ["Rar!\x1A", "an archive (rar): take the file out of it, and choose that"],
   ["\xD0\xCF\x11\xE0", "a workbook of an old spreadsheet program: save its sheet as CSV, and choose that"],
@@ -77,12 +78,22 @@ function isWide(bytes) {
   return front.length > 8 && Math.max(...zeros) * 2 > front.length * 0.9 && Math.min(...zeros) < 3;
 }
 
-// The records of a text's front, each as its bare fields in words; the last may be cut where the text goes on.
+// The records of a text's front, each as its bare fields in words; the last may be cut where the text goes on. Comments
+// above them are left out, but for the last one if it can be a header.
 function frontRecords(bytes, isWhole, most) {
-  const found = [], made = new Records((record) => {
-                      found.push(recordWords(record));
-                      return found.length < most;
-                    });
+  const found = [];
+  let comment = null;
+  const made = new Records((record) => {
+    const words = recordWords(record);
+    if (!found.length && isComment(record)) {
+      comment = words;
+      return true;
+    }
+    if (!found.length && comment && comment.fields.length > 2 && comment.fields.length === words.fields.length)
+      found.push(comment);
+    found.push(words);
+    return found.length < most;
+  });
   const decoder = new Decoder((part) => made.take(part));
   decoder.take(bytes);
   if (isWhole) {
@@ -90,7 +101,7 @@ function frontRecords(bytes, isWhole, most) {
     made.end();
   }
   const {encoding, hasMark} = decoder;
-  return {records: found, encoding, hasMark};
+  return {records: found, encoding, hasMark, hasComments: comment !== null};
 }
 
 function recordWords(record) {
@@ -102,25 +113,24 @@ function recordWords(record) {
   return {fields, raw, text: wordsOf(line), parts: parts.map(wordsOf), separator: separatorOf(line)};
 }
 
-const TIME_WORDS = /^[0-9]{1,15}([.,][0-9]{1,15})?$/, CLOCK_WORDS = /^[0-9]{1,2}:[0-9]{1,2}:[0-9]+([.,][0-9]+)?$/;
-const WORD_WORDS = /^(0[xX][0-9A-Fa-f]{1,4}|[0-9A-Fa-f]{1,4}[hH]?)$/;
-const isTimeWords = (words) => TIME_WORDS.test(words) || CLOCK_WORDS.test(words);
+const isNumber = (words) => timeFormOf(words) === NUMBER;
+const WORD_WORDS = /^(?!\*.*\*$)\*?(0[xX][0-9A-Fa-f]{1,4}|[0-9A-Fa-f]{1,4}[hH]?)\*?$/;
 
 // Whether a record is a row as mdbcheck reads it.
 function isPlain({raw}) {
-  if (raw.length !== 3 || !/^[0-9]{1,15}$/.test(raw[0])) return false;
+  if (raw.length !== 3 || !/^[0-9]{1,18}$/.test(raw[0])) return false;
   return raw[1] === "B" ? /^[0-9]{1,9}$/.test(raw[2]) : /^[MS]$/.test(raw[1]) && /^[01][0-9A-Fa-f]{2}$/.test(raw[2]);
 }
 
 // Whether a record is a row in another form.
 function isNearly({parts}) {
-  if (parts.length !== 3 || !isTimeWords(parts[0]) || !parts[1]) return false;
-  return WORD_WORDS.test(parts[2]) || /^[bB]$/.test(parts[1]) && TIME_WORDS.test(parts[2]);
+  if (parts.length !== 3 || !timeFormOf(parts[0]) || !parts[1]) return false;
+  return WORD_WORDS.test(parts[2]) || /^[bB]$/.test(parts[1]) && isNumber(parts[2]);
 }
 
 // Whether a record can be the titles of columns.
 const isTitles = ({parts}) =>
-    !parts.some((it) => isTimeWords(it) || LINE_LETTERS.includes(it)) && !WORD_WORDS.test(parts.at(-1));
+    !parts.some((it) => timeFormOf(it) || LINE_LETTERS.includes(it)) && !WORD_WORDS.test(parts.at(-1));
 
 const mostly = (records, is) => records.length > 0 && records.filter(is).length * 2 >= records.length;
 
@@ -132,10 +142,10 @@ function isSaleae({fields}) {
 
 // Whether records are a table of edges: a header, and then times with levels.
 function isEdges([header, ...rest]) {
-  if (!header || header.fields.length < 3 || isTimeWords(header.fields[0])) return false;
+  if (!header || header.fields.length < 3 || timeFormOf(header.fields[0])) return false;
   return mostly(rest, ({fields}) => {
     const levels = fields.slice(1).filter((it) => it === "0" || it === "1");
-    return fields.length === header.fields.length && TIME_WORDS.test(fields[0]) && levels.length > 1;
+    return fields.length === header.fields.length && isNumber(fields[0]) && levels.length > 1;
   });
 }
 
@@ -143,45 +153,56 @@ const SIGROK_TEXT = /^(\d+-\d+ )?uart-\d+: /;
 
 // What may stand in a line of a sniffer's log before, between and after its time, who spoke, and its words.
 const LOG_MARK = String.raw`(?:[ \t[\]()<>=:;,|"]|-(?![0-9A-Fa-f]))`;
-const LOG_TIME = String.raw`(\d{1,2}:\d{1,2}:\d{1,2}(?:[.,]\d{1,15})?|\d{1,15}(?:[.,]\d{1,15})?)`;
+const LOG_TIME =
+    String.raw`(\d{1,2}:\d{1,2}:\d{1,2}(?:[.,]\d{1,15})?(?:[Zz]|[+-]\d\d(?::?\d\d)?)?|\d{1,21}(?:[.,]\d{1,15})?)`;
 const LOG_NAME = String.raw`((?:-?[<>]|[^\s\d.;,|:"()[\]=<>-])[^\t;,|]*?)`;
-const LOG_WORD = String.raw`(?:0[xX])?[0-9A-Fa-f]{2,}`;
-const LOG_WORDS = `(${LOG_MARK}+)(${LOG_WORD}(?:${LOG_MARK}+${LOG_WORD})*)${LOG_MARK}*$`;
-const TIME_FIRST = new RegExp(`^${LOG_MARK}*?${LOG_TIME}${LOG_MARK}+?${LOG_NAME}${LOG_WORDS}`);
-const NAME_FIRST = new RegExp(`^${LOG_MARK}*?${LOG_NAME}${LOG_MARK}+?${LOG_TIME}${LOG_WORDS}`);
+// (the words of a line are decimal only if they can't be bytes)
+const LOG_LINES = [String.raw`(?:0[xX])?[0-9A-Fa-f]{2,}`, String.raw`\d{1,3}`].flatMap((digits) => {
+  const word = String.raw`\*?${digits}\*?`, words = `(${LOG_MARK}+)(${word}(?:${LOG_MARK}+${word})*)${LOG_MARK}*$`;
+  return [`${LOG_TIME}${LOG_MARK}+?${LOG_NAME}`, `${LOG_NAME}${LOG_MARK}+?${LOG_TIME}`].map(
+      (head) => new RegExp(`^${LOG_MARK}*?${head}${words}`));
+});
 const LOG_ARROW = /[-=]*[<>]+[-=]*/, LOG_ENDS = new RegExp(`^${LOG_MARK}+|${LOG_MARK}+$`, "g");
-// A date is no part of a time: the import refuses it.
-const LOG_DATE = /^([ [("]*)\d{1,4}[-./]\d{1,2}[-./]\d{1,4}[ T]+(?=\d{1,2}:)/;
+const LOG_DATE = /(^|[^\w])\d{1,4}[-./]\d{1,2}[-./]\d{1,4}[ Tt\t,;]+(?=\d{1,2}:)/;
 const MOST_LETTERS = 600;
 
-// What a line of a log has, by its form: its time, who spoke, the same up to an arrow after it, and the digits of its
-// words; or null.
+// What a line of a log has, by its form: that of its time, who spoke, the same up to an arrow after it, and the digits
+// of its words, none where they are decimal; or null.
 function loggedIn(whole) {
   if (whole.length > MOST_LETTERS) return null;
-  const line = whole.replace(LOG_DATE, "$1"), first = TIME_FIRST.exec(line), found = first ?? NAME_FIRST.exec(line);
-  if (!found) return null;
-  const [time, speaker] = first ? found.slice(1) : [found[2], found[1]], spoken = speaker + (first ? found[3] : "");
-  const bare = speaker.replace(LOG_ENDS, "").split(/[<>]/)[0].replace(LOG_ENDS, "");
-  const from = spoken.slice(spoken.indexOf(bare)), arrow = LOG_ARROW.exec(from), name = bare || arrow?.[0];
-  const runs = found[4].match(/[0-9A-Fa-f]{2,}/g);
-  if (!name || runs.some(({length}) => length % 2 && length % 3)) return null;
-  return {time, name, directed: bare && arrow ? from.slice(0, arrow.index + arrow[0].length) : name, runs};
+  const line = whole.replace(LOG_DATE, "$1");
+  for (const [i, form] of LOG_LINES.entries()) {
+    const found = form.exec(line), isFirst = i % 2 === 0, runs = found?.[4].match(/[0-9A-Fa-f]{2,}/g) ?? [];
+    if (!found || i < 2 && runs.some(({length}) => length % 2 && length % 3)) continue;
+    const [, one, other, marks] = found, [time, speaker] = isFirst ? [one, other] : [other, one];
+    const bare = speaker.replace(LOG_ENDS, "").split(/[<>]/)[0].replace(LOG_ENDS, ""),
+          spoken = speaker + (isFirst ? marks : "");
+    const from = spoken.slice(spoken.indexOf(bare)), arrow = LOG_ARROW.exec(from), name = bare || arrow?.[0];
+    if (!name) continue;
+    const directed = bare && arrow ? from.slice(0, arrow.index + arrow[0].length) : name;
+    return {form: line === whole ? timeFormOf(time) : "a date", name, directed, runs: i < 2 ? runs : []};
+  }
+  return null;
 }
 
 // Whether a line of a log can be a row too: a time, a name and one word, with separators between them; or a break.
 function isRowLike(line) {
   const separator = ["\t", ";", ","].find((it) => line.includes(it)) ?? "\n";
-  const parts = line.replace(LOG_DATE, "$1").split(separator).map((it) => it.replace(/^[ "]+|[ "]+$/g, ""));
-  return isNearly({parts}) && (/^[bB]$/.test(parts[1]) || /^(0[xX])?0?[01]?[0-9A-Fa-f]{1,2}$/.test(parts[2]));
+  const [time, ...rest] = line.split(separator).map((it) => it.replace(/^[ "]+|[ "]+$/g, ""));
+  const parts = [timeFormOf(time) ? time : time.replace(LOG_DATE, "$1"), ...rest];
+  return isNearly({parts}) &&
+      (/^[bB]$/.test(parts[1]) || /^\*?((0[xX])?0?[01]?[0-9A-Fa-f]{1,2}|\d{3})\*?$/.test(parts[2]));
 }
 
-// The lines of a log's front but for blank ones and comments, and whether it has comments that are no header of rows.
-// The last line may be cut where the text goes on.
+// The lines of a log's front but for blank ones and comments, and whether comments stand below the first of them. The
+// last line may be cut where the text goes on.
 function logLines(bytes, isWhole, encoding) {
   const all = new TextDecoder(encoding ?? "utf-8").decode(bytes).split(/\r\n|\r|\n/);
   const lines = (isWhole ? all : all.slice(0, -1)).filter((it) => /[^ \t]/.test(it));
-  const isComment = (it) => /^[ \t]*#/.test(it);
-  return {lines: lines.filter((it) => !isComment(it)), hasComments: lines.slice(1).some(isComment)};
+  const isComment = (it) => /^[ \t]*#/.test(it),
+        first = lines.findIndex((it) => !isComment(it) && !/^[ \t]*;[^;]*$/.test(it));
+  const body = first < 0 ? [] : lines.slice(first);
+  return {lines: body.filter((it) => !isComment(it)), hasComments: body.some(isComment)};
 }
 
 // Whether a text is a sniffer's log: most of its first lines are messages, and some of its lines can't be rows.
@@ -212,11 +233,10 @@ export function known(bytes, size, end, name = "") {
   if (isRefused(end)) return {...other("what mdbimport wrote of an export that it refused"), isRefused: true};
   const odd = otherKind(bytes, end, name);
   if (odd) return odd;
-  const front = frontRecords(bytes, isWhole, 30), {records, encoding, hasMark} = front;
-  const rest = {encoding, hasMark};
-  if (!records.length && isWhole && !isBinary(bytes)) return {kind: "ours", ...rest};
+  const {records, encoding, hasMark, hasComments} = frontRecords(bytes, isWhole, 30), rest = {encoding, hasMark};
+  if (!records.length && isWhole && !hasComments && !isBinary(bytes)) return {kind: "ours", ...rest};
   const isMessages = isLog(bytes, isWhole, encoding);
-  const isPlainText = !isUtf16(encoding) && !isMessages && mostly(records, isPlain);
+  const isPlainText = !isUtf16(encoding) && !isMessages && !hasComments && mostly(records, isPlain);
   if (isPlainText && !isTitles(records[0])) return {kind: needsRewriting(bytes) ? "quoted" : "ours", ...rest};
   if (isWide(bytes) && !isUtf16(encoding))
     return other("saved as UTF-16 without its byte order mark: save it as UTF-8");
@@ -281,8 +301,7 @@ function lookAtRows(records) {
     names: namesIn(lines),
     hasM: hasLetter(lines, "M"),
     hasS: hasLetter(lines, "S"),
-    hasNumbers: rows.some(({parts}) => TIME_WORDS.test(parts[0])),
-    hasClocks: rows.some(({parts}) => CLOCK_WORDS.test(parts[0])),
+    timeForm: timeFormOf(rows[0]?.parts[0] ?? ""),
   };
 }
 
@@ -321,8 +340,7 @@ function lookAtMessages(bytes, isWhole) {
     names: isOne ? namesIn(found.map(({directed}) => directed)) : names,
     hasM: hasLetter(speakers, "M"),
     hasS: hasLetter(speakers, "S"),
-    hasNumbers: found.some(({time}) => !time.includes(":")),
-    hasClocks: found.some(({time}) => time.includes(":")),
+    timeForm: found[0]?.form ?? null,
     digits: !clear       ? 0 :
         clear.length % 2 ? 3 :
                            2

@@ -2,8 +2,8 @@
 // The levels of a line over time, and the words and breaks that they are (docs/bench/edges.md). A time is whole
 // microseconds, thirds of a nanosecond beyond them, and thirds of 10^-24 of a second beyond those: each is a number
 // without a fraction.
-import {MOST_LENGTH, MOST_TIME, POWERS} from "./rows.js";
-import {BREAK, CONTROLLER, PERIPHERAL, SKIPPABLE} from "./text.js";
+import {divided, MOST_LENGTH, MOST_TIME, POWERS} from "./numbers.js";
+import {BREAK, CONTROLLER, PERIPHERAL, Places, SKIPPABLE} from "./text.js";
 
 const THIRDS = 3000, HALF_BIT = 156250;
 export const REST = 1e15;
@@ -37,21 +37,15 @@ function between(from, to) {
   return rounded({micros, thirds});
 }
 
-// The whole part and the decimals, up to 10^-15, of a number divided by 10^digits, at most 9.
-function divided({whole, decimals, places}, digits) {
-  const part = POWERS[digits], fine = decimals * POWERS[15 - places];
-  return {whole: Math.floor(whole / part), digits: whole % part, fine};
-}
-
-// The time that a number in a unit tells; or null, where it has more than 15 digits of microseconds.
+// The time that a number in a unit tells; or null, where it is too late.
 export function instantOf(number, unit) {
-  const seconds = SECOND_DIGITS[unit], {whole, digits, fine} = divided(number, seconds);
-  if (whole >= 1e9) return null;
+  const power = SECOND_DIGITS[unit], [seconds, digits] = divided(number.whole, power);
+  if (seconds * 1e6 >= MOST_TIME) return null;
   // The digits below a second in 10^-9, and then in 10^-24 of it.
-  const share = POWERS[9 - seconds], cut = REST / share;
+  const share = POWERS[9 - power], cut = REST / share, fine = number.decimals * POWERS[15 - number.places];
   const nanos = digits * share + Math.floor(fine / cut), tail = fine % cut * share * 3;
   const micros = Math.floor(nanos / 1000), thirds = (nanos - micros * 1000) * 3 + Math.floor(tail / REST);
-  const time = {micros: whole * 1e6 + micros, thirds, rest: tail % REST};
+  const time = {micros: seconds * 1e6 + micros, thirds, rest: tail % REST};
   return rounded(time) < MOST_TIME ? time : null;
 }
 
@@ -96,6 +90,10 @@ export class LineRows {
     this.breaks.push(isBreak ? 1 : 0);
   }
 
+  hasWord() {
+    return this.breaks.all.subarray(0, this.length).includes(0);
+  }
+
   pop() {
     this.times.length--;
     this.values.length--;
@@ -117,13 +115,14 @@ export function addMerged(one, other, most, add) {
   }
 }
 
-// A line of the bus, whose levels are read one after the other. What is passed over is noted in the part.
+// A line of the bus, whose levels are read one after the other.
 class Wave {
-  constructor(line, part, skips) {
+  constructor(line, skips) {
     this.line = line;
-    this.part = part;
     this.skips = skips;
     this.rows = new LineRows();
+    this.pulses = new Places();
+    this.damaged = new Places();
     this.state = "waiting"; // until it is high; or "idle", "framed", "low"
     this.isHigh = false;
     // Of a frame: when it fell, when its next bit is read and which that is, its word, and whether it was low so far.
@@ -151,7 +150,7 @@ class Wave {
   }
 
   passPulse() {
-    this.part.pulses.note(rounded(this.start), this.line);
+    this.pulses.note(rounded(this.start), this.line);
     this.state = "idle";
   }
 
@@ -201,36 +200,137 @@ class Wave {
   // What began at the start bit is damaged: it is left out, or is what is wrong.
   spoil(words) {
     const time = rounded(this.start);
-    if (!this.skips) return {line: this.line, time, words: words + SKIPPABLE};
-    this.part.damaged.note(time, this.line);
+    if (!this.skips) return {time, words};
+    this.damaged.note(time, this.line);
     return null;
   }
 }
 
-// Both lines, whose levels are told together.
-export class Waves {
-  constructor(part, skips) {
-    this.part = part;
-    this.lines = [new Wave(CONTROLLER, part, skips), new Wave(PERIPHERAL, part, skips)];
+// How many long levels a line had, from the first time that it was high to its last change. A long one lasts longer
+// than a word.
+class Rest {
+  constructor() {
+    this.isHigh = false;
+    this.since = null;
+    this.counts = [0, 0]; // of low ones, of high ones
   }
 
-  // Takes the levels from a time on. Answers what is wrong, of the controller's line first.
-  /** @type {(time: any, levels: boolean[]) => any} */
-  take(time, [controller, peripheral]) {
-    return this.lines[0].take(time, controller) ?? this.lines[1].take(time, peripheral);
+  take(time, isHigh) {
+    if (isHigh === this.isHigh) return;
+    if (this.since && isLess(later(this.since, 22 * HALF_BIT), time)) this.counts[this.isHigh ? 1 : 0]++;
+    this.since = time;
+    this.isHigh = isHigh;
+  }
+
+  isLow() {
+    return this.counts[0] > Math.max(1, this.counts[1]);
+  }
+}
+
+// A line as it is read, and upside down where no option says which way up it is (`isOpen`).
+class Side {
+  constructor(line, skips, isOpen) {
+    this.upright = new Wave(line, skips);
+    this.fault = null;
+    this.turned = isOpen ? new Wave(line, false) : null;
+    this.rest = new Rest();
+  }
+
+  // Takes the level from a time on, if it is known: true is high. The record or line `number` shows it.
+  take(number, time, level) {
+    this.rest.take(time, level === true);
+    if (!this.fault) this.note(number, false, this.upright.take(time, level === true));
+    if (this.turned?.take(time, level === false)) this.turned = null;
+  }
+
+  end(number) {
+    if (!this.fault) this.note(number, true, this.upright.end());
+    if (this.turned?.end()) this.turned = null;
+  }
+
+  note(number, isAtEnd, wrong) {
+    if (wrong) this.fault = {...wrong, number, isAtEnd};
+  }
+
+  // Whether it is low at rest, wrong as it is read, and right upside down.
+  isUpsideDown() {
+    const isWrong = this.fault !== null || this.upright.damaged.count > 0;
+    return isWrong && this.rest.isLow() && this.turned !== null && this.turned.rows.hasWord();
+  }
+}
+
+const LETTERS = ["M", "S"];
+
+// Both lines, whose levels are told together. What is wrong with them is told at the end, since later levels say which
+// way up they are.
+export class Waves {
+  constructor(part, {invert, invertLine, skip}) {
+    this.part = part;
+    this.inverted = LETTERS.map((letter) => Boolean(invert) || invertLine === letter);
+    const isOpen = !this.inverted.includes(true);
+    this.sides = [new Side(CONTROLLER, skip, isOpen), new Side(PERIPHERAL, skip, isOpen)];
+  }
+
+  // Takes the levels from a time on, as they are read: true, false, or null where none is known.
+  /** @type {(number: number, time: any, levels: (boolean | null)[]) => void} */
+  take(number, time, levels) {
+    this.sides.forEach((side, line) => side.take(number, time, levels[line]));
+  }
+
+  // The line that alone stands upside down, or -1.
+  turned() {
+    const [controller, peripheral] = this.sides.map((side) => side.isUpsideDown());
+    return controller === peripheral ? -1 : controller ? CONTROLLER : PERIPHERAL;
+  }
+
+  // What is wrong first so far; null if nothing is.
+  wrong() {
+    const turned = this.turned(), faults = this.sides.map((side, line) => line === turned ? null : side.fault);
+    const [one, other] = faults;
+    const isOther =
+        other && (!one || other.number < one.number || other.number === one.number && one.isAtEnd > other.isAtEnd);
+    const line = isOther ? PERIPHERAL : CONTROLLER, fault = faults[line], low = fault && this.lowWords(line);
+    return fault && {...fault, line, words: fault.words + (low ? `; ${low}` : SKIPPABLE)};
+  }
+
+  // What is told of a line that is low at rest; null of another one.
+  lowWords(line) {
+    const letter = LETTERS[line];
+    if (!this.sides[line].rest.isLow()) return null;
+    if (this.inverted[line]) return `line ${letter} is low at rest as --invert or --invert-line has it read`;
+    if (this.sides.every(({rest}) => rest.isLow()))
+      return "both lines are low at rest: --invert reads them upside down";
+    return `line ${letter} is low at rest: --invert-line ${letter} reads it upside down`;
+  }
+
+  // Both lines as they are read at last.
+  waves() {
+    const turned = this.turned();
+    return this.sides.map((side, line) => line === turned ? side.turned : side.upright);
   }
 
   // The first rows so far.
   addFirst(most, add) {
-    addMerged(this.lines[0].rows, this.lines[1].rows, most, add);
+    const [one, other] = this.waves();
+    addMerged(one.rows, other.rows, most, add);
   }
 
-  // Writes all rows, if nothing is wrong at the end; else answers that.
-  end() {
-    const wrong = this.lines[0].end() ?? this.lines[1].end();
+  // Takes the end, and writes all rows if nothing is wrong; else answers that.
+  end(number) {
+    for (const side of this.sides) side.end(number);
+    const wrong = this.wrong();
     if (wrong) return wrong;
-    this.addFirst(Infinity, (...row) => this.part.add(...row));
-    this.part.text.flush();
+    const {part, sides} = this, turned = this.turned();
+    part.turned = LETTERS[turned] ?? null;
+    part.low = sides.map((side, line) => line !== turned && side.upright.damaged.count ? this.lowWords(line) : null)
+                   .find(Boolean) ??
+        null;
+    for (const wave of this.waves()) {
+      part.pulses.add(wave.pulses);
+      part.damaged.add(wave.damaged);
+    }
+    this.addFirst(Infinity, (...row) => part.add(...row));
+    part.text.flush();
     return null;
   }
 }

@@ -7,6 +7,25 @@ import {number, shownName} from "../texts.js";
 /** @type {WeakMap<File, any>} */
 export const madeFiles = new WeakMap();
 
+// Files that this page has unpacked, and the files of gzip that they were in.
+/** @type {WeakMap<File, File>} */
+export const packedFiles = new WeakMap();
+
+// What a file of gzip holds, as a file; any other file as it is, and one that can't be unpacked.
+/** @type {(file: File) => Promise<File>} */
+export async function unpacked(file) {
+  try {
+    const [first, second] = new Uint8Array(await file.slice(0, 2).arrayBuffer());
+    if (first !== 0x1F || second !== 0x8B || packedFiles.has(file)) return file;
+    const blob = await new Response(file.stream().pipeThrough(new DecompressionStream("gzip"))).blob();
+    const made = new File([blob], file.name.replace(/\.gz$/i, ""), {lastModified: file.lastModified});
+    packedFiles.set(made, file);
+    return made;
+  } catch {
+    return file;
+  }
+}
+
 export const NO_PART = "mdbimport refused the export, and no verdict is given on a part of one.";
 export const IMPORT_AGAIN =
     "Import the export again, as the message of mdbimport says. Or drop the export itself on this page: it imports it.";

@@ -20,7 +20,9 @@ import {
   microsField
 } from "./fields.js";
 import {Importer} from "./importer.js";
-import {IMPORT_AGAIN, madeFiles, NO_PART} from "./made.js";
+import {IMPORT_AGAIN, madeFiles, NO_PART, packedFiles, unpacked} from "./made.js";
+import {NO_PART_ROW} from "./text.js";
+import {NUMBER} from "./times.js";
 import {tookList} from "./took.js";
 
 const FORMATS = {
@@ -50,7 +52,10 @@ export async function recordingOf(file, then = asked.run) {
   // A file of rows is taken whatever is asked of another one.
   if (turn !== importTurn || found.kind === "ours") {
     importer.end();
-    return found.kind === "ours" ? file : null;
+    if (found.kind !== "ours") return null;
+    const packed = packedFiles.get(file);
+    if (packed) madeFiles.set(file, {file: packed, command: importCommand({format: "rows", file}, {unit: "us"})});
+    return file;
   }
   closeImport();
   openImport = {file, then, importer, found, format: null, look: {}, answer: null, words: ""};
@@ -75,8 +80,8 @@ async function rowsAtOnce(it) {
 
 // The rows that a file holds, where nothing has to be asked. Nothing is shown.
 /** @type {(file: File) => Promise<File>} */
-export async function rowsUnasked(file) {
-  const importer = new Importer(file);
+export async function rowsUnasked(given) {
+  const file = await unpacked(given), importer = new Importer(file);
   try {
     const {kind, words} = await importer.ask({work: "known"});
     if (kind === "other") throw new Error(`this is ${words}`);
@@ -202,8 +207,8 @@ function importBody(it) {
     h("div", {class: "tools", id: "import-fields", oninput: () => showFirstRows()},
       FORMAT_FIELDS[it.format].map((name) => FIELDS[name](it))),
     h("details", {oninput: () => showFirstRows()}, h("summary", {}, "Only a part of it"),
-      h("div", {class: "tools"}, microsField("from", "From (microseconds)"),
-        microsField("until", "Until (microseconds)"))),
+      h("div", {class: "tools"}, microsField("from", "From (microseconds, or 14:28:00, or 2026-11-30 14:28:00)"),
+        microsField("until", "Until"))),
     h("div", {id: "import-first"}),
     h("p", {}, button("import-go", goWords(it), importAndCheck), " ",
       button("import-save", "Save the rows", importAndSave)),
@@ -237,7 +242,6 @@ async function showFirstRows() {
   const first = await it.importer.ask({work: "preview", format: it.format, options});
   if (it !== openImport || it.preview !== mine) return;
   by("import-first").replaceChildren(...firstRows(first, it.format === "messages" ? "line" : "record"));
-  it.isEarly = first.isEarly;
   if (it.answer || !first.refused) return;
   it.refusal = first;
   it.isExchanged = await isExchanged(it);
@@ -268,6 +272,8 @@ function standing(it) {
   if (it.asks.length) return `${what} Answer what is asked above, and press “${goWords(it)}”.`;
   if (!it.refusal) return `${what} Press “${goWords(it)}” above.`;
   const can = it.isExchanged ? " Most likely its two lines are exchanged." :
+      turnedIn(it.refusal)   ? " It can read levels upside down." :
+      isDecimal(it)          ? " Most likely its words are decimal." :
       canSkip(it)            ? " It can leave the damaged words out." :
       it.refusal.goOn        ? " It can go on after that." :
                                "";
@@ -301,12 +307,11 @@ const ADVICE = [
   [/--controller/, "controller", "Choose above which name is which line."],
   [/--controller/, "peripheral", "Choose above which name is which line."],
 ];
-const UPSIDE_DOWN = "That is near the beginning. Are the levels upside down? Then tick that above first.";
 
-function adviceOf({format, options, isEarly}, refused) {
+function adviceOf({format, options}, refused) {
+  if (refused.startsWith(NO_PART_ROW)) return "Change the part above, or empty its fields.";
   const isTold = (name) => !FORMAT_FIELDS[format].includes(name) || options[name] !== undefined;
   const bare = refused.replace(/; go on with.*|; found ".*/g, "");
-  if (isEarly && bare.includes("--skip-damaged") && !isTold("invert")) return UPSIDE_DOWN;
   return ADVICE.find(([words, name]) => words.test(bare) && !isTold(name))?.[2];
 }
 
@@ -334,30 +339,56 @@ const WAYS = {
     "Or export the same capture as a table of edges (CSV), and choose that."
   ],
   messages: [
-    "If there is a date before the time, cut the dates off all lines. Then choose the log again.",
     "Correct that line of the log, or delete it.",
     "If times go back at that line, cut the log before it. Each piece is a recording of its own."
   ],
 };
 
+// Which lines would be right upside down, as mdbimport says where it refuses or reports something: both, M or S.
+function turnedIn({refused, notes}) {
+  const words = [refused, ...notes].join("\n"), [, line] = /--invert-line ([MS]) reads it/.exec(words) ?? [];
+  return line ?? (words.includes("--invert reads them") ? "both" : null);
+}
+
+const isDecimal = ({refusal}) => refusal.refused.includes("(--decimal)");
+
 // Why an import is refused, and what can be done: each button goes on, and a field is named that would help.
-function refusedWords(it, {refused, goOn}) {
+function refusedWords(it, {refused, goOn, notes}) {
   const isOption = refused.startsWith("--"), advice = it.isExchanged ? null : adviceOf(it, refused);
-  const isStuck = !isOption && !advice && !goOn && !canSkip(it);
+  const turned = turnedIn(it.refusal),
+        isStuck = !isOption && !advice && !goOn && !turned && !isDecimal(it) && !canSkip(it);
   return [
+    notesList(notes),
     h("p", {}, h("strong", {}, isOption ? "This can't be used: " : "The import is refused: "),
       h("code", {class: "refused"}, `mdbimport: ${refused}`)),
     advice ? h("p", {}, advice) : null,
-    it.isExchanged  ? exchangeOffer() :
-        canSkip(it) ? skipOffer() :
-                      null,
-    goOn ? goOnOffer(goOn) : null,
+    it.isExchanged    ? exchangeOffer() :
+        turned        ? turnOffer(turned) :
+        isDecimal(it) ? decimalOffer() :
+        canSkip(it)   ? skipOffer() :
+                        null,
+    goOn && !isDecimal(it) ? goOnOffer(goOn) : null,
     ...(isStuck ? stuckWords(it) : []),
   ].filter(Boolean);
 }
 
+const TURNED_WORDS = {
+  both: "both lines",
+  M: "the controller's line (M)",
+  S: "the devices' line (S)"
+};
+
+const turnOffer = (line) =>
+    h("p", {},
+      button("import-turn", `Read ${TURNED_WORDS[line]} upside down and go on`, () => fillAndGoOn("invert", line)),
+      " A line of the bus is high at rest, and here it is low.");
+
+const decimalOffer = () =>
+    h("p", {},
+      button("import-decimal-on", "Read the words as decimal numbers and go on", () => fillAndGoOn("decimal", true)));
+
 const skipOffer = () => h(
-    "p", {}, button("import-skip-on", "Leave damaged words out and go on", skipAndGoOn),
+    "p", {}, button("import-skip-on", "Leave damaged words out and go on", () => fillAndGoOn("skip", true)),
     " A damaged word has no stop bit: a spike on the line may be the reason. The page then says which words it left out.");
 
 const exchangeOffer = () => h(
@@ -375,13 +406,21 @@ function stuckWords({format, found, refusal}) {
     h("p", {},
       "No answer in the fields above changes that. This file can't be used as it is, and has no verdict. What can be done:"),
     h("ul", {id: "import-ways"},
-      [...(isOther ? ["Choose above what the file is, if it is something else."] : []), ...ways].map(
-          (words) => h("li", {}, words))),
+      [...(isOther ? [readAsOffer(found.kind)] : []), ...ways].map((words) => h("li", {}, words))),
   ];
 }
 
-function skipAndGoOn() {
-  fieldBy("import-skip").checked = true;
+// What the file looks like, if it was chosen to be something else.
+const readAsOffer = (kind) => kind in FORMATS ?
+    button("import-as", `Read it as ${FORMATS[kind]}`, () => takeAs(kind, true)) :
+    "Choose above what the file is, if it is something else.";
+
+function fillAndGoOn(name, value) {
+  const field = fieldBy(`import-${name}`);
+  if (value === true)
+    field.checked = true;
+  else
+    field.value = value;
   return goOn();
 }
 
@@ -440,7 +479,7 @@ async function importAll() {
       command: importCommand(it, options),
       damaged,
       notes,
-      hasClocks: Boolean(it.look.hasClocks),
+      clockForm: it.look.timeForm === NUMBER ? null : it.look.timeForm,
       hasMadeTimes: it.format === "messages"
     });
     if (!answer.refused) keepNames(options);
@@ -463,18 +502,20 @@ async function importAll() {
 function toldOf(it, answer) {
   const {refused, rows, notes, damaged} = answer;
   if (refused) return [...refusedWords(it, answer), ...(rows ? [rowsBefore(it, rows)] : [])];
-  const list = notes.length ?
-      h("ul", {id: "import-notes"}, notes.map((words) => h("li", {}, h("code", {}, `mdbimport: ${words}`)))) :
-      null;
+  const turned = turnedIn(answer);
   return [
     h("p", {},
       `${
           number(
               rows)} rows were made. The numbers of rows on this page are those of the made rows, not of the lines of `,
       fileName(it.file), "."),
-    list, damaged?.count ? h("p", {}, missingWords(damaged, rows)) : null
+    notesList(notes), turned ? turnOffer(turned) : null, damaged?.count ? h("p", {}, missingWords(damaged, rows)) : null
   ].filter(Boolean);
 }
+
+const notesList = (notes) => notes.length ?
+    h("ul", {id: "import-notes"}, notes.map((words) => h("li", {}, h("code", {}, `mdbimport: ${words}`)))) :
+    null;
 
 // What it means that words were left out.
 function missingWords({count}, rows) {

@@ -1,140 +1,49 @@
 // @ts-check
-// Numbers, times and words as an export writes them, and the import of rows (docs/bench/importing.md).
+// Words and lines as an export writes them, and the import of rows (docs/bench/importing.md).
+import {digitsOf, hasPrefix, hexOf, isDigit, MOST_LENGTH, MOST_TIME, nearest, numberOf, UNITS} from "./numbers.js";
 import {
   bare,
   BREAK,
-  COLON,
   COMMA,
   CONTROLLER,
   excerpt,
+  isComment,
   isText,
   LETTERS,
   Part,
   PERIPHERAL,
   placeIn,
-  POINT,
   Records,
   SEMICOLON,
+  STAR,
   TAB,
   utf8
 } from "./text.js";
+import {timeForm, Times} from "./times.js";
 
-/** @type {Record<string, number>} */
-export const UNITS = {
-  s: 6,
-  ms: 3,
-  us: 0,
-  ns: -3
-};
-export const MOST_TIME = 1e15, MOST_LENGTH = 1e9;
-export const POWERS = [1, 10, 100, 1e3, 1e4, 1e5, 1e6, 1e7, 1e8, 1e9, 1e10, 1e11, 1e12, 1e13, 1e14, 1e15];
+// What is wrong with a word, and what may be the cause, told after what was found.
+const NO_WORD = "wanted a word in hexadecimal digits, at most 1FF";
+const NO_DECIMAL = "wanted a word in decimal digits, at most 511";
+export const IS_DECIMAL = "; are the words decimal (--decimal)?";
 
-/** @type {(byte: number) => boolean} */
-export const isDigit = (byte) => byte >= 48 && byte < 58;
-
-// The whole number that 1 to 15 digits write, or -1.
-/** @type {(all: Uint8Array, from: number, to: number) => number} */
-export function digitsOf(all, from, to) {
-  if (to <= from || to - from > 15) return -1;
-  let number = 0;
-  for (let i = from; i < to; i++) {
-    if (!isDigit(all[i])) return -1;
-    number = number * 10 + all[i] - 48;
-  }
-  return number;
+// The word that a field tells, or -1. A `*` before or after the digits says that its mode bit is set.
+function wordOf({all, from, to}, isDecimal) {
+  const isBefore = to > from && all[from] === STAR, isAfter = to > from && !isBefore && all[to - 1] === STAR;
+  const field = {all, from: isBefore ? from + 1 : from, to: isAfter ? to - 1 : to},
+        mark = isBefore || isAfter ? 256 : 0;
+  const word = isDecimal ? digitsOf(all, field.from, field.to, 3) : hexWordOf(field);
+  return word < 512 - mark ? word < 0 ? -1 : word + mark : -1;
 }
 
-// Whether a field has digits alone.
-/** @type {(field: Field) => boolean} */
-export function areDigits({all, from, to}) {
-  for (let i = from; i < to; i++)
-    if (!isDigit(all[i])) return false;
-  return to > from;
-}
-
-// The number that a field writes: 1 to 15 digits, perhaps a point or a comma and 1 to 15 more; or null.
-export function numberOf(field) {
-  const {all, from, to} = field;
-  let mark = placeIn(field, POINT);
-  if (mark < 0) mark = placeIn(field, COMMA);
-  const whole = digitsOf(all, from, mark < 0 ? to : mark);
-  if (whole < 0) return null;
-  if (mark < 0) return {whole, decimals: 0, places: 0};
-  const decimals = digitsOf(all, mark + 1, to);
-  return decimals < 0 ? null : {whole, decimals, places: to - mark - 1};
-}
-
-// The whole number that is nearest to a number times a power of ten, the greater of two; `most` where
-// it is that or more. The power is from -3 to 6.
-export function nearest({whole, decimals, places}, power, most) {
-  if (power < 0) {
-    const part = POWERS[-power];
-    return Math.min(most, Math.floor(whole / part) + (2 * (whole % part) >= part ? 1 : 0));
-  }
-  const scale = POWERS[power];
-  if (whole >= most / scale) return most;
-  if (places <= power) return Math.min(most, whole * scale + decimals * POWERS[power - places]);
-  const part = POWERS[places - power];
-  return Math.min(most, whole * scale + Math.floor(decimals / part) + (2 * (decimals % part) >= part ? 1 : 0));
-}
-
-// A time of day: its minutes, and the number of its seconds; or null.
-function clockOf(field) {
-  const {all, from, to} = field, first = placeIn(field, COLON);
-  if (first < 0) return null;
-  const second = placeIn({all, from: first + 1, to}, COLON);
-  if (second < 0 || first - from > 2 || second - first > 3) return null;
-  const hours = digitsOf(all, from, first), minutes = digitsOf(all, first + 1, second);
-  const seconds = numberOf({all, from: second + 1, to});
-  if (hours < 0 || minutes < 0 || minutes > 59 || !seconds || seconds.whole > 59) return null;
-  return {minutes: hours * 60 + minutes, seconds};
-}
-
-const clockTime = ({minutes, seconds}) => minutes * 6e7 + nearest(seconds, 6, MOST_TIME);
-
-export const NO_TIME = "wanted a time: up to 15 digits, perhaps with decimals, or HH:MM:SS";
-const NO_UNIT = "the unit of the times isn't known: give --unit s, ms, us or ns";
-export const LONG_TIME = "wanted a time of at most 15 digits of microseconds";
-
-// The microsecond that a field tells, or the words of what is wrong with it.
-export function timeOf(field, unit) {
-  const clock = clockOf(field);
-  if (clock) return clockTime(clock);
-  const number = numberOf(field);
-  if (!number) return NO_TIME;
-  if (!unit) return NO_UNIT;
-  const time = nearest(number, UNITS[unit], MOST_TIME);
-  return time < MOST_TIME ? time : LONG_TIME;
-}
-
-/** @type {(byte: number) => number} */
-export function hexDigit(byte) {
-  if (isDigit(byte)) return byte - 48;
-  const small = byte | 32;
-  return small >= 97 && small < 103 ? small - 87 : -1;
-}
-
-// The number of 1 to 4 hexadecimal digits, or -1.
-/** @type {(all: Uint8Array, from: number, to: number) => number} */
-export function hexOf(all, from, to) {
-  if (to <= from || to - from > 4) return -1;
-  let number = 0;
-  for (let i = from; i < to; i++) {
-    const digit = hexDigit(all[i]);
-    if (digit < 0) return -1;
-    number = number * 16 + digit;
-  }
-  return number;
-}
-
-/** @type {(field: Field) => boolean} */
-export const hasPrefix = ({all, from, to}) => to - from > 2 && all[from] === 48 && (all[from + 1] | 32) === 120;
-
-// The word that a field tells, or -1.
-function wordOf(field) {
+function hexWordOf(field) {
   const {all, from, to} = field, hasEnd = to > from && (all[to - 1] | 32) === 104;
-  const word = hasPrefix(field) ? hexOf(all, from + 2, to) : hexOf(all, from, hasEnd ? to - 1 : to);
-  return word < 512 ? word : -1;
+  return hasPrefix(field) ? hexOf(all, from + 2, to) : hexOf(all, from, hasEnd ? to - 1 : to);
+}
+
+// Whether a field is a number that is a word with its mode bit set, or nearly so, if it is decimal.
+function isLikelyDecimal({all, from, to}) {
+  const number = digitsOf(all, from, to, 15);
+  return number >= 200 && number < 512;
 }
 
 /** @type {(field: Field, letter: number) => boolean} */
@@ -171,18 +80,19 @@ export function partsOf(line) {
 
 /** @type {(record: any) => Field} */
 export const lineOfRecord = ({line}) => ({all: line.all, from: 0, to: line.length});
-const hasTimeForm = (field) => Boolean(clockOf(field) || numberOf(field));
 
 const isEmpty = ({from, to}) => from === to;
+// Whether a field can be a title: it has no digit, and isn't what gzip writes.
 /** @type {(field: Field) => boolean} */
-export const hasDigit = ({all, from, to}) => all.subarray(from, to).some((byte) => byte >= 0x30 && byte <= 0x39);
+export const isTitle = ({all, from, to}) =>
+    !all.subarray(from, to).some(isDigit) && !(all[from] === 0x1F && all[from + 1] === 0x8B);
 
 // Whether fields are the titles of columns: three or more, none empty or a time. The first and the last have no digit.
 // Of exactly three, the second names neither a line nor a break.
 function isHeader(parts, names) {
-  if (parts.length < 3 || hasDigit(parts[0]) || hasDigit(parts.at(-1))) return false;
+  if (parts.length < 3 || !isTitle(parts[0]) || !isTitle(parts.at(-1))) return false;
   if (parts.length === 3 && (lineOf(parts[1], names) >= 0 || isBreak(parts[1]))) return false;
-  return parts.every((field) => !isEmpty(field) && !hasTimeForm(field));
+  return parts.every((field) => !isEmpty(field) && !timeForm(field));
 }
 
 // The options of an import with the names of the lines as bytes.
@@ -195,41 +105,51 @@ export function withNames(options) {
   };
 }
 
-// The import of rows: each record is a row, the header, passed over, or refused.
+// The import of rows: each record is a row, a comment or the header, passed over, or refused.
 export class RowsImport {
   constructor(options, give) {
     this.options = withNames(options);
     this.part = new Part(options, give);
+    this.times = new Times(options.unit);
     this.records = new Records((record) => this.take(record));
+    this.comments = 0;
+    this.isBegun = false; // a record was there that is no comment
     this.last = null;
     this.refused = null;
     this.goOn = null;
   }
 
   take(record) {
-    const parts = partsOf(lineOfRecord(record)), wrong = this.wrongWith(parts);
+    if (!this.isBegun && isComment(record)) {
+      this.comments++;
+      return true;
+    }
+    const parts = partsOf(lineOfRecord(record)), time = this.times.read(parts[0]), isFirst = !this.isBegun;
+    const wrong = this.wrongWith(parts, time);
+    this.isBegun = true;
+    this.part.midnights = this.times.midnights;
     if (!wrong) return true;
-    if (record.number === 1 && isHeader(parts, this.options)) {
+    if (isFirst && isHeader(parts, this.options)) {
       this.part.header = "record";
       return true;
     }
-    return this.pass(record, parts[0], wrong);
+    return this.pass(record, typeof time === "string" ? null : time, wrong, parts[2]);
   }
 
   // Adds the row of a record's fields, or answers what is wrong with them.
-  wrongWith(parts) {
+  wrongWith(parts, time) {
     if (parts.length !== 3) return "wanted three fields: TIME, LINE and VALUE";
-    const time = timeOf(parts[0], this.options.unit);
     if (typeof time === "string") return time;
+    const {decimal, unit} = this.options;
     let line = lineOf(parts[1], this.options), value;
     if (line >= 0) {
-      value = wordOf(parts[2]);
-      if (value < 0) return "wanted a word in hexadecimal digits, at most 1FF";
+      value = wordOf(parts[2], decimal);
+      if (value < 0) return decimal ? NO_DECIMAL : NO_WORD;
     } else {
       if (!isBreak(parts[1])) return "wanted M, S or B, or a name given by --controller or --peripheral";
       line = BREAK;
       const number = numberOf(parts[2]);
-      value = number ? nearest(number, UNITS[this.options.unit ?? "s"], MOST_LENGTH) : MOST_LENGTH;
+      value = number ? nearest(number, UNITS[unit ?? "s"], MOST_LENGTH) : MOST_LENGTH;
       if (value >= MOST_LENGTH) return "wanted the length of the break, below 1000 seconds";
     }
     if (this.last !== null && time <= this.last)
@@ -240,22 +160,24 @@ export class RowsImport {
   }
 
   // Passes over a record whose own time is outside the part, or refuses it.
-  pass(record, field, wrong) {
-    const told = timeOf(field, this.options.unit), own = typeof told === "string" ? null : told;
+  pass(record, own, wrong, value) {
     if (own !== null && (this.part.isBefore(own) || this.part.isAfter(own))) {
       this.part.passed++;
       return true;
     }
     const at = own !== null ? ` at ${own}` : this.last !== null ? ` after ${this.last}` : "";
     const first = own === null ? MOST_TIME : Math.max(own, this.last ?? 0) + 1;
+    const hint = wrong === NO_WORD && isLikelyDecimal(value) ? IS_DECIMAL : "";
     this.goOn = first < MOST_TIME ? first : null;
-    this.refused = `record ${record.number}${at}: ${wrong}; found "${excerpt(record)}"${
+    this.refused = `record ${record.number}${at}: ${wrong}; found "${excerpt(record)}"${hint}${
         this.goOn === null ? "" : `; go on with --from ${this.goOn}`}`;
     return false;
   }
 
   end() {
     this.part.text.flush();
+    if (this.comments && !this.isBegun)
+      this.refused = `record ${this.comments + 1}: wanted rows below the comments, and there are none`;
   }
 }
 

@@ -1,11 +1,13 @@
 // @ts-check
 // The import of a table of Saleae's analyser Async Serial (docs/bench/saleae.md).
-import {hasPrefix, hexOf, isDigit, lineOf, LONG_TIME, MOST_TIME, nearest, numberOf, withNames} from "./rows.js";
+import {hasPrefix, hexOf, isDigit, LONG_TIME, MOST_TIME, nearest, numberOf} from "./numbers.js";
+import {lineOf, withNames} from "./rows.js";
 import {
   BREAK,
   COMMA,
   excerpt,
   fieldOf,
+  isComment,
   isText,
   Part,
   PERIPHERAL,
@@ -34,7 +36,7 @@ const CALLED = {
   error: "error (or Parity Error and Framing Error)",
 };
 const NEGATIVE = "wanted no negative time: set the time zero to the start of the capture";
-const NO_SECONDS = "wanted a time in seconds: up to 15 digits, perhaps with decimals after a point";
+const NO_SECONDS = "wanted a time in seconds: up to 21 digits, perhaps with decimals after a point";
 const SAME_ROW = "wanted a time after that of the row before it, and it is the same";
 const EARLY_ROW = "wanted a later time than the row before it: sort the table by the start time";
 
@@ -99,6 +101,7 @@ export class SaleaeImport {
 
   takeHeader(record) {
     const columns = columnsOf(record);
+    if (isComment(record, typeof columns !== "string")) return true;
     if (typeof columns === "string") return this.refuse(record, columns);
     this.columns = columns;
     this.width = record.count;
@@ -168,7 +171,8 @@ export class SaleaeImport {
   end() {
     this.part.text.flush();
     if (!this.columns && !this.refused)
-      this.refused = "record 1: wanted a header with the names of the columns, and the table is empty";
+      this.refused =
+          `record ${this.records.number + 1}: wanted a header with the names of the columns, and the table is empty`;
   }
 }
 const DATA_WORD = utf8("data");

@@ -1,7 +1,7 @@
 // @ts-check
 // The import of a trace of sigrok-cli (docs/bench/sigrok-trace.md). A time is whole microseconds and millionths.
 import {addMerged, LEAST_BREAK, LineRows} from "./levels.js";
-import {LONG_TIME, MOST_LENGTH, MOST_TIME} from "./rows.js";
+import {LONG_TIME, MOST_LENGTH, MOST_TIME} from "./numbers.js";
 import {CONTROLLER, Lines, Part, PERIPHERAL, SKIPPABLE} from "./text.js";
 
 export const TRACE_HEAD = '{"traceEvents": [';
@@ -26,10 +26,10 @@ const NO_END = "wanted the last line of a trace, ]}, after a record without a co
 
 const wholeMicros = ({micros, parts}) => micros + (2 * parts >= MILLION ? 1 : 0);
 
-// The time that digits before and after a point tell, or null where it has too many.
+// The time that digits before and after a point tell, or null where it is too late.
 function traceTime(digits, decimals) {
   const bare = digits.replace(/^0+/, "");
-  if (bare.length > 15) return null;
+  if (bare.length > 16) return null;
   const time = {micros: Number(bare), parts: Number(decimals)};
   return wholeMicros(time) < MOST_TIME ? time : null;
 }

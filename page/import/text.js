@@ -2,7 +2,8 @@
 // The text of an export, piece by piece: UTF-16 as UTF-8, the records that a csv reader finds, and
 // the text of the rows that are made. Nothing here knows of the page.
 
-export const TAB = 9, LF = 10, CR = 13, BLANK = 32, QUOTE = 34, COMMA = 44, POINT = 46, COLON = 58, SEMICOLON = 59;
+export const TAB = 9, LF = 10, CR = 13, BLANK = 32, QUOTE = 34, HASH = 35, STAR = 42, COMMA = 44, MINUS = 45,
+             POINT = 46, COLON = 58, SEMICOLON = 59;
 
 /** @type {(words: string) => Uint8Array} */
 export const utf8 = (words) => new TextEncoder().encode(words);
@@ -246,6 +247,22 @@ export function placeIn({all, from, to}, byte) {
   return -1;
 }
 
+// Whether a record above a header is a comment: its first field begins with `#`, and it is no header itself; or with
+// `;`, and it has no other `;`.
+/** @type {(record: any, isHeader?: boolean) => boolean} */
+export function isComment(record, isHeader = false) {
+  const {line: {all, length}} = record, {from, to} = fieldOf(record, 0);
+  if (from === to || all[from] !== SEMICOLON) return from < to && all[from] === HASH && !isHeader;
+  return all.subarray(0, length).lastIndexOf(SEMICOLON) === from;
+}
+
+// Words as a field.
+/** @type {(words: string) => Field} */
+export function wholeField(words) {
+  const all = utf8(words);
+  return {all, from: 0, to: all.length};
+}
+
 /** @type {(field: Field) => string} */
 export const wordsOf = ({all, from, to}) => new TextDecoder().decode(all.slice(from, to));
 
@@ -369,7 +386,7 @@ export class RowText {
     this.all[this.length++] = LF;
   }
 
-  // A number of up to 15 digits, seven at a time.
+  // A whole number, seven digits at a time.
   number(value) {
     const high = Math.floor(value / 1e7);
     if (high) this.number(high);
@@ -402,15 +419,19 @@ export class RowText {
 }
 
 // Where something was passed over: how many places, and the first five by their times, at one time M before S.
-class Places {
+export class Places {
   constructor() {
     this.count = 0;
     this.first = [];
   }
 
   note(time, line) {
-    this.count++;
-    this.first.push({time, line});
+    this.add({count: 1, first: [{time, line}]});
+  }
+
+  add({count, first}) {
+    this.count += count;
+    this.first.push(...first);
     this.first.sort((a, b) => a.time - b.time || a.line - b.line);
     this.first.length = Math.min(this.first.length, 5);
   }
@@ -431,8 +452,13 @@ export class Part {
     this.from = from;
     this.until = until;
     this.text = new RowText(give);
-    this.rows = this.before = this.after = this.passed = 0;
+    this.rows = this.before = this.after = this.passed = this.midnights = 0;
     this.header = this.moved = null;
+    // The earliest and the latest time of all rows.
+    this.first = Infinity;
+    this.last = -1;
+    // The line that is read upside down, though no option says so; what is told of one that is low at rest.
+    this.turned = this.low = null;
     this.marked = this.controller = this.peripheral = false;
     this.pulses = new Places();
     this.damaged = new Places();
@@ -448,6 +474,8 @@ export class Part {
 
   add(time, line, value) {
     this.note(line, value);
+    this.first = Math.min(this.first, time);
+    this.last = Math.max(this.last, time);
     if (this.isBefore(time))
       this.before++;
     else if (this.isAfter(time))
@@ -489,22 +517,38 @@ function movedNote({count, most}) {
       moved}`;
 }
 
+const midnightsNote = (count) => `midnight passed ${
+    count === 1 ? "1 time: the times after it" : `${count} times: the times after each`} have 24 hours more`;
+
 // What mdbimport reports of a whole import, a line each.
-export function notesOf({header, before, after, moved, passed, pulses, damaged, marked, controller, peripheral}) {
-  const notes = [];
+export function notesOf(part) {
+  const {header, before, after, moved, passed, pulses, damaged, midnights, turned, low} = part, notes = [];
+  if (turned) notes.push(`line ${turned} is low at rest, and is read upside down`);
   if (header) notes.push(`the first ${header} is taken for a header`);
+  if (midnights) notes.push(midnightsNote(midnights));
   if (before || after) notes.push(`left out ${before} rows before the part and ${after} after it`);
   if (moved) notes.push(movedNote(moved));
   if (passed) notes.push(`left out ${passed} records outside the part that are no rows, or not in order`);
   if (pulses.count) notes.push(pulsesNote(pulses));
   if (damaged.count) notes.push(damagedNote(damaged));
-  if (!controller && !peripheral)
-    notes.push("there is no word on either line");
-  else if (!peripheral)
-    notes.push("no word of a peripheral (S): was only the controller's line recorded?");
-  else if (!controller)
-    notes.push("no word of the controller (M): was only the peripherals' line recorded?");
-  if (!marked && (controller || peripheral))
-    notes.push("no word has its mode bit set: was it recorded with 8 bits and not 9?");
+  if (low) notes.push(low);
+  return part.rows ? [...notes, ...linesNotes(part)] : notes;
+}
+
+// What is told of lines without a word, and of words without a mode bit.
+function linesNotes({marked, controller, peripheral}) {
+  if (!controller && !peripheral) return ["there is no word on either line"];
+  const notes = [];
+  if (!peripheral) notes.push("no word of a peripheral (S): was only the controller's line recorded?");
+  if (!controller) notes.push("no word of the controller (M): was only the peripherals' line recorded?");
+  if (!marked) notes.push("no word has its mode bit set: was it recorded with 8 bits and not 9?");
   return notes;
+}
+
+// What is wrong with a whole import that has no row; null if it has one.
+export const NO_PART_ROW = "the part has no row";
+/** @type {(part: Part) => string | null} */
+export function noRowIn({rows, first, last}) {
+  if (rows) return null;
+  return last < 0 ? "there is no row in the export" : `${NO_PART_ROW}: the rows have times from ${first} to ${last}`;
 }

@@ -5,6 +5,7 @@ import {shownName} from "../texts.js";
 
 import {MADE_TIMES} from "./made.js";
 import {RAW_FORMATS} from "./text.js";
+import {CLOCK, NUMBER} from "./times.js";
 
 // What the page took for what.
 /** @type {(it: OpenImport) => HTMLElement} */
@@ -18,7 +19,17 @@ export function tookList({format, look, found}) {
     vcd: vcdTook,
     messages: messagesTook
   }[format](look);
-  return h("ul", {id: "import-took"}, [...items, encoding].filter(Boolean).map((words) => h("li", {}, words)));
+  return h(
+      "ul", {id: "import-took"},
+      [...items, timesTook(look), encoding].filter(Boolean).map((words) => h("li", {}, words)));
+}
+
+// What is made of times that are no numbers.
+/** @type {(look: {timeForm?: string | null}) => string | null} */
+function timesTook({timeForm}) {
+  if (!timeForm || timeForm === NUMBER) return null;
+  return timeForm === CLOCK ? "A time of day that is more than 12 hours back is of the next day." :
+                              "Dates without an offset are taken as UTC.";
 }
 
 function encodingWords(format, {encoding, hasMark}) {
@@ -33,7 +44,7 @@ function encodingWords(format, {encoding, hasMark}) {
 function rowsTook({titles, separators = []}) {
   return [
     titles ? `The first record is taken for a header: ${shownName(titles.join(" | "))}.` : null,
-    `The first field is the time, the second the line, the third the value, in hexadecimal digits. Fields are separated by ${
+    `The first field is the time, the second the line, the third the value. Fields are separated by ${
         separators.join(" and ") || "commas"}.`,
   ];
 }
@@ -68,7 +79,7 @@ function vcdTook() {
 function messagesTook({titles, digits}) {
   const words = digits === 3 ? "three hexadecimal digits, as they stand" :
       digits === 2           ? "two hexadecimal digits, with the mode bits that the bus has" :
-                               "two or three hexadecimal digits";
+                               "two or three digits";
   return [
     titles ? `The first line is taken for a header: ${shownName(titles)}.` : null,
     `Each line is a message: when, who spoke, and its words of ${words}.`, MADE_TIMES

@@ -1,9 +1,10 @@
 // @ts-check
 // The import of a value change dump (docs/bench/vcd.md).
 import {isLess, isSame, REST, rounded, Waves} from "./levels.js";
-import {areDigits, digitsOf, LONG_TIME, MOST_TIME, withNames} from "./rows.js";
+import {areDigits, digitsOf, LONG_TIME, MOST_TIME} from "./numbers.js";
+import {withNames} from "./rows.js";
 import {LATIN} from "./sigrok.js";
-import {BLANK, Bytes, CR, isText, LF, Part, TAB} from "./text.js";
+import {BLANK, Bytes, CR, HASH, isText, LF, Part, TAB} from "./text.js";
 
 const NO_COMMAND = "wanted a command of the header, up to $enddefinitions $end";
 const BAD_TIMESCALE = "wanted a timescale of 1, 10 or 100 s, ms, us, ns, ps or fs";
@@ -22,7 +23,7 @@ const EARLY_TIME = "wanted a time that isn't before the time before it";
 const NO_LEVEL = "wanted a level, 0 or 1, and the value is none";
 const LOST_LEVEL = "wanted a level, 0 or 1, after the first one, and it is x or z";
 const CUT_DUMP = "wanted more of the dump: it is cut";
-const HASH = 35, DOLLAR = 36;
+const DOLLAR = 36;
 // How many zeros a unit has in 10^-15 of a second.
 const FEMTO_ZEROS = {
   s: 15,
@@ -135,12 +136,12 @@ const COMMANDS = {
 };
 
 // The time that the digits of a field tell, with so many zeros after them, in 10^-15 of a second; or null, where it
-// has more than 15 digits of microseconds.
+// is too late.
 function dumpTime({all, from, to}, zeros) {
   const end = Math.max(from, to - Math.max(0, 9 - zeros));
   let begin = from;
   while (begin < end && all[begin] === 48) begin++;
-  if (end - begin > 15) return null;
+  if (end - begin > 16) return null;
   const micros = Math.max(0, digitsOf(all, begin, end)) * 10 ** Math.max(0, zeros - 9);
   const part = Math.max(0, digitsOf(all, end, to)) * 10 ** zeros, tail = part % 1e6 * 3e9;
   const time = {micros, thirds: Math.floor(part / 1e6) * 3 + Math.floor(tail / REST), rest: tail % REST};
@@ -178,15 +179,13 @@ class Called {
 export class VcdImport {
   constructor(options, give) {
     const {controller, peripheral} = withNames(options);
-    this.isUpsideDown = Boolean(options.invert);
     this.part = new Part(options, give);
     this.records = new Tokens((token) => this.take(token));
     const [one, other] = this.called = [new Called(controller, ["M", "m"]), new Called(peripheral, ["S", "s"])];
     this.header = new DumpHeader((variable) => one.note(variable) ?? other.note(variable));
-    this.waves = new Waves(this.part, options.skip);
+    this.waves = new Waves(this.part, options);
     this.time = {micros: 0, thirds: 0, rest: 0};
-    this.levels = [false, false];
-    this.isKnown = [false, false];
+    this.levels = [null, null];
     this.opened = null; // the value whose code comes next
     this.isComment = false;
     this.refused = null;
@@ -238,9 +237,9 @@ export class VcdImport {
     if (!time) return this.refuse(LONG_TIME);
     if (isLess(time, this.time)) return this.refuse(EARLY_TIME, rounded(time));
     if (isSame(time, this.time)) return true;
-    const wrong = this.waves.take(this.time, this.levels);
+    this.waves.take(this.records.line, this.time, this.levels);
     this.time = time;
-    return wrong ? this.refuse(wrong.words, wrong.time, wrong.line) : true;
+    return true;
   }
 
   // Takes the change of a variable.
@@ -248,16 +247,20 @@ export class VcdImport {
     const line = isText(code, this.codes[0]) ? 0 : isText(code, this.codes[1]) ? 1 : -1;
     if (line < 0) return true;
     if (value === OTHER) return this.refuse(NO_LEVEL, rounded(this.time), line);
-    if (value === OPEN) return !this.isKnown[line] || this.refuse(LOST_LEVEL, rounded(this.time), line);
-    this.isKnown[line] = true;
-    this.levels[line] = (value === 1) !== this.isUpsideDown;
+    if (value === OPEN) return this.levels[line] === null || this.refuse(LOST_LEVEL, rounded(this.time), line);
+    this.levels[line] = (value === 1) !== this.waves.inverted[line];
     return true;
   }
 
   refuse(words, time, line) {
     const at = time === undefined ? "" : ` at ${time}`, on = line === undefined ? "" : ` on line ${"MS"[line]}`;
-    this.refused = `line ${this.records.line}${at}${on}: ${words}`;
+    this.refused = this.wrongSoFar() ?? `line ${this.records.line}${at}${on}: ${words}`;
     return false;
+  }
+
+  // What is wrong with the levels so far, or null.
+  wrongSoFar() {
+    return wrongWords(this.waves.wrong());
   }
 
   addFirst(most, add) {
@@ -270,7 +273,10 @@ export class VcdImport {
       this.refuse(CUT_DUMP);
       return;
     }
-    const wrong = this.waves.take(this.time, this.levels) ?? this.waves.end();
-    if (wrong) this.refuse(wrong.words, wrong.time, wrong.line);
+    this.waves.take(this.records.line, this.time, this.levels);
+    this.refused = wrongWords(this.waves.end(this.records.line));
   }
 }
+
+const wrongWords = (wrong) =>
+    wrong && `line ${wrong.number} at ${wrong.time} on line ${"MS"[wrong.line]}: ${wrong.words}`;

@@ -21,7 +21,7 @@ function readRange(begins, ends) {
 function readMoment(text, it) {
   const times = clockTimes(text, it);
   if (times) return times;
-  if (/^\d{5,15}$/.test(text)) return [{low: Number(text), high: Number(text) + 1}];
+  if (/^\d{5,16}$/.test(text)) return [{low: Number(text), high: Number(text) + 1}];
   const found = /^(?:(?:(\d+):)?(\d+):)?(\d+)(?:\.(\d{1,6}))?( ?s)?$/.exec(text);
   if (!found) return null;
   const [, hours, minutes, whole, part = "", unit] = found;

@@ -7,6 +7,7 @@ import {readReport} from "../checker/report.js";
 import {fillClock, tellClock} from "../clock.js";
 import {by} from "../elements.js";
 import {figures, showSum} from "../files/evidence.js";
+import {unpacked} from "../import/made.js";
 import {askToImport, recordingOf} from "../import/panel.js";
 import {beforeSection} from "../money/money.js";
 import {openDevices} from "../money/weights.js";
@@ -41,6 +42,9 @@ let lastKey = null;
 async function answerNow(isNow) {
   if (!module) await start();
   if (!isNow()) return null;
+  const given = recording ? file : await unpacked(file);
+  if (!isNow()) return null;
+  if (given !== file) choose(given);
   const rows = recording ?? await recordingOf(file);
   if (!isNow()) return null;
   if (!rows) {

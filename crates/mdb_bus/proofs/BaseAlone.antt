@@ -10,7 +10,7 @@ one_format begins levels command is =
 pub no_haste : (scope : Scope) (pieces : List Piece) (row : Event) (fault : LinkFault)
     → profile_of scope.begins ≡ Base → counted_in (haste_of scope pieces) row fault ≡ fault
 no_haste scope pieces row fault is =
-    ap (λ profile. counted_in (haste_by profile (is_in_haste scope pieces)) row fault) is
+    ap (λ profile. counted_in (haste_by profile (is_in_haste pieces)) row fault) is
 
 pub no_times : (scope : Scope) (pieces : List Piece) → profile_of scope.begins ≡ Base
     → times_of scope pieces ≡ None

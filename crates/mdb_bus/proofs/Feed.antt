@@ -1,11 +1,11 @@
 -- The bus after a row: what it stands for, and why a row is refused.
-use Rattle.mdb_bus.proofs.Words.{[], Act, act_after, act_in, ap, Asked, asked_after, Base, Bool, Command, Controller, device_of, EachStep, ended_act, Err, Event, Extended, false, fault_at, fault_of, GoesOn, HasAdvanced, haste_after, haste_by, IfErr, IfOk, if◌then◌else◌, InAsk, is_untimely, IsAt, IsEnded, IsFirstBroken, IsFirstByPlace, IsJudged, IsLinkFault, IsReadAt, IsSound, Judged, known_by, known_if, known_of, KnownOptions, Leads, Levels, levels_after, levels_by, levels_if, LinkFault, List, None, Ok, OnOk, Option, Piece, pieces_after, Place, Position, position_at, position_of, Profile, profile_of, refl, Reply, Result, Rule, situation_of, Some, StandsFor, Step, subst, sym, true, untimely_sender, wide_at, with_act, Word, ◌∙◌, ◌≡◌}
+use Rattle.mdb_bus.proofs.Words.{[], Act, act_after, act_in, ap, Asked, asked_after, awaited_after, awaited_at, Base, Bool, Command, device_of, EachStep, ended_act, Err, Event, Extended, false, fault_at, fault_of, GoesOn, HasAdvanced, haste_after, haste_by, IfErr, IfOk, InAsk, is_untimely, IsAt, IsEnded, IsFirstBroken, IsFirstByPlace, IsJudged, IsLinkFault, IsReadAt, IsSound, Judged, known_by, known_if, known_of, KnownOptions, Leads, Levels, levels_after, levels_by, levels_if, LinkFault, List, None, Ok, OnOk, Option, Piece, pieces_after, Place, Position, position_at, position_of, Profile, profile_of, refl, Reply, Result, Rule, situation_of, Some, StandsFor, Step, subst, sym, true, untimely_sender, wide_at, with_act, ◌∙◌, ◌≡◌}
 use Rattle.mdb_bus.specs.declared.bus.Bus.{Bus}
-use Rattle.mdb_bus.specs.inner.Gone.{HasGone, situation_at}
+use Rattle.mdb_bus.specs.inner.Gone.{HasGone, KeepsAwaited, situation_at}
 use Rattle.mdb_bus.specs.declared.act.Act.TheVariants as acts
 use Rattle.mdb_bus.specs.shared.Step as step
 use Rattle.mdb_bus.specs.declared.judged.Judged.TheVariants as judged
-use Rattle.mdb_bus.proofs.GrownTimes.{haste_on, untimely_by_step}
+use Rattle.mdb_bus.proofs.GrownTimes.{awaited_by_step, awaited_on, haste_on, none_in_time, untimely_by_step}
 use Rattle.mdb_bus.proofs.Decided.{by_place}
 use Rattle.mdb_bus.proofs.EachSteps.{each_break, leads_of, some_each}
 use Rattle.mdb_bus.proofs.Forward.{break_after, forward, leads_at}
@@ -49,37 +49,63 @@ known_more before None acts = refl
 known_more before (Some act) acts = refl
 
 -- by the base profile there is no haste, however it goes on
-haste_again : (profile : Profile) (position : Position) (from : Option Event) (row : Event)
-    (haste : Bool) → haste_by profile (haste_after position from row (haste_by profile haste))
-    ≡ haste_by profile (haste_after position from row haste)
-haste_again Base position from row haste = refl
-haste_again Extended position from row haste = refl
+haste_again : (profile : Profile) (awaited : Bool) (from : Option Event) (row : Event)
+    (haste : Bool) → haste_by profile (haste_after awaited from row (haste_by profile haste))
+    ≡ haste_by profile (haste_after awaited from row haste)
+haste_again Base awaited from row haste = refl
+haste_again Extended awaited from row haste = refl
 
--- a row in its time leaves no haste where there is none
-pub no_haste : (profile : Profile) (position : Position) (from : Option Event) (row : Event)
-    (haste : Bool) → haste ≡ false → is_untimely position from row ≡ false
-    → haste ≡ haste_by profile (haste_after position from row haste)
-no_haste Base position from row haste none timely = none
-no_haste Extended position from row haste none timely =
-    rw none (sym (after position row timely))
+-- whether the controller is in haste after a row of a bus
+abbrev haste_next : Bus → Event → Bool
+haste_next bus row =
+    haste_by (profile_of bus.scope.begins) (haste_after
+    (awaited_at (position_at bus.place) bus.awaited) bus.last row bus.haste)
+
+-- a row in its time leaves no haste where there is none, and where no foreign answer is awaited
+pub no_haste : (bus : Bus) (row : Event) (next : Step) → bus.haste ≡ false → bus.awaited ≡ false
+    → is_untimely (position_at bus.place) bus.last row ≡ false → Leads (situation_at bus) row next
+    → bus.haste ≡ haste_next bus row
+no_haste bus row next none nothing timely leads =
+    rw (none, nothing) (by (profile_of bus.scope.begins)
+    (none_in_time (situation_at bus) row next timely leads))
   where
-    either : (low early : Bool) → early ≡ false → (if low then false else early) ≡ false
-    either true early is = refl
-    either false early is = is
+    by : (profile : Profile) {haste : Bool} → haste ≡ false → false ≡ haste_by profile haste
+    by Base is = refl
+    by Extended is = sym is
 
-    after : (position : Position) (row : Event) → is_untimely position from row ≡ false
-        → haste_after position from row false ≡ false
-    after (Asked command) (Word at Controller word) timely = search either
-    after position (Word at Controller word) timely = search either
-    after position row timely = refl
+-- a bus that forgets what isn't asked of it goes on as before
+pub forgets : (bus : Bus) (awaited : Bool) (pieces : List Piece) (row : Event) (act : Option Act)
+    → awaited_at (position_at bus.place) awaited ≡ awaited_at (position_at bus.place) bus.awaited
+    → GoesOn bus pieces row act → GoesOn (record bus { awaited = awaited }) pieces row act
+forgets bus awaited pieces row act same goes = record {
+  longer = goes.longer;
+  stands = record {
+    in_order = goes.stands.in_order;
+    position = goes.stands.position;
+    last = goes.stands.last;
+    levels = goes.stands.levels;
+    options = goes.stands.options;
+    asked = goes.stands.asked;
+    awaited = goes.stands.awaited ∙ sym same;
+    haste = goes.stands.haste;
+  };
+  rows = goes.rows;
+  acts = goes.acts;
+  grown = goes.grown;
+  untimely = goes.untimely;
+}
 
 module _ (old new : Bus) (haste : Bool) (pieces : List Piece) (row : Event)
-    (stands : StandsFor old pieces) (hastens : haste ≡ haste_by (profile_of old.scope.begins)
-    (haste_after (position_at old.place) old.last row old.haste)) where
-  -- the bus stands for one row more, once its haste is told
-  stands_by : (next : Step) (act : Option Act) → Leads (situation_at old) row next
+    (stands : StandsFor old pieces)
+    (hastens : (next : Step) → Leads (situation_at old) row next → haste ≡ haste_next old row) where
+  -- the bus once haste is told
+  abbrev Told : Bus
+  Told = record new { haste = haste }
+
+  -- it stands for one row more, by a step
+  pub stands_by : (next : Step) (act : Option Act) → Leads (situation_at old) row next
       → (IsAt (position_at old.place) next → HasGone old next row new act)
-      → GoesOn (record new { haste = haste }) pieces row act
+      → GoesOn Told pieces row act
   stands_by next act leads gone =
       let went : HasGone old next row new act = gone (leads_at (situation_at old) row next leads) in
       let there : Leads (situation_of old.scope pieces) row next =
@@ -97,14 +123,18 @@ module _ (old new : Bus) (haste : Bool) (pieces : List Piece) (row : Event)
           options = rw (went.scope, more.acts, ended, known_more, stands.options)
               (sym went.options);
           asked = rw (more.asked, stands.asked) (sym went.asked);
+          awaited = rw (more.rows, awaited_on, stands.awaited)
+              (awaited_by_step (situation_at old) row next old.awaited new.awaited leads
+              went.awaited ∙ ap (λ p. awaited_at p new.awaited) (sym went.advanced.position));
           haste = rw (
             went.scope,
-            haste_on old.scope pieces row next _ stands.in_order there more.grown,
+            more.rows,
+            haste_on,
             ← haste_again (profile_of old.scope.begins),
             stands.haste,
-            stands.position,
+            stands.awaited,
             stands.last,
-          ) (sym hastens);
+          ) (sym (hastens next leads));
         };
         rows = more.rows;
         acts = rw ended at more.acts;
@@ -117,7 +147,7 @@ module _ (old new : Bus) (haste : Bool) (pieces : List Piece) (row : Event)
   pub stands_on : (found : Judged) (act : Option Act) → (found ≡ judged.Reply → ⊥)
       → IsJudged (situation_at old) row (Ok found)
       → EachStep found row (λ next. IsAt (position_at old.place) next
-      → HasGone old next row new act) → GoesOn (record new { haste = haste }) pieces row act
+      → HasGone old next row new act) → GoesOn Told pieces row act
   stands_on found act other judged gone =
       let both = some_each found row (Leads (situation_at old) row)
       (λ next. IsAt (position_at old.place) next → HasGone old next row new act)
@@ -129,7 +159,7 @@ module _ (old new : Bus) (haste : Bool) (pieces : List Piece) (row : Event)
       → IfOk result (λ ends. (reply : Reply)
       × IsReadAt old.scope.begins (position_at old.place) old.levels (Ok reply)
       × HasGone old (step.Reply reply) row new (ended_act ends act))
-      → IfOk result (λ ends. GoesOn (record new { haste = haste }) pieces row (ended_act ends act))
+      → IfOk result (λ ends. GoesOn Told pieces row (ended_act ends act))
   read_goes_on act (Ok ends) ended h =
       stands_by (step.Reply h.0) (ended_act ends act) (ended (Ok h.0) h.1) (λ _. h.2)
   read_goes_on act (Err broken) ended h = tt
@@ -181,6 +211,11 @@ tells_none profile at next levels known idle = search
 
 module _ (old new : Bus) (row : Event) (scope : new.scope ≡ old.scope) (last : new.last ≡ Some row)
   where
+    abbrev Keeps : Step → Type 0
+    Keeps next =
+        KeepsAwaited next (awaited_after row (awaited_at (position_at old.place) old.awaited))
+        new.awaited
+
     abbrev At : Position
     At = position_at old.place
 
@@ -197,9 +232,9 @@ module _ (old new : Bus) (row : Event) (scope : new.scope ≡ old.scope) (last :
         → (act ≡ told → new.levels ≡ levels_by (profile_of old.scope.begins) told old.levels)
         → (act ≡ told → new.options ≡ known_by told old.options)
         → (act ≡ told → new.asked ≡ asked_after old.asked next)
-        → HasAdvanced At next (position_at new.place) (ended_act ended act)
+        → Keeps next → HasAdvanced At next (position_at new.place) (ended_act ended act)
         → HasGone old next row new (ended_act ended act)
-    gone_by next ended act told ends levels options asked advanced =
+    gone_by next ended act told ends levels options asked keeps advanced =
         let is = advanced.act ∙ ends in
         let same = ended_is ended act told is in
         record {
@@ -209,6 +244,7 @@ module _ (old new : Bus) (row : Event) (scope : new.scope ≡ old.scope) (last :
           levels = rw is (levels same);
           options = rw is (options same);
           asked = asked same;
+          awaited = keeps;
         }
 
     -- an ask
@@ -221,7 +257,7 @@ module _ (old new : Bus) (row : Event) (scope : new.scope ≡ old.scope) (last :
     gone_ask found place ended act is there options levels asked advanced =
         rw is (λ command at.
         gone_by (step.Ask command) ended act (acts.Ask command) (asks At command at)
-        (levels command) (λ same. options) (asked command)
+        (levels command) (λ same. options) (asked command) tt
         (rw there ((rw is at advanced) command at)))
 
     module _ (levels : new.levels ≡ old.levels) where
@@ -233,7 +269,7 @@ module _ (old new : Bus) (row : Event) (scope : new.scope ≡ old.scope) (last :
           rw is (λ at.
           let told = acked At at in
           gone_by step.Ack ended act (acts.Ack told.0) told.1 (λ same. levels)
-          (λ same. rw same at options) (λ same. asked) ((rw is at advanced) at))
+          (λ same. rw same at options) (λ same. asked) tt ((rw is at advanced) at))
 
       -- a break
       pub gone_break : (found : Judged) (ended : Bool) (act : Act) → found ≡ judged.Break
@@ -243,15 +279,15 @@ module _ (old new : Bus) (row : Event) (scope : new.scope ≡ old.scope) (last :
           each_break found row _ is (λ start length there at.
           gone_by (step.Break length) ended act (acts.Break length)
           (ap (λ (p : List Event → Piece). act_in (p [])) (break_after old.scope At length))
-          (λ same. levels) (λ same. rw same at options) (λ same. asked)
+          (λ same. levels) (λ same. rw same at options) (λ same. asked) tt
           ((rw (is, there) at advanced) at))
 
       module _ (options : new.options ≡ old.options) where
         -- by a step that ends none of these
         gone_idle : (next : Step) (act : Option Act) → IsIdle next
-            → new.asked ≡ asked_after old.asked next
+            → new.asked ≡ asked_after old.asked next → Keeps next
             → HasAdvanced At next (position_at new.place) act → HasGone old next row new act
-        gone_idle next act idle asked advanced =
+        gone_idle next act idle asked keeps advanced =
             let none = tells_none (profile_of old.scope.begins) At next old.levels old.options idle
             in record {
               scope = scope;
@@ -260,13 +296,14 @@ module _ (old new : Bus) (row : Event) (scope : new.scope ≡ old.scope) (last :
               levels = rw (advanced.act, none.0) levels;
               options = rw (advanced.act, none.1) options;
               asked = asked;
+              awaited = keeps;
             }
 
         -- a foreign word
-        pub gone_foreign : (found : Judged) (act : Option Act) → found ≡ judged.Foreign
-            → new.asked ≡ None → Advances new.place found act → Goes found act
-        gone_foreign found act is asked advanced =
-            rw is (λ at. gone_idle step.Foreign act tt asked ((rw is at advanced) at))
+        pub gone_foreign : (act : Option Act) → new.asked ≡ None → Keeps step.Foreign
+            → HasAdvanced At step.Foreign (position_at new.place) act
+            → HasGone old step.Foreign row new act
+        gone_foreign act asked keeps advanced = gone_idle step.Foreign act tt asked keeps advanced
 
         -- another step, after which the device that was asked is the same
         pub gone_on : (found : Judged) (act : Option Act) → (found ≡ judged.Ask → ⊥)
@@ -278,4 +315,4 @@ module _ (old new : Bus) (row : Event) (scope : new.scope ≡ old.scope) (last :
         gone_on judged.Break act ask ack foreign pause asked advanced = absurd (pause refl)
         gone_on judged.Reply act ask ack foreign pause asked advanced = tt
         gone_on found act ask ack foreign pause asked advanced =
-            λ at. gone_idle _ act tt asked (advanced at)
+            λ at. gone_idle _ act tt asked tt (advanced at)

@@ -1,13 +1,16 @@
 -- Haste, and the rows out of their time, after one row more.
+use Rattle.std.specs.Prelude.{nat_lt}
 use Rattle.std.proofs.Math.Nat.{add-zero, add_assoc}
-use Rattle.mdb_bus.proofs.Words.{[], Act, ap, ArePieces, arith, asked_device, AskTail, Base, Blame, block_most, Bool, Break, came_early, Controller, controller_words, Device, Event, events_of, false, far_apart, Grown, haste_after, haste_with, if◌then◌else◌, InAsk, inl, inr, is_in_haste, is_past, is_untimely, IsSaid, IsTail, last_of, Leads, left_by, Line, List, lt-ltb, None, Option, Peripheral, Piece, piece_events, pieces_after, Position, position_of, refl, RepeatTail, ReplyTail, Say, Scope, sender_by, situation_of, Some, Step, subst, sym, true, untimely_of, untimely_sender, Whole, with_rows, with_sender, with_untimely, Word, ℕ, ◌++◌, ◌+◌, ◌<◌, ◌∙◌, ◌∷◌, ◌≡◌, ◌≢◌}
+use Rattle.std.proofs.lemmas.Bool.{le-ltb}
+use Rattle.mdb_bus.proofs.Words.{[], Act, ap, ArePieces, arith, asked_device, AskTail, Asked, awaited_after, awaited_at, awaited_from, Base, Blame, block_most, Bool, Break, Controller, controller_words, Device, Event, events_of, false, far_apart, Grown, haste_after, GoesOnAsking, haste_from, if◌then◌else◌, InAsk, InForeign, inl, inr, Levels, is_past, is_untimely, IsSaid, IsTail, last_of, Leads, left_by, Line, List, lt-ltb, NEW_BLOCK_GAP_MIN, None, Option, Peripheral, Piece, piece_events, pieces_after, Position, position_after, position_of, Quiet, refl, RepeatTail, Replied, ReplyTail, Returned, Say, Scope, sender_by, Situation, situation_of, Some, Step, subst, sym, true, untimely_of, untimely_sender, with_rows, with_sender, with_untimely, Word, WordLeads, ℕ, ◌++◌, ◌+◌, ◌<◌, ◌∙◌, ◌∷◌, ◌≡◌, ◌≢◌}
 use Rattle.mdb_bus.specs.declared.untimely.Untimely.{Untimely}
-use Rattle.mdb_bus.specs.declared.act.Act.TheVariants as acts
+use Rattle.mdb_bus.specs.inner.Gone.{KeepsAwaited}
+use Rattle.mdb_bus.specs.ExtendedHaste.{is_before}
 use Rattle.mdb_bus.specs.declared.fault.Blame.TheVariants as blame
 use Rattle.mdb_bus.specs.shared.Step as step
-use Rattle.mdb_bus.proofs.Sound.{rest_last, piece_some}
+use Rattle.mdb_bus.proofs.Sound.{rest_last}
 use Rattle.mdb_bus.proofs.Lists.{heard}
-use Rattle.mdb_bus.proofs.Forward.{no_effect}
+use Rattle.mdb_bus.proofs.Forward.{break_after, no_effect}
 
 -- who says a word says the first word of its side
 sender_of : (line : Line) (at word : ℕ) (words : List ℕ) (first : Event) (others : List Event)
@@ -26,21 +29,127 @@ GoesOnWith (ReplyTail command bytes events) (Word at Peripheral word) = Unit {0}
 GoesOnWith (RepeatTail command reply words events) (Word at Peripheral word) = Unit {0}
 GoesOnWith piece row = ⊥
 
--- such a word leaves haste
-haste_stays : (tail : Piece) (from : Option Event) (row : Event) (haste : Bool)
-    → GoesOnWith tail row → haste_after (left_by tail) from row haste ≡ haste
-haste_stays (AskTail bytes events) from (Word at Controller word) haste low =
-    ap (λ b. if b then haste else came_early (InAsk bytes) from (Word at Controller word))
-    (lt-ltb word 256 low)
-haste_stays tail from (Word at Peripheral word) haste goes = search
-haste_stays tail from row haste goes = search
+-- what is awaited after rows and one more
+pub awaited_on : (before : Bool) (rows : List Event) (row : Event)
+    → awaited_from before (rows ++ row ∷ []) ≡ awaited_after row (awaited_from before rows)
+awaited_on before [] row = refl
+awaited_on before (first ∷ rows) row = awaited_on (awaited_after first before) rows row
 
--- haste after a piece is told by its first row alone
-with_more : (position : Position) (from : Option Event) (events : List Event) (row : Event)
-    (haste : Bool) → events ≢ []
-    → haste_with position from (events ++ row ∷ []) haste ≡ haste_with position from events haste
-with_more position from [] row haste some = absurd (some refl)
-with_more position from (first ∷ others) row haste some = refl
+-- and haste
+haste_more : (awaited : Bool) (from : Option Event) (before : Bool) (first : Event)
+    (rows : List Event) (row : Event) → haste_from awaited from before (first ∷ rows ++ row ∷ [])
+    ≡ haste_after (awaited_from awaited (first ∷ rows)) (last_of (first ∷ rows)) row
+    (haste_from awaited from before (first ∷ rows))
+haste_more awaited from before first [] row = refl
+haste_more awaited from before first (next ∷ rows) row =
+    haste_more (awaited_after first awaited) (Some first) (haste_after awaited from first before)
+    next rows row
+
+pub haste_on : (rows : List Event) (row : Event) → haste_from false None false (rows ++ row ∷ [])
+    ≡ haste_after (awaited_from false rows) (last_of rows) row (haste_from false None false rows)
+haste_on [] row = refl
+haste_on (first ∷ rows) row = haste_more false None false first rows row
+
+-- a marked word of the controller begins a block, to which an answer is awaited
+marked : (word byte : ℕ) (before : Bool) → word ≡ 256 + byte
+    → (if nat_lt word 256 then before else true) ≡ true
+marked word byte before is =
+    ap (λ b. if b then before else true) (le-ltb word 256 (omega (arith, is)))
+
+-- so it is in any case where one was awaited before
+either : (low : Bool) → (if low then true else true) ≡ true
+either true = refl
+either false = refl
+
+-- where a step into foreign traffic leads
+foreign_after : (position : Position) → position_after position step.Foreign ≡ InForeign
+foreign_after (InAsk bytes) = refl
+foreign_after position = refl
+
+-- whether an answer is awaited after a word that leads to another step is told by where it leads
+awaited_by_word : (scope : Scope) (position : Position) (from : Option Event) (levels : Levels)
+    (at : ℕ) (line : Line) (word : ℕ) (next : Step) (foreign kept : Bool)
+    → WordLeads scope position from levels (Word at line word) line word next
+    → KeepsAwaited next (awaited_after (Word at line word) (awaited_at position foreign)) kept
+    → awaited_after (Word at line word) (awaited_at position foreign)
+    ≡ awaited_at (position_after position next) kept
+awaited_by_word scope position from levels at line word step.Foreign foreign kept leads keeps =
+    rw (foreign_after position) (sym keeps)
+awaited_by_word scope (InAsk bytes) from levels at Controller word next foreign kept leads keeps =
+    search (either)
+awaited_by_word scope (Asked command) from levels at Controller word (step.AskByte byte) foreign
+    kept leads keeps = either (nat_lt word 256)
+awaited_by_word scope (Returned command reply) from levels at Controller word (step.AskByte byte)
+    foreign kept leads keeps = either (nat_lt word 256)
+awaited_by_word scope Quiet from levels at Controller word (step.AskByte byte) foreign kept leads
+    keeps = marked word byte _ leads.0
+awaited_by_word scope (Replied command reply) from levels at Controller word (step.AskByte byte)
+    foreign kept leads keeps = marked word byte _ leads.0
+awaited_by_word scope (Replied command reply) from levels at Controller word step.VmcAck foreign
+    kept leads keeps = rw leads.0
+awaited_by_word scope (Replied command reply) from levels at Controller word step.VmcNak foreign
+    kept leads keeps = rw leads.0
+awaited_by_word scope (Replied command reply) from levels at Controller word step.VmcRet foreign
+    kept leads keeps = rw leads.0
+awaited_by_word scope InForeign from levels at Controller word (step.AskByte byte) foreign kept
+    (inl leads) keeps = marked word byte _ leads.0
+awaited_by_word scope InForeign from levels at Controller word next foreign kept (inl leads) keeps =
+    search
+awaited_by_word scope InForeign from levels at Controller word next foreign kept (inr leads) keeps =
+    search
+awaited_by_word scope position from levels at Controller word next foreign kept leads keeps = search
+awaited_by_word scope (InAsk bytes) from levels at Peripheral word next foreign kept leads keeps =
+    absurd leads
+awaited_by_word scope position from levels at Peripheral word next foreign kept leads keeps = search
+
+-- and so after a break
+pub awaited_by_step : (s : Situation) (row : Event) (next : Step) (foreign kept : Bool)
+    → Leads s row next
+    → KeepsAwaited next (awaited_after row (awaited_at s.position foreign)) kept
+    → awaited_after row (awaited_at s.position foreign)
+    ≡ awaited_at (position_after s.position next) kept
+awaited_by_step s (Word at line word) next foreign kept leads keeps =
+    awaited_by_word s.scope s.position s.last s.levels at line word next foreign kept leads keeps
+awaited_by_step s (Break at length) (step.Break lasted) foreign kept leads keeps =
+    rw (break_after s.scope s.position lasted)
+awaited_by_step s (Break at length) next foreign kept leads keeps = absurd leads
+
+-- a word that isn't early leaves no haste
+not_early : (low : Bool) {early : Bool} → early ≡ false → (if low then false else early) ≡ false
+not_early true is = refl
+not_early false is = is
+
+-- a word in its time leaves no haste where there is none, and where no foreign answer is awaited
+none_by_word : (scope : Scope) (position : Position) (from : Option Event) (levels : Levels)
+    (at : ℕ) (line : Line) (word : ℕ) (next : Step)
+    → is_untimely position from (Word at line word) ≡ false
+    → WordLeads scope position from levels (Word at line word) line word next
+    → haste_after (awaited_at position false) from (Word at line word) false ≡ false
+none_by_word scope (InAsk bytes) from levels at Controller word next timely leads =
+    ap (λ b. if b then false else is_before NEW_BLOCK_GAP_MIN from (Word at Controller word))
+    (lt-ltb word 256 (low next leads))
+  where
+    low : (next : Step) → GoesOnAsking scope bytes from (Word at Controller word) word next
+        → word < 256
+    low (step.AskByte byte) goes = goes.1
+    low (step.Ask command) goes = goes.0
+    low step.Foreign goes = goes.0
+    low next goes = absurd goes
+none_by_word scope (Asked command) from levels at Controller word next timely leads =
+    not_early (nat_lt word 256) timely
+none_by_word scope (Returned command reply) from levels at Controller word next timely leads =
+    not_early (nat_lt word 256) timely
+none_by_word scope position from levels at Controller word next timely leads =
+    not_early (nat_lt word 256) refl
+none_by_word scope position from levels at Peripheral word next timely leads = refl
+
+-- and so after a break
+pub none_in_time : (s : Situation) (row : Event) (next : Step)
+    → is_untimely s.position s.last row ≡ false → Leads s row next
+    → haste_after (awaited_at s.position false) s.last row false ≡ false
+none_in_time s (Word at line word) next timely leads =
+    none_by_word s.scope s.position s.last s.levels at line word next timely leads
+none_in_time s (Break at length) next timely leads = refl
 
 -- rows of a sender add up
 adds_up : (more some : ℕ) (sender : Blame) (counts : Untimely)
@@ -97,47 +206,6 @@ module _ (scope : Scope) where
   goes_on tail earlier at Controller word next open_end leads = search
   goes_on tail earlier at line word next open_end leads = search
 
-  -- what is told of grown pieces by the rows of the newest: of one, and of a tail's with one more
-  by_rows : {X : Type 0} (With : List Piece → List Event → X) (After : List Piece → X)
-      (pieces : List Piece) (row : Event) (next : Step) (act : Option Act) → ArePieces scope pieces
-      → Leads (situation_of scope pieces) row next
-      → (g : Grown pieces row act (pieces_after scope pieces row next))
-      → With pieces (row ∷ []) ≡ After pieces
-      → ((tail : Piece) (earlier : List Piece) → ArePieces scope (tail ∷ earlier) → IsTail tail
-      → GoesOnWith tail row → With earlier (piece_events tail ++ row ∷ []) ≡ After (tail ∷ earlier))
-      → With g.earlier (piece_events g.newest) ≡ After pieces
-  by_rows With After pieces (Break at length) (step.Break lasted) act are leads g alone more =
-      let same : pieces ≡ g.earlier = cc (g.are) in
-      let new : Whole (acts.Break lasted) (Break at length ∷ []) ≡ g.newest = cc (g.are) in
-      subst (λ ps. With ps (piece_events g.newest) ≡ After pieces) same (rw (← new) alone)
-  by_rows With After pieces (Break at length) next act are leads g alone more = absurd leads
-  by_rows With After pieces (Word at line word) next act are leads g alone more =
-      ap (With g.earlier) g.events ∙ (elim g.from [
-        | inl (none, same) ↦ rw (none, ← same) alone
-        | inr (tail, open_end, is, same) ↦
-            let goes = goes_on tail g.earlier at line word next open_end
-            (subst (λ ps. Leads (situation_of scope ps) (Word at line word) next) same leads) in
-            rw (← is) (more tail g.earlier (subst (ArePieces scope) same are) open_end goes)
-            ∙ ap After (sym same)
-      ])
-
-  -- haste after a row
-  pub haste_on : (pieces : List Piece) (row : Event) (next : Step) (act : Option Act)
-      → ArePieces scope pieces → Leads (situation_of scope pieces) row next
-      → Grown pieces row act (pieces_after scope pieces row next)
-      → is_in_haste scope (pieces_after scope pieces row next)
-      ≡ haste_after (position_of scope pieces) (Last pieces) row (is_in_haste scope pieces)
-  haste_on pieces row next act are leads g =
-      ap (is_in_haste scope) g.are
-      ∙ by_rows (λ earlier events. haste_with (position_of scope earlier) (Last earlier) events
-      (is_in_haste scope earlier)) (λ ps. haste_after (position_of scope ps) (Last ps) row
-      (is_in_haste scope ps)) pieces row next act are leads g refl
-      (λ tail earlier its open_end goes.
-      with_more (position_of scope earlier) (Last earlier) (piece_events tail) row
-      (is_in_haste scope earlier) (piece_some scope earlier tail its.1)
-      ∙ sym (haste_stays tail (Last (tail ∷ earlier)) row (is_in_haste scope (tail ∷ earlier))
-      goes))
-
   -- who sent the first word of a tail sent the word that goes on with it
   same_sender : (tail : Piece) (row first : Event) (others : List Event) (asked : Option Device)
       → IsSaid scope tail → piece_events tail ≡ first ∷ others → GoesOnWith tail row
@@ -150,12 +218,19 @@ module _ (scope : Scope) where
       said is goes = sender_of Peripheral at word words first others asked (rw is at said.1)
   same_sender tail row first others asked said is goes = absurd goes
 
+  -- the rows out of their time, by those of the newest piece, and after one row more
+  abbrev By : List Piece → List Event → Untimely
+  By earlier events =
+      with_rows (position_of scope earlier) (Last earlier) (asked_device earlier) events
+      (untimely_of scope earlier)
+
+  abbrev After : Event → List Piece → Untimely
+  After row pieces = with_sender (untimely_sender scope pieces row) (untimely_of scope pieces)
+
   -- a tail with a row more
   more_rows : (tail : Piece) (earlier : List Piece) (row : Event) → ArePieces scope (tail ∷ earlier)
-      → IsTail tail → GoesOnWith tail row → with_rows (position_of scope earlier) (Last earlier)
-      (asked_device earlier) (piece_events tail ++ row ∷ [])
-      (untimely_of scope earlier) ≡ with_sender (untimely_sender scope (tail ∷ earlier) row)
-      (untimely_of scope (tail ∷ earlier))
+      → IsTail tail → GoesOnWith tail row
+      → By earlier (piece_events tail ++ row ∷ []) ≡ After row (tail ∷ earlier)
   more_rows tail earlier row are open_end goes =
       let first = are.1.first in
       let others = are.1.others in
@@ -172,18 +247,28 @@ module _ (scope : Scope) where
       (sender_by asked first) (untimely_of scope earlier)
       (far_more (first ∷ others) row (λ none. cc)))
 
+  -- a row alone
+  one_row : (pieces : List Piece) (row : Event) → By pieces (row ∷ []) ≡ After row pieces
+  one_row pieces row =
+      rw add-zero (adds_one (is_untimely (position_of scope pieces) (Last pieces) row)
+      (sender_by (asked_device pieces) row) (untimely_of scope pieces))
+
   -- the rows out of their time after one row more
   pub untimely_by_step : (pieces : List Piece) (row : Event) (next : Step) (act : Option Act)
       → ArePieces scope pieces → Leads (situation_of scope pieces) row next
       → Grown pieces row act (pieces_after scope pieces row next)
-      → untimely_of scope (pieces_after scope pieces row next)
-      ≡ with_sender (untimely_sender scope pieces row) (untimely_of scope pieces)
-  untimely_by_step pieces row next act are leads g =
-      ap (untimely_of scope) g.are
-      ∙ by_rows (λ earlier events. with_rows (position_of scope earlier) (Last earlier)
-      (asked_device earlier) events (untimely_of scope earlier))
-      (λ ps. with_sender (untimely_sender scope ps row) (untimely_of scope ps))
-      pieces row next act are leads g
-      (rw add-zero (adds_one (is_untimely (position_of scope pieces) (Last pieces) row)
-      (sender_by (asked_device pieces) row) (untimely_of scope pieces)))
-      (λ tail earlier its. more_rows tail earlier row its)
+      → untimely_of scope (pieces_after scope pieces row next) ≡ After row pieces
+  untimely_by_step pieces (Break at length) (step.Break lasted) act are leads g =
+      one_row pieces (Break at length)
+  untimely_by_step pieces (Break at length) next act are leads g = absurd leads
+  untimely_by_step pieces (Word at line word) next act are leads g =
+      ap (untimely_of scope) g.are ∙ ap (By g.earlier) g.events ∙ (elim g.from [
+        | inl (none, same) ↦ rw none (subst (λ ps. By ps (Word at line word ∷ [])
+            ≡ After (Word at line word) pieces) same (one_row pieces (Word at line word)))
+        | inr (tail, open_end, is, same) ↦
+            let goes = goes_on tail g.earlier at line word next open_end
+            (subst (λ ps. Leads (situation_of scope ps) (Word at line word) next) same leads) in
+            rw (← is) (more_rows tail g.earlier (Word at line word)
+            (subst (ArePieces scope) same are) open_end goes)
+            ∙ ap (After (Word at line word)) (sym same)
+      ])

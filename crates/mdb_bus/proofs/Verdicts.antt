@@ -1,11 +1,11 @@
 -- What is made of a word, position by position.
 use Rattle.std.proofs.lemmas.Option.{slice_get-get_or, slice_get_past}
 use Rattle.mdb_bus.proofs.Words.{[], All, All-append, All-from_get_or, All-from_recursion, and_right, answer_byte, answer_most, ap, append_assoc, arith, Asked, Base, begins_options, Belongs, block_most, block_of, Bool, BytesHaveOneFault, cases_Bool, Command, command_bytes, Controller, Counts, Covers, drop, EnablesMore, Err, Event, Exactly, Extended, false, Fits, Foreign, format_for, FrontIsOpen, get_or, HasCommand, HasFault, IfOk, InAsk, InBlockTime, inl, inr, InReply, is_enable_options, is_past, is_untimely, IsAskFront, IsBefore, IsByte, IsCommandFront, IsFirstByPlace, IsGoingOn, IsJudged, IsJudgedBy, IsOpen, IsOpened, IsPast, IsRead, IsRepeatFront, IsReplyEnd, IsSettled, IsShort, IsTimely, IsTrue, IsUnknownExpansion, Judged, leaves_options, LeavesProfile, length, length-append, length-drop, Levels, List, More, MsgFault, Need, needed, needed_by, needed_in, nil_from_length, None, NotBefore, NotPast, Ok, OnOk, OpenIsAnothersFront, Option, OutOfOrder, Outside, Peripheral, peripheral_words, place_of, Position, Profile, profile_of, refl, Reply, reply_words, ReplyHasNoFault, Result, RowBreaks, Rule, rules, same_from_push, Scope, Situation, slice_get, slice_index, Some, Spells, suc, sum, sym, take, true, w8, Word, WORD_GAP_MIN, WrongLength, zero, ℕ, ◌%◌, ◌&&◌, ◌++◌, ◌+◌, ◌<◌, ◌↔◌, ◌∙◌, ◌∷◌, ◌≡◌, ◌≢◌, ◌≤◌, ◌⊎◌}
-use Rattle.mdb_blocks.specs.declared.answer.Answer.{Answer}
+use Rattle.mdb_words.specs.declared.answer.Answer.{Answer}
 use Rattle.mdb_msgs.specs.Answers.{HasDataAnswer}
 use Rattle.mdb_msgs.specs.Laws.{OpenIsAFront}
 use Rattle.mdb_bus.specs.declared.phase.Phase.{Phase}
-use Rattle.mdb_blocks.specs.declared.answer.Answer.TheVariants as answers
+use Rattle.mdb_words.specs.declared.answer.Answer.TheVariants as answers
 use Rattle.mdb_msgs.specs.declared.fault.MsgFault.TheVariants as reading
 use Rattle.mdb_bus.specs.declared.fault.Rule.TheVariants as rule
 use Rattle.mdb_bus.specs.declared.judged.Judged.TheVariants as judged

@@ -9,8 +9,8 @@ pub use Rattle.mdb_words.specs.declared.event.Event.TheVariants.{Break, Word}
 pub use Rattle.mdb_words.specs.declared.limits.TheConstants.{NEW_BLOCK_GAP_MIN, WORD_GAP_MIN}
 pub use Rattle.mdb_words.specs.declared.word.Line.{Line}
 pub use Rattle.mdb_words.specs.declared.word.Line.TheVariants.{Controller, Peripheral}
-pub use Rattle.mdb_blocks.specs.Answer.{answer_byte, answer_word}
-pub use Rattle.mdb_blocks.specs.Block.{block_of, controller_words, peripheral_words}
+pub use Rattle.mdb_words.specs.Answer.{answer_byte, answer_word}
+pub use Rattle.mdb_words.specs.Block.{block_of, controller_words, peripheral_words}
 pub use Rattle.mdb_msgs.proofs.CommandBytes.{spelled_low}
 pub use Rattle.mdb_msgs.specs.Commands.{command_bytes, device_of, EnablesMore, is_enable_options, IsByte, Spells}
 pub use Rattle.mdb_msgs.specs.DeviceSets.{has}
@@ -30,10 +30,10 @@ pub use Rattle.mdb_msgs.specs.declared.reading.Reading.{Reading}
 pub use Rattle.mdb_msgs.specs.declared.reply.Reply.{Reply}
 pub use Rattle.mdb_bus.specs.ActLists.{acts_of, ArePieces, AreSpaced, Asked, AskTail, BlockMayCome, BreakMayCome, events_of, first_position, ForeignMayCome, InAnswerTime, InAsk, InBlockTime, InForeign, InRepeat, InReply, IsActList, IsAskFront, IsInProfile, IsPiece, IsRepeatFront, IsReplyFront, IsSaid, last_of, left_by, left_open, levels_after, levels_by, levels_of, MayCome, MayStand, NotBefore, NotPast, Piece, piece_events, PieceFits, Position, position_of, Quiet, RepeatTail, Replied, ReplyFits, ReplyTail, Returned, Whole}
 pub use Rattle.mdb_bus.specs.Acts.{command_words, IsAck, IsBlockWord, IsForeign, IsForeignOpening, IsForeignWord, IsReply, reply_words, said_by, Say}
-pub use Rattle.mdb_bus.specs.Bus.{ended_act, GoesOn, Grown, position_at, StandsFor}
+pub use Rattle.mdb_bus.specs.Bus.{awaited_at, ended_act, GoesOn, Grown, position_at, StandsFor}
 pub use Rattle.mdb_bus.specs.ExtendedCounts.{counts, is_refusal, may_restart, what_counts}
 pub use Rattle.mdb_bus.specs.ExtendedFormats.{AreSome, HasOpenFault, HaveFaults, IsFirst, IsInSome, IsReadOpen, long, readings, short, untold_format}
-pub use Rattle.mdb_bus.specs.ExtendedHaste.{came_early, counted_in, haste_after, haste_by, haste_of, haste_with, is_excused, is_in_haste}
+pub use Rattle.mdb_bus.specs.ExtendedHaste.{awaited_after, awaited_from, counted_in, haste_after, haste_by, haste_from, haste_of, is_excused, is_in_haste}
 pub use Rattle.mdb_bus.specs.ExtendedMoney.{all_known, amounts_to, asked_with_amounts, counted_as, first_known, is_wide, known_after, known_by, known_if, known_of, reader_asked, refuses, wide_at, wide_of}
 pub use Rattle.mdb_bus.specs.ExtendedTimes.{counted_for, far_apart, is_past, is_untimely, sender_by, times_of, untimely_of, untimely_sender, with_rows, with_sender, with_untimely}
 pub use Rattle.mdb_bus.specs.Formats.{format_by, format_for, HasFault, IsReadAs, levels_for}

@@ -5,10 +5,10 @@ use Rattle.mdb_words.specs.declared.event.Event.{Event}
 use Rattle.mdb_words.specs.declared.event.Event.TheVariants.{Word, Break}
 use Rattle.mdb_words.specs.declared.word.Line.{Line}
 use Rattle.mdb_words.specs.declared.word.Line.TheVariants.{Controller, Peripheral}
-use Rattle.mdb_blocks.specs.Answer.{answer_word}
-use Rattle.mdb_blocks.specs.Block.{IsContent, block_of, words_on}
-use Rattle.mdb_blocks.specs.declared.answer.Answer.{Answer}
-use Rattle.mdb_blocks.specs.declared.answer.Answer.TheVariants as answers
+use Rattle.mdb_words.specs.Answer.{answer_word}
+use Rattle.mdb_words.specs.Block.{IsContent, block_of, words_on}
+use Rattle.mdb_words.specs.declared.answer.Answer.{Answer}
+use Rattle.mdb_words.specs.declared.answer.Answer.TheVariants as answers
 use Rattle.mdb_msgs.specs.declared.command.Command.{Command}
 use Rattle.mdb_msgs.specs.declared.need.Need.TheVariants as need
 use Rattle.mdb_msgs.specs.declared.reply.Reply.{Reply}

@@ -13,7 +13,7 @@ use Rattle.mdb_bus.specs.Acts.{reply_words}
 use Rattle.mdb_bus.specs.ActLists.{Piece, Position, Quiet, InAsk, Asked, InReply, Replied, Returned, InRepeat, InForeign, ArePieces, acts_of, events_of, last_of, levels_of, piece_events, position_of}
 use Rattle.mdb_bus.specs.Pieces.{IsTail, act_in, with_act}
 use Rattle.mdb_bus.specs.LinkFaults.{asked_device}
-use Rattle.mdb_bus.specs.ExtendedHaste.{haste_of}
+use Rattle.mdb_bus.specs.ExtendedHaste.{haste_of, is_awaited}
 use Rattle.mdb_bus.specs.Scopes.{levels_before, profile_of}
 use Rattle.mdb_bus.specs.ExtendedTimes.{untimely_of, untimely_sender, with_sender}
 use Rattle.mdb_bus.specs.ExtendedMoney.{first_known, known_of}
@@ -33,6 +33,15 @@ position_in phase.InForeign bytes command reply = InForeign
 -- the position that a place is
 abbrev pub position_at : Place → Position
 position_at place = position_in place.phase place.bytes place.command place.last_reply.reply
+
+-- Whether an answer, or a repeat, is awaited at a position. What is kept says it of foreign traffic
+-- alone.
+abbrev pub awaited_at : Position → Bool → Bool
+awaited_at (InAsk bytes) kept = true
+awaited_at (Asked command) kept = true
+awaited_at (Returned command reply) kept = true
+awaited_at InForeign kept = kept
+awaited_at position kept = false
 
 -- how the recording is taken that a bus is fed
 abbrev pub scope_of : Bus → Scope
@@ -56,6 +65,7 @@ pub record StandsFor (bus : Bus) (pieces : List Piece) : Type 0 where
       ≡ bus.levels
   pub options : known_of (first_known (scope_of bus).begins) (acts_of pieces) ≡ bus.options
   pub asked : asked_device pieces ≡ bus.asked
+  pub awaited : is_awaited pieces ≡ awaited_at (position_at bus.place) bus.awaited
   pub haste : haste_of (scope_of bus) pieces ≡ bus.haste
 
 -- the act, if one was ended

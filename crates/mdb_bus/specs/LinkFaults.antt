@@ -6,9 +6,9 @@ use Rattle.mdb_words.specs.declared.event.Event.{Event}
 use Rattle.mdb_words.specs.declared.event.Event.TheVariants.{Word, Break}
 use Rattle.mdb_words.specs.declared.word.Line.TheVariants.{Controller, Peripheral}
 use Rattle.mdb_words.specs.Event.{start_of, end_of}
-use Rattle.mdb_blocks.specs.Answer.{answer_word}
-use Rattle.mdb_blocks.specs.declared.answer.Answer.{Answer}
-use Rattle.mdb_blocks.specs.declared.answer.Answer.TheVariants as answers
+use Rattle.mdb_words.specs.Answer.{answer_word}
+use Rattle.mdb_words.specs.declared.answer.Answer.{Answer}
+use Rattle.mdb_words.specs.declared.answer.Answer.TheVariants as answers
 use Rattle.mdb_msgs.specs.declared.command.Command.{Command}
 use Rattle.mdb_msgs.specs.declared.command.Device.{Device}
 use Rattle.mdb_msgs.specs.declared.command.Device.TheVariants as device

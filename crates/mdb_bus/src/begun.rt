@@ -1,10 +1,10 @@
 //! The bytes so far of a block.
 
 ghost use Rattle.std.specs.Prelude.{◌≡◌, ◌≤◌, ◌<◌, [], ◌∷◌, ◌++◌, All, length};
-ghost use Rattle.mdb_blocks.specs.Block.{block_of};
+ghost use Rattle.mdb_words.specs.Block.{block_of};
 ghost use Rattle.mdb_msgs.specs.Commands.{IsByte};
 
-use mdb_blocks::{Block, seal};
+use mdb_words::{Block, seal};
 use std::marker::Model;
 
 /// The most bytes of a block beside its last.

@@ -12,7 +12,7 @@ ghost use Rattle.mdb_bus.specs.shared.Step.{EachStep};
 use super::act::Act;
 use super::begun::Begun;
 use super::fault::{Blame, LinkFault, Rule};
-use super::haste::{came_early, counted_in};
+use super::haste::{awaited_after, counted_in, haste_after};
 use super::judged::Judged;
 use super::judging::judge;
 use super::laws;
@@ -37,6 +37,8 @@ pub struct Bus {
     levels: Levels,
     options: KnownOptions,
     asked: Option<Device>,
+    /// Whether an answer is awaited while foreign traffic is open. Elsewhere the phase says it.
+    awaited: bool,
     haste: bool,
 }
 
@@ -44,14 +46,14 @@ impl Bus {
     ghost use Rattle.mdb_msgs.specs.Commands.{device_of};
     ghost use Rattle.mdb_bus.specs.ActLists.{Piece, events_of, levels_after};
     ghost use Rattle.mdb_bus.specs.Pieces.{HasActList};
-    ghost use Rattle.mdb_bus.specs.Bus.{GoesOn, StandsFor, ended_act, open_block_of, position_at, scope_of};
-    ghost use Rattle.mdb_bus.specs.ExtendedHaste.{counted_in as counted_in_lem, haste_after, haste_by, haste_of};
+    ghost use Rattle.mdb_bus.specs.Bus.{GoesOn, StandsFor, awaited_at, ended_act, open_block_of, position_at, scope_of};
+    ghost use Rattle.mdb_bus.specs.ExtendedHaste.{counted_in as counted_in_lem, haste_after as haste_after_lem, haste_by, haste_of};
     ghost use Rattle.mdb_bus.specs.LinkFaults.{IsLinkFault, blame_of, fault_at};
     ghost use Rattle.mdb_bus.specs.shared.RulePlaces.{IsFirstByPlace};
     ghost use Rattle.mdb_bus.specs.ExtendedTimes.{sender_by, untimely_sender};
     ghost use Rattle.mdb_bus.specs.inner.Gone.{HasGone, situation_at};
     ghost use Rattle.mdb_bus.specs.shared.Step as step;
-    ghost use Rattle.mdb_bus.specs.shared.Steps.{Belongs, Covers, IsAt, IsReadAt, IsTimely};
+    ghost use Rattle.mdb_bus.specs.shared.Steps.{Belongs, Covers, IsAt, IsReadAt, IsTimely, Leads};
 
     /// The bus before the first row of a recording that begins at power-on or at a break. All
     /// devices are followed.
@@ -92,6 +94,7 @@ impl Bus {
             levels: scope.levels_before(),
             options: KnownOptions::before(&scope.begins),
             asked: None,
+            awaited: false,
             haste: false,
         }
     }
@@ -161,9 +164,9 @@ impl Bus {
         }
     }
 
-    /// Takes the next row as `feed_into` does, if it can be and is in the base profile's times, and
-    /// the controller isn't in haste. It answers `None` for any other row, and the bus is then
-    /// unchanged.
+    /// Takes the next row as `feed_into` does, if it can be and is in the base profile's times,
+    /// while the controller isn't in haste and no foreign answer is awaited. It answers `None` for
+    /// any other row, and the bus is then unchanged.
     ///
     /// By each profile nearly all rows are such rows.
     // Inlined, since it is on the path of every row.
@@ -179,7 +182,8 @@ impl Bus {
         ensures none { IfSome result (λ ended. ended ≡ false → act.new ≡ act.old) }
         ensures untouched { IfNone result (act.new ≡ act.old) }
     {
-        if self.haste {
+        // (one test, which is on the path of every row)
+        if self.haste | self.awaited {
             return None;
         }
         match self.step(Profile::Base, event, act) {
@@ -214,6 +218,7 @@ impl Bus {
         match self.step(times, event, act) {
             Ok(ended) => {
                 self.haste = haste;
+                self.awaited = self.awaits_foreign();
                 Ok(ended)
             }
             Err(rule) => Err(self.fault(rule, event)),
@@ -226,8 +231,10 @@ impl Bus {
     fn step(&mut self, times: Profile, event: &Event, act: &mut Act) -> Result<bool, Rule>
         ensures goes_on { (pieces : List Piece) (haste : Bool) → StandsFor self.old pieces
             → Covers times (profile_of self.old.scope.begins)
-            → haste ≡ haste_by (profile_of self.old.scope.begins)
-            (haste_after (position_at self.old.place) self.old.last event.now self.old.haste)
+            → ((next : step.Step) → Leads (situation_at self.old) event.now next
+            → haste ≡ haste_by (profile_of self.old.scope.begins) (haste_after_lem
+            (awaited_at (position_at self.old.place) self.old.awaited)
+            self.old.last event.now self.old.haste))
             → IfOk result (λ ended. GoesOn (record self.new { haste = haste }) pieces event.now
             (ended_act ended act.new)) }
         ensures timely { (pieces : List Piece) → StandsFor self.old pieces → OnOk result
@@ -244,6 +251,7 @@ impl Bus {
         match judge(times, &self.scope, &self.place, &self.last, event) {
             Ok(judged) => match judged {
                 Judged::Reply => self.take_reply(event, act),
+                Judged::Foreign => Ok(self.take_foreign(event, act)),
                 _ => Ok(self.go(judged, event, act)),
             },
             Err(rule) => Err(rule),
@@ -276,11 +284,29 @@ impl Bus {
         Ok(true)
     }
 
-    /// Goes a step by a row, and answers whether it ends an act, which it then puts into `act`.
+    /// Takes a row that opens foreign traffic or goes on with it, and answers that it ends an act,
+    /// which it then puts into `act`.
+    // Not inlined, so that only foreign rows pay for it.
+    #[inline(never)]
+    fn take_foreign(&mut self, event: &Event, act: &mut Act) -> bool
+        ensures gone { HasGone self.old step.Foreign event.now self.new (ended_act result act.new) }
+        ensures none { result ≡ false → act.new ≡ act.old }
+        ensures scope { self.new.scope ≡ self.old.scope }
+        ensures haste { self.new.haste ≡ self.old.haste }
+    {
+        self.awaited = awaited_after(event, self.is_awaited());
+        self.asked = None;
+        self.last = Some(*event);
+        self.place.advance(Judged::Foreign, event, act)
+    }
+
+    /// Goes a step by any other row, and answers whether it ends an act, which it then puts into
+    /// `act`.
     #[inline(always)]
     fn go(&mut self, judged: Judged, event: &Event, act: &mut Act) -> bool
         requires belongs { Belongs self.old.place.phase self.old.place.bytes event.now judged }
-        requires other { judged ≢ Judged.Reply }
+        requires reply { judged ≢ Judged.Reply }
+        requires foreign { judged ≢ Judged.Foreign }
         ensures gone { EachStep judged event.now (λ next. IsAt (position_at self.old.place) next
             → HasGone self.old next event.now self.new (ended_act result act.new)) }
         ensures none { result ≡ false → act.new ≡ act.old }
@@ -294,7 +320,6 @@ impl Bus {
         match judged {
             Judged::Ask => self.note_ask(act),
             Judged::Ack => self.options.note(act),
-            Judged::Foreign => self.asked = None,
             Judged::Break => {
                 self.options.note(act);
                 self.asked = None;
@@ -304,20 +329,37 @@ impl Bus {
         ended
     }
 
+    /// Whether an answer, or a repeat, is awaited.
+    fn is_awaited(&self) -> bool
+        ensures { result ≡ awaited_at (position_at self.now.place) self.now.awaited }
+    {
+        match self.place.phase {
+            Phase::InAsk | Phase::Asked | Phase::Returned => true,
+            Phase::InForeign => self.awaited,
+            Phase::Quiet | Phase::InReply | Phase::Replied | Phase::InRepeat(_) => false,
+        }
+    }
+
+    /// Whether foreign traffic is open in which an answer is awaited.
+    fn awaits_foreign(&self) -> bool
+        ensures { awaited_at (position_at self.now.place) result
+            ≡ awaited_at (position_at self.now.place) self.now.awaited }
+    {
+        match self.place.phase {
+            Phase::InForeign => self.awaited,
+            _ => false,
+        }
+    }
+
     /// Whether the controller is in haste after a row: never by the base profile.
     fn haste_after(&self, event: &Event) -> bool
-        ensures { result ≡ haste_by (profile_of self.now.scope.begins)
-            (haste_after (position_at self.now.place) self.now.last event.now self.now.haste) }
+        ensures { result ≡ haste_by (profile_of self.now.scope.begins) (haste_after_lem
+            (awaited_at (position_at self.now.place) self.now.awaited)
+            self.now.last event.now self.now.haste) }
     {
         match self.scope.begins.profile() {
             Profile::Base => false,
-            Profile::Extended => match *event {
-                Event::Break { .. } => false,
-                Event::Word { line, word, .. } if line == Line::Controller && word.marked() => {
-                    came_early(self.place.phase, &self.last, event)
-                }
-                Event::Word { .. } => self.haste,
-            },
+            Profile::Extended => haste_after(self.is_awaited(), &self.last, event, self.haste),
         }
     }
 

@@ -1,24 +1,37 @@
 //! A controller that doesn't wait for an answer.
 
-ghost use Rattle.std.specs.Prelude.{◌≡◌, ◌⊎◌, ℕ, List};
-ghost use Rattle.mdb_msgs.specs.declared.command.Command.{Command};
-ghost use Rattle.mdb_msgs.specs.declared.reply.Reply.{Reply};
-ghost use Rattle.mdb_bus.specs.Bus.{position_in};
+ghost use Rattle.std.specs.Prelude.{◌≡◌, ◌⊎◌};
 ghost use Rattle.mdb_bus.specs.ExtendedHaste as spec;
 
 use super::fault::{Blame, LinkFault, Rule};
 use super::gaps::is_sooner_than;
-use super::phase::Phase;
-use mdb_words::{Event, Line, NEW_BLOCK_GAP_MIN};
+use mdb_words::{Answer, Event, Line, NEW_BLOCK_GAP_MIN};
 
-/// Whether a block that a row begins comes before its time.
-pub(crate) fn came_early(phase: Phase, last: &Option<Event>, row: &Event) -> bool
-    ensures { (bytes : List ℕ) (command : Command) (reply : Reply)
-        → result ≡ spec.came_early (position_in phase bytes command reply) last.now row.now }
+/// Whether an answer may still come after a row, where it was so before.
+#[inline(always)]
+pub(crate) fn awaited_after(row: &Event, before: bool) -> bool
+    ensures { result ≡ spec.awaited_after row.now before }
 {
-    match phase {
-        Phase::Asked | Phase::Returned => is_sooner_than(last, row, NEW_BLOCK_GAP_MIN),
-        _ => false,
+    match *row {
+        Event::Word { line, word, .. } => match line {
+            Line::Controller => word.marked() || before || word.byte() == Answer::Ret.byte(),
+            Line::Peripheral => false,
+        },
+        Event::Break { .. } => false,
+    }
+}
+
+/// Whether the controller is in haste after a row, where it was so before.
+#[inline(always)]
+pub(crate) fn haste_after(awaited: bool, last: &Option<Event>, row: &Event, before: bool) -> bool
+    ensures { result ≡ spec.haste_after awaited last.now row.now before }
+{
+    match *row {
+        Event::Word { line, word, .. } if line == Line::Controller && word.marked() => {
+            awaited && is_sooner_than(last, row, NEW_BLOCK_GAP_MIN)
+        }
+        Event::Word { .. } => before,
+        Event::Break { .. } => false,
     }
 }
 

@@ -36,7 +36,7 @@ pub struct Place {
 }
 
 impl Place {
-    ghost use Rattle.mdb_blocks.specs.Block.{block_of};
+    ghost use Rattle.mdb_words.specs.Block.{block_of};
     ghost use Rattle.mdb_msgs.specs.Commands.{Spells};
     ghost use Rattle.mdb_bus.specs.ActLists as lists;
     ghost use Rattle.mdb_bus.specs.declared.act.Act.TheVariants as acts;

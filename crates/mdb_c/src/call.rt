@@ -18,8 +18,9 @@ use crate::codes::{
     BAD_OPTIONS, NO_ROOM, fault_code, fault_number, fault_row, verdict_code, verdict_row,
 };
 use crate::options::scope_of;
+use mdb_check::check_scoped;
 use mdb_text::Outcome;
-use mdb_verdict::{RunFault, check_scoped, laws};
+use mdb_verdict::{RunFault, laws};
 use std::alloc::Global;
 
 /// What the call reports in addition to its code.

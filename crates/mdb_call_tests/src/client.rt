@@ -1,13 +1,15 @@
 //! Each call of a maker's client on its happy path.
 
-use mdb_blocks::BlockFault;
-use mdb_bus::{Bus, Scope};
-use mdb_client::{
-    Unread, Untaken, command_in, difference_of, next_command, printed, sent_again, take_word,
+use super::page::TWICE;
+use mdb_bus::{Blame, Bus, LinkFault, Rule, Scope};
+use mdb_examples::{
+    Unread, Untaken, command_in, difference_of, explained, log_row, next_command, printed,
+    sent_again, shown, take_word, tidied,
 };
-use mdb_follow::{AccountName, Follower};
+use mdb_follow::{AccountName, AccountSide, Bound, Follower, Goal};
 use mdb_msgs::{ChangerCommand, Command, MsgFault};
-use mdb_words::{Event, Line};
+use mdb_surveyor::Surveyor;
+use mdb_words::{BlockFault, Event, Line, RowFault};
 
 /// A changer's RESET, and its ACK: start in microseconds, line, word.
 const RESET: [(u64, Line, u16); 3] = [
@@ -74,4 +76,54 @@ fn a_verdict_is_printed(rt: HostRuntime) {
     let wanted = b"verdict no\nrow 2\nrule Sum\nblame controller\n";
     let said = printed(rt.alloc(), &Scope::POWER_ON, text).expect(&rt, "there is a verdict");
     assert_eq!(rt; said.as_slice(), wanted.as_slice());
+}
+
+#[test]
+fn a_row_is_tidied(rt: HostRuntime) {
+    let fields: [&[u8]; 3] = [b"0028497", b"M", b"10b"];
+    let row = tidied(&fields).expect(&rt, "it is a row");
+    assert_eq!(rt; row.as_str(), "28497,M,10B");
+    let fields: [&[u8]; 2] = [b"28497", b"M"];
+    assert!(rt; matches!(tidied(&fields), Err(RowFault::FieldCount)));
+}
+
+#[test]
+fn acts_are_shown(rt: HostRuntime) {
+    let text = b"1000,M,108\n2200,M,008\n4200,S,100\n24200,M,10B\n25400,M,00C\n";
+    let wanted = b"1-2 ask changer 08 08\n3-3 ack changer\nfault 5 Sum controller\n";
+    let (said, fault) = shown(rt.alloc(), &Scope::POWER_ON, text).expect(&rt, "the acts are shown");
+    assert_eq!(rt; said.as_slice(), wanted.as_slice());
+    let (rule, blame) = (Rule::Sum, Blame::Controller);
+    assert_eq!(rt; fault, Some(LinkFault { rule, blame }));
+}
+
+#[test]
+fn an_impossible_row_is_logged_and_the_survey_goes_on(rt: HostRuntime) {
+    let mut surveyor = Surveyor::scoped(&Scope::POWER_ON);
+    let mut log = Vec::new(rt.alloc());
+    let rows: [[&[u8]; 3]; 3] = [
+        [b"1000", b"M", b"108"],
+        [b"2200", b"M", b"009"],
+        [b"24200", b"M", b"108"],
+    ];
+    for fields in &rows {
+        let row = Event::read(fields).expect(&rt, "it is a row");
+        log_row(&mut surveyor, row, &mut log).expect(&rt, "the log is in memory");
+    }
+    assert_eq!(rt; surveyor.rows(), 3);
+    assert!(rt; log.starts_with(b"stretch 1 rows 1-1\ndecimals changer - "));
+    assert!(rt; log.ends_with(b"\nfault 2 Sum controller\n"));
+}
+
+#[test]
+fn the_least_of_two_equal_coins_is_explained(rt: HostRuntime) {
+    let goal = Goal {
+        account: AccountName::CoinsIn,
+        side: AccountSide::Device,
+        bound: Bound::Least,
+    };
+    let said = explained(rt.alloc(), TWICE, &goal).expect(&rt, "there is a verdict");
+    // The first report's acknowledgement was lost.
+    assert!(rt; said.starts_with(b"35,L,-\n1000,M,108\n"));
+    assert!(rt; said.ends_with(TWICE));
 }

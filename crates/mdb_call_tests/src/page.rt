@@ -87,7 +87,7 @@ fn options_that_name_no_scope_are_refused(rt: HostRuntime) {
 }
 
 /// A coin of 25 that the changer reported twice. The controller acknowledged both reports.
-const TWICE: &[u8] =
+pub(crate) const TWICE: &[u8] =
     b"1000,M,108\n2200,M,008\n4200,S,100\n24200,M,10B\n25400,M,00B\n27400,S,00B\n28600,S,10B\n\
 30600,M,000\n50600,M,109\n51800,M,009\n53800,S,002\n55000,S,000\n56200,S,001\n\
 57400,S,005\n58600,S,002\n59800,S,000\n61000,S,007\n62200,S,001\n63400,S,002\n\

@@ -1,7 +1,7 @@
 -- The text of an explanation is read as the records of its marks and rows.
 use Rattle.mdb_explain.proofs.Words.{All, All-head, All-tail, AreMarkRows, AreRows, Event, IsDecimal-decimal, IsMarkRow, List, Mark, ROWS_MAX, [], arith, dash, decimal, default_config, explanation_records, explanation_text, map, mark_fields, mark_letter, read_records, refl, row_fields, strip_bom, ℕ, ◌∷◌, ◌≡◌, ◌≤◌}
 use Rattle.mdb_words.specs.Digits.{IsDecimal}
-use Rattle.mdb_explained_runs.specs.declared.mark.Mark.TheVariants.{Lost}
+use Rattle.mdb_run_search.specs.declared.mark.Mark.TheVariants.{Lost}
 use Rattle.mdb_records.proofs.PlainRecords.{ArePlain, IsPlain, IsPlainByte, plain_append, read_of_lines}
 use Rattle.mdb_records.proofs.PlainRows.{one_plain, plain_of, row_written}
 

@@ -1,5 +1,5 @@
 -- What is answered, by how the reading of entries ended.
-use Rattle.mdb_explain.proofs.Words.{AreMarkRows, AreRows, CanBe, Entry, Err, Event, Finishes, HasMarkedCause, HasReplayed, HasStopped, IfErr, InputPart, IsEntry, IsNoEntry, IsReplayAnswer, LeadUpToPart, List, Mark, MarkedFault, No, Offence, Ok, Option, Outcome, ROWS_MAX, Replaying, Result, RunFault, Scope, StopsAt, Yes, [], all_marks, ap, append-nil, arith, entries_of, inl, inr, length, map, mark_entry, parts_of, read_at, ℕ, ◌++◌, ◌∙◌, ◌∷◌, ◌≡◌, ◌≢◌}
+use Rattle.mdb_explain.proofs.Words.{AreMarkRows, AreRows, CanBe, Entry, Err, Event, Finishes, HasMarkedCause, HasReplayed, IfErr, InputPart, IsEntry, IsNoEntry, IsReplayAnswer, IsStoppedAt, LeadUpToPart, List, Mark, MarkedFault, No, Offence, Ok, Option, Outcome, ROWS_MAX, Replaying, Result, RunFault, Scope, StopsAt, Yes, [], all_marks, ap, append-nil, arith, entries_of, inl, inr, length, map, mark_entry, parts_of, ℕ, ◌++◌, ◌∙◌, ◌∷◌, ◌≡◌, ◌≢◌}
 use Rattle.mdb_explain.specs.declared.entry.Entry.TheVariants as entries
 use Rattle.mdb_explain.specs.declared.fault.MarkedFault.TheVariants as marked
 use Rattle.mdb_verdict.specs.declared.fault.RunFault.TheVariants as run
@@ -78,21 +78,20 @@ module _ (scope : Scope) (all : List (List (List ℕ))) where
 
   -- an entry isn't taken
   pub stops : {limit : ℕ} (stop : Result Offence MarkedFault)
-      → IsStopped IsEntry (λ earlier rows. HasStopped scope earlier rows stop) limit all
+      → IsStopped IsEntry (λ taken entry. IsStoppedAt scope taken entry stop) limit all
       → StopsAt scope ROWS_MAX all stop
   stops stop ended =
-      let has = ended.stops in
-      let up_to = read_at IsEntry ended.earlier has.front has.entry has.rest ended.read has.parts in
+      let at = ended.stops in
       record {
-        part = has.is.part;
-        fields = up_to.fields;
-        rest = up_to.rest;
-        leads = leading has.is.part up_to.read has.is.are has.is.can_be;
-        is = has.is.is up_to.fields up_to.told;
+        part = at.part;
+        fields = ended.fields;
+        rest = ended.rest;
+        leads = leading at.part ended.read at.are at.can_be;
+        is = at.is ended.fields ended.told;
       }
 
   pub stopped : {limit : ℕ} (fault : MarkedFault)
-      → IsStopped IsEntry (λ earlier rows. HasStopped scope earlier rows (Err fault)) limit all
+      → IsStopped IsEntry (λ taken entry. IsStoppedAt scope taken entry (Err fault)) limit all
       → IsReplayAnswer scope ROWS_MAX all (Err fault)
   stopped (marked.Run (run.BadRow row fault)) ended =
       stops (Err (marked.Run (run.BadRow row fault))) ended
@@ -102,7 +101,7 @@ module _ (scope : Scope) (all : List (List (List ℕ))) where
 
   -- a record can't be read: none is one too many that wasn't stopped at
   pub refused : (taker : Replaying)
-      (Stops : List Entry → List Entry → Result Offence MarkedFault → Type 0) (fault : RunFault)
+      (Stops : List Entry → Entry → Result Offence MarkedFault → Type 0) (fault : RunFault)
       → HasEnded IsEntry IsNoEntry (HasReplayed scope taker) Stops 200000001 all (Err fault)
       → IsReplayAnswer scope ROWS_MAX all (Err (marked.Run fault))
   refused taker Stops (run.BadRow row fault) ended = absurd ended.refused

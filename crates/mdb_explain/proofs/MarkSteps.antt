@@ -1,8 +1,7 @@
 -- How the replay of entries goes on, and where it stops.
-use Rattle.mdb_explain.proofs.Words.{BadLine, BadTime, BadValue, Bool, Entry, Err, Event, HasMarkedRun, HasReplayed, HasStopped, HasTakenNext, HasTakenOrStopped, InputPart, IsBadMark, IsEntry, IsMarkRefusal, IsRefusedAfter, IsReplayFault, IsStopAt, IsStoppedAt, List, Mark, MarkedFault, None, Offence, Option, ROWS_MAX, ReplayFault, Replaying, Result, RiseAbove, RowFault, Scope, Some, StandsFor, [], all_marks, ap, append-nil, append_assoc, arith, dash, drop, empty, entries_of, false, get_or, if◌then◌else◌, inl, inr, is_some, length, length-append, length-map, map, map_push, mark_at, mark_entry, records_in, refl, rows_of, scope_of, stop_by, suc, sym, take, take_more, true, with_mark, ℕ, ◌++◌, ◌+◌, ◌<◌, ◌==◌, ◌↔◌, ◌∙◌, ◌∷◌, ◌≡◌, ◌≢◌, ◌≤◌}
+use Rattle.mdb_explain.proofs.Words.{BadLine, BadTime, BadValue, Bool, Entry, Err, Event, HasMarkedRun, HasReplayed, InputPart, IsBadMark, IsEntry, IsMarkRefusal, IsRefusedAfter, IsReplayFault, IsStopAt, IsStoppedAt, List, Mark, MarkedFault, None, Offence, Option, ROWS_MAX, ReplayFault, Replaying, Result, RiseAbove, RowFault, Scope, Some, StandsFor, [], all_marks, ap, append-nil, append_assoc, arith, dash, empty, entries_of, false, if◌then◌else◌, inl, inr, is_some, length, length-append, length-map, map, map_push, mark_at, mark_entry, records_in, refl, rows_of, scope_of, stop_by, suc, sym, true, with_mark, ℕ, ◌++◌, ◌+◌, ◌<◌, ◌==◌, ◌↔◌, ◌∙◌, ◌∷◌, ◌≡◌, ◌≢◌, ◌≤◌}
 use Rattle.std.proofs.lemmas.Bool.Decides.{nat_tests}
-use Rattle.std.proofs.Math.Seq.{split_at}
-use Rattle.mdb_explained_runs.specs.declared.replay.ReplayFault.TheVariants as faults
+use Rattle.mdb_run_search.specs.declared.replay.ReplayFault.TheVariants as faults
 use Rattle.mdb_explain.specs.declared.entry.Entry.TheVariants as entries
 use Rattle.mdb_explain.specs.declared.fault.MarkedFault.TheVariants as marked
 use Rattle.mdb_verdict.specs.declared.fault.RunFault.TheVariants as run
@@ -325,26 +324,3 @@ module _ (scope : Scope) (old : Replaying) (taken : List Entry)
   -- memory is refused
   pub no_room : (entry : Entry) → IsStoppedAt scope taken entry (Err (marked.Run run.Memory))
   no_room entry = stop_at (λ fields own. tt) (λ same. cc) (λ same. cc)
-
--- After entries of which the next is taken, or stopped at.
-module _ (scope : Scope) (taker : Replaying) (earlier entries : List Entry) (i : ℕ) (entry : Entry)
-    (below : i < length entries) (here : entry ≡ get_or entries i entry) where
-  pub one_more : (stop : Option (Result Offence MarkedFault)) → is_some stop ≡ false
-      → HasTakenNext scope taker (earlier ++ take i entries) entry stop
-      → HasReplayed scope taker (earlier ++ take (i + 1) entries)
-  one_more None none has =
-      rw (take_more entries i entry below, sym here) (rw append_assoc at has)
-  one_more (Some stop) none has = absurd (cc)
-
-  pub stopped_in : (stop : Option (Result Offence MarkedFault)) → is_some stop ≡ true
-      → HasTakenNext scope taker (earlier ++ take i entries) entry stop
-      → HasTakenOrStopped (HasReplayed scope taker) (HasStopped scope) earlier entries stop
-  stopped_in None some is = absurd (cc)
-  stopped_in (Some stop) some is = record {
-    front = take i entries;
-    entry = entry;
-    rest = drop (suc i) entries;
-    parts = split_at entries i entry below
-        ∙ ap (λ e. take i entries ++ e ∷ drop (suc i) entries) (sym here);
-    is = is;
-  }

@@ -3,7 +3,7 @@ use Rattle.mdb_explain.proofs.Words.{All, All-head, All-tail, AreMarkRows, AreRo
 use Rattle.std.proofs.lemmas.List.Elements.{All-nil, All-cons, All-append, All-push}
 use Rattle.mdb_words.specs.Refusals.{IsRefusal}
 use Rattle.mdb_bus.specs.ActLists.{ArePieces, Piece, acts_of, events_of}
-use Rattle.mdb_explained_runs.specs.declared.replay.ReplayFault.TheVariants as faults
+use Rattle.mdb_run_search.specs.declared.replay.ReplayFault.TheVariants as faults
 use Rattle.mdb_follow.specs.Choosing.{Choices}
 use Rattle.mdb_explain.specs.declared.fault.MarkedFault.TheVariants as marked
 use Rattle.mdb_verdict.specs.declared.fault.RunFault.TheVariants as run

@@ -1,7 +1,7 @@
 -- What an explanation is replayed to: the end of the range that it explains.
 use Rattle.mdb_explain.proofs.Words.{All, All-head, All-tail, AreMarkRows, AreRows, BYTES_MAX, ComesTo, Event, Goal, HasMarkedRun, IsAnswer, IsExplanation, IsOwnReplay, IsReplayAnswer, IsReplayReport, IsReplayed, List, Mark, MarkedFault, Ok, Outcome, ROWS_MAX, Report, Result, RiseAbove, Scope, Yes, [], ap, arith, default_config, explanation_records, explanation_text, goal_range, length, map, mark_fields, one_list, read_records, row_fields, strip_bom, subst, ℕ, ◌*◌, ◌+◌, ◌∷◌, ◌≡◌, ◌≤◌}
 use Rattle.mdb_follow.specs.GoalEnds.{end_of}
-use Rattle.mdb_explained_runs.specs.Goals.{Explains}
+use Rattle.mdb_run_search.specs.Goals.{Explains}
 use Rattle.mdb_follow.specs.Report.{IsReport}
 use Rattle.mdb_explain.proofs.OneReplayAnswer.{IsUpTo, MarkLaws, rising_run, upto_run}
 
@@ -39,7 +39,7 @@ few_rising least most (mark ∷ marks) some rise below =
 abbrev pub ExplanationsAreShort : Type 0
 ExplanationsAreShort = (records : List (List (List ℕ))) (rows : List Event)
     (marks : List (ℕ × Mark)) → AreRows records rows → All (λ mark. mark.0 ≤ ROWS_MAX) marks
-    → length (explanation_text marks rows) ≤ 14 * length marks + 28 * length rows
+    → length (explanation_text marks rows) ≤ 14 * length marks + 31 * length rows
 
 -- A text that explains records for which `check` says yes.
 module _ (scope : Scope) (laws : MarkLaws scope) (goal : Goal) (records : List (List (List ℕ)))

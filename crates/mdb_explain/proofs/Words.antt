@@ -17,15 +17,14 @@ pub use Rattle.mdb_follow.specs.declared.follower.TheConstants.{ROWS_MAX}
 pub use Rattle.mdb_follow.specs.declared.goal.Goal.{Goal}
 pub use Rattle.mdb_follow.specs.declared.offence.Offence.{Offence}
 pub use Rattle.mdb_follow.specs.declared.report.Report.{Report}
-pub use Rattle.mdb_explained_runs.specs.Marks.{Rise, StandsWithin, choices_in, marks_of, with_mark}
-pub use Rattle.mdb_explained_runs.specs.ReplayFaults.{HasMarkedRun, IsReplayFault, SplitAt}
-pub use Rattle.mdb_explained_runs.specs.declared.mark.Mark.{Mark}
+pub use Rattle.mdb_run_search.specs.Marks.{Rise, StandsWithin, choices_in, marks_of, with_mark}
+pub use Rattle.mdb_run_search.specs.ReplayFaults.{HasMarkedRun, IsReplayFault, SplitAt}
+pub use Rattle.mdb_run_search.specs.declared.mark.Mark.{Mark}
 pub use Rattle.mdb_text.specs.Text.{report_text}
 pub use Rattle.mdb_text.specs.declared.outcome.Outcome.{Outcome}
 pub use Rattle.mdb_text.specs.declared.outcome.Outcome.TheVariants.{No, Yes}
-pub use Rattle.mdb_verdict.proofs.Rows.{empty, parts_of, read_at}
+pub use Rattle.mdb_verdict.proofs.Rows.{empty, parts_of}
 pub use Rattle.mdb_verdict.proofs.Verdicts.{is_fault}
-pub use Rattle.mdb_verdict.specs.Ending.{HasTakenOrStopped}
 pub use Rattle.mdb_verdict.specs.Headline.{HaveRun, IfYes}
 pub use Rattle.mdb_verdict.specs.Rows.{AreRows}
 pub use Rattle.mdb_verdict.specs.Verdict.{IsAnswer, IsNoYes, IsOwnAnswer, LeadUpTo}
@@ -37,7 +36,7 @@ pub use Rattle.mdb_explain.specs.declared.entry.Entry.{Entry}
 pub use Rattle.mdb_explain.specs.declared.fault.MarkedFault.{MarkedFault}
 pub use Rattle.mdb_explain.specs.inner.Entries.{IsBadMark, IsEntry, IsNoEntry, stop_by}
 pub use Rattle.mdb_explain.specs.inner.Explaining.{HasKept, IsNoText, IsRowsText, IsTold, StopsKeeping, mark_line, marks_text, row_line, rows_text}
-pub use Rattle.mdb_explain.specs.inner.Replaying.{Finishes, HasReplayed, HasStopped, HasTakenNext, IsStoppedAt, entries_of, mark_entry}
+pub use Rattle.mdb_explain.specs.inner.Replaying.{Finishes, HasReplayed, IsStoppedAt, entries_of, mark_entry}
 pub use Rattle.mdb_verdict.proofs.Headline.{FrontsAreReached, as_many, one_list}
 pub use Rattle.mdb_verdict.proofs.OneAnswer.{GoesOn, compared, one_refusal, row_not_refused, row_one}
 pub use Rattle.mdb_words.proofs.Numerals.{IsDecimal-decimal, IsDecimal-lt}
@@ -45,5 +44,5 @@ pub use Rattle.mdb_words.specs.declared.row.RowFault.{RowFault}
 pub use Rattle.mdb_words.specs.declared.row.RowFault.TheVariants.{BadLine, BadTime, BadValue, FieldCount}
 pub use Rattle.mdb_explain.specs.Explain.{ComesTo, IsExplainText, IsExplained, IsExplanation, LeavesNo, explanation_records, explanation_text, goal_range, mark_fields, record_line}
 pub use Rattle.mdb_explain.specs.declared.replaying.Replaying.{Replaying}
-pub use Rattle.mdb_explained_runs.specs.Replays.{IsReplayReport, StandsFor, rows_of, scope_of}
-pub use Rattle.mdb_explained_runs.specs.declared.replay.ReplayFault.{ReplayFault}
+pub use Rattle.mdb_run_search.specs.Replays.{IsReplayReport, StandsFor, rows_of, scope_of}
+pub use Rattle.mdb_run_search.specs.declared.replay.ReplayFault.{ReplayFault}

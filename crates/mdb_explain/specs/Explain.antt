@@ -13,13 +13,13 @@ use Rattle.mdb_follow.specs.declared.follower.TheConstants.{ROWS_MAX}
 use Rattle.mdb_follow.specs.declared.goal.Bound.{Bound}
 use Rattle.mdb_follow.specs.declared.goal.Bound.TheVariants.{Least, Greatest}
 use Rattle.mdb_follow.specs.declared.goal.Goal.{Goal}
-use Rattle.mdb_explained_runs.specs.declared.mark.Mark.{Mark}
+use Rattle.mdb_run_search.specs.declared.mark.Mark.{Mark}
 use Rattle.mdb_follow.specs.declared.range.Range.{Range}
 use Rattle.mdb_follow.specs.declared.report.Report.{Report}
 use Rattle.mdb_follow.specs.AccountNames.{account_of, account_word}
 use Rattle.mdb_follow.specs.Ends.{side_range}
 use Rattle.mdb_follow.specs.GoalEnds.{end_of}
-use Rattle.mdb_explained_runs.specs.Goals.{Explains}
+use Rattle.mdb_run_search.specs.Goals.{Explains}
 use Rattle.mdb_text.specs.declared.outcome.Outcome.{Outcome}
 use Rattle.mdb_text.specs.declared.outcome.Outcome.TheVariants.{Yes, No}
 use Rattle.mdb_explain.specs.declared.fault.MarkedFault.{MarkedFault}

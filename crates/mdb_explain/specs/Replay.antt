@@ -8,12 +8,12 @@ use Rattle.mdb_words.specs.Digits.{IsDecimal}
 use Rattle.mdb_words.specs.Row.{IsRow}
 use Rattle.mdb_words.specs.Refusals.{IsRefusal}
 use Rattle.mdb_bus.specs.declared.scope.Scope.{Scope}
-use Rattle.mdb_explained_runs.specs.declared.mark.Mark.{Mark}
-use Rattle.mdb_explained_runs.specs.declared.mark.Mark.TheVariants.{Lost, Restart, Again}
+use Rattle.mdb_run_search.specs.declared.mark.Mark.{Mark}
+use Rattle.mdb_run_search.specs.declared.mark.Mark.TheVariants.{Lost, Restart, Again}
 use Rattle.mdb_follow.specs.declared.offence.Offence.{Offence}
 use Rattle.mdb_follow.specs.declared.report.Report.{Report}
-use Rattle.mdb_explained_runs.specs.ReplayFaults.{HasMarkedRun, IsMarkFault, IsReplayOffence}
-use Rattle.mdb_explained_runs.specs.Replays.{IsReplayReport}
+use Rattle.mdb_run_search.specs.ReplayFaults.{HasMarkedRun, IsMarkFault, IsReplayOffence}
+use Rattle.mdb_run_search.specs.Replays.{IsReplayReport}
 use Rattle.mdb_records.specs.declared.ReadFault.{ReadFault}
 use Rattle.mdb_records.specs.declared.ReadFault.TheVariants as reading
 use Rattle.mdb_text.specs.declared.outcome.Outcome.{Outcome}

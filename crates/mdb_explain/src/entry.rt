@@ -4,13 +4,13 @@ ghost use Rattle.std.specs.Prelude.{◌≡◌, ◌≢◌, ◌↔◌, ◌∷◌, 
 ghost use Rattle.mdb_records.specs.Fields.{fields_of};
 ghost use Rattle.mdb_words.specs.Refusals.{IsRefusal};
 ghost use Rattle.mdb_explain.specs.Replay.{dash, mark_letter};
-ghost use Rattle.mdb_explained_runs.specs.declared.mark.Mark.{Mark};
+ghost use Rattle.mdb_run_search.specs.declared.mark.Mark.{Mark};
 ghost use Rattle.mdb_explain.specs.inner.Entries.{IsEntry, IsNoEntry};
 
-use mdb_explained_runs::Mark;
 use mdb_records::Record;
+use mdb_run_search::Mark;
 use mdb_verdict::{FromRecord, field};
-use mdb_words::{Event, RowFault, Time};
+use mdb_words::{Event, RowFault, whole_number};
 
 /// What a record is read as: no record is refused, since it may be one too many.
 #[derive(Clone, Copy, PartialEq, Eq, Debug)]
@@ -86,11 +86,11 @@ fn mark_of(letter: &[u8]) -> Option<Mark>
 fn mark_row(number: &[u8], mark: Mark, value: &[u8]) -> Entry
     ensures { IsEntry (number.now ∷ (mark_letter mark ∷ []) ∷ value.now ∷ []) result }
 {
-    let Some(row) = Time::read(number) else {
+    let Some(row) = whole_number(number) else {
         return Entry::BadMark(RowFault::BadTime);
     };
     if is_dash(value) {
-        Entry::Mark(row.value(), mark)
+        Entry::Mark(row, mark)
     } else {
         Entry::BadMark(RowFault::BadValue)
     }

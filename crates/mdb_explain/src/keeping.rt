@@ -18,9 +18,13 @@ pub(crate) struct Keeping {
 }
 
 impl Keeping {
-    ghost use Rattle.std.specs.Prelude.{[]};
-    ghost use Rattle.mdb_follow.specs.Follower.{scope_of};
-    ghost use Rattle.mdb_explain.specs.inner.Explaining.{HasKept};
+    ghost use Rattle.std.specs.Prelude.{[], List, ◌<◌};
+    ghost use Rattle.mdb_words.specs.declared.event.Event.{Event};
+    ghost use Rattle.mdb_bus.specs.declared.scope.Scope.{Scope};
+    ghost use Rattle.mdb_follow.specs.declared.follower.TheConstants.{ROWS_MAX};
+    ghost use Rattle.mdb_follow.specs.Follower.{rows_of, scope_of};
+    ghost use Rattle.mdb_verdict.specs.Ending.{HasTakenOrStoppedAt};
+    ghost use Rattle.mdb_explain.specs.inner.Explaining.{HasKept, StopsKeeping};
 
     /// Before the first row, by a profile: these devices are left out.
     pub(crate) fn new(alloc: Global, profile: Profile, without: DeviceSet) -> Keeping
@@ -31,6 +35,24 @@ impl Keeping {
             follower: Follower::scoped(&Scope::from_power_on(profile, without)),
             rows: Vec::new(alloc),
         }
+    }
+
+    /// Follows and keeps the next row, or tells why it stops at it.
+    #[inline(always)]
+    fn keep(&mut self, row: &Event) -> Option<Result<Offence, RunFault>>
+        requires { rows_of self.old.follower < ROWS_MAX }
+        ensures taken { (scope : Scope) (earlier : List Event) → HasKept scope self.old earlier
+            → HasTakenOrStoppedAt (HasKept scope self.new) (StopsKeeping scope) earlier row.now
+            result }
+        ensures scope { scope_of self.new.follower ≡ scope_of self.old.follower }
+    {
+        if let Err(offence) = self.follower.feed(*row) {
+            return Some(Ok(offence));
+        }
+        if self.rows.push(*row).is_err() {
+            return Some(Err(RunFault::Memory));
+        }
+        None
     }
 }
 
@@ -60,14 +82,9 @@ impl TakeRows<()> for Keeping {
         self.rows.len() as u64
     }
 
-    fn take_all(&mut self, _out: &mut (), rows: &[Event]) -> Option<Result<Offence, RunFault>> {
-        if let Err(offence) = self.follower.feed_all(rows) {
-            return Some(Ok(offence));
-        }
-        if self.rows.extend_from_slice(rows).is_err() {
-            return Some(Err(RunFault::Memory));
-        }
-        None
+    #[inline(always)]
+    fn take(&mut self, _out: &mut (), row: Event) -> Option<Result<Offence, RunFault>> {
+        self.keep(&row)
     }
 
     ghost counts = { λ keeping before after rows has. ap length has.kept };

@@ -11,7 +11,7 @@ ghost use Rattle.mdb_bus.specs.Scopes.{from_power_on};
 ghost use Rattle.mdb_msgs.specs.declared.device_set.DeviceSet.{DeviceSet};
 ghost use Rattle.mdb_bus.specs.declared.scope.Scope.{Scope};
 ghost use Rattle.mdb_follow.specs.declared.goal.Goal.{Goal};
-ghost use Rattle.mdb_explained_runs.specs.declared.mark.Mark.{Mark};
+ghost use Rattle.mdb_run_search.specs.declared.mark.Mark.{Mark};
 ghost use Rattle.mdb_follow.specs.declared.report.Report.{Report};
 ghost use Rattle.mdb_follow.specs.declared.follower.TheConstants.{ROWS_MAX};
 ghost use Rattle.mdb_verdict.specs.declared.verdict.TheConstants.{BYTES_MAX};
@@ -25,8 +25,8 @@ ghost use Rattle.mdb_explain.specs.Replay.{AreMarkRows, IsOwnReplay, IsReplayAns
 ghost use Rattle.mdb_verdict.specs.Verdict.{IsAnswer, IsOwnAnswer};
 ghost use Rattle.mdb_verdict.specs.Rows.{AreRows};
 
-use mdb_explained_runs::laws;
 use mdb_follow::laws as follow_laws;
+use mdb_run_search::laws;
 
 /// The records of an input of `replay` have at most one answer of their own: a yes with its report,
 /// a no with its row, rule and blame, the first record that is refused and why, too many, or the
@@ -61,7 +61,7 @@ pub fn replayed_transcripts_are_yeses()
 
 /// The text of an explanation, read as `csv` reads an input, has the records of its marks and then
 /// those of its rows, and no others. They are mark rows and rows of a transcript, and tell just
-/// these marks and rows. It is short: a mark takes 14 bytes at most, and a row 28.
+/// these marks and rows. It is short: a mark takes 14 bytes at most, and a row 31.
 pub fn explanations_read_as_their_marks_and_rows()
     ensures reads { (records : List (List (List ℕ))) (rows : List Event)
         (marks : List (ℕ × Mark)) → AreRows records rows → All (λ mark. mark.0 ≤ ROWS_MAX) marks
@@ -70,7 +70,7 @@ pub fn explanations_read_as_their_marks_and_rows()
         × AreMarkRows (map mark_fields marks) marks × AreRows (map row_fields rows) rows }
     ensures short { (records : List (List (List ℕ))) (rows : List Event)
         (marks : List (ℕ × Mark)) → AreRows records rows → All (λ mark. mark.0 ≤ ROWS_MAX) marks
-        → length (explanation_text marks rows) ≤ 14 * length marks + 28 * length rows }
+        → length (explanation_text marks rows) ≤ 14 * length marks + 31 * length rows }
 {}
 
 /// What `explain` writes of a recording with a yes is replayed with a yes, and comes to its goal:

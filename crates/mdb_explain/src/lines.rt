@@ -7,7 +7,7 @@ ghost use Rattle.mdb_writing.specs.Output.{Breaks, Puts, output};
 ghost use Rattle.mdb_explain.specs.inner.Explaining.{mark_line, row_line};
 ghost use Rattle.mdb_writing.specs.declared.page.TheConstants.{PAGE};
 
-use mdb_explained_runs::Mark;
+use mdb_run_search::Mark;
 use mdb_text::hex_digit;
 use mdb_words::{Event, Line, Word};
 use mdb_writing::{Page, WriteFailed};

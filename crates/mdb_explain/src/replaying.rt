@@ -1,16 +1,16 @@
 //! The replay of an input's entries: its marks, and then its rows.
 
-ghost use Rattle.std.specs.Prelude.{◌≡◌, ◌≤◌, ◌<◌, ◌+◌, ◌++◌, ◌∷◌, List, [], ℕ, length, Err, IfErr, OnSome, ◌≢◌};
-ghost use Rattle.mdb_explained_runs.specs.Replays.{rows_of, scope_of};
+ghost use Rattle.std.specs.Prelude.{◌≡◌, ◌≤◌, ◌<◌, ◌+◌, ◌++◌, List, [], ℕ, length, Err, IfErr, OnSome, ◌≢◌};
+ghost use Rattle.mdb_run_search.specs.Replays.{rows_of, scope_of};
 ghost use Rattle.mdb_bus.specs.Scopes.{from_power_on};
 ghost use Rattle.mdb_explain.specs.inner.Entries.{stop_by};
 
 use super::entry::Entry;
 use super::fault::MarkedFault;
 use mdb_bus::Profile;
-use mdb_explained_runs::{Mark, Replay, ReplayFault, laws};
 use mdb_follow::{Offence, ROWS_MAX};
 use mdb_msgs::DeviceSet;
+use mdb_run_search::{Mark, Replay, ReplayFault, laws};
 use mdb_text::Outcome;
 use mdb_verdict::{RunFault, TakeRows};
 use mdb_words::{Event, RowFault};
@@ -38,11 +38,10 @@ type Stop = Result<Offence, MarkedFault>;
 
 impl Replaying {
     ghost use Rattle.mdb_bus.specs.declared.scope.Scope.{Scope};
-    ghost use Rattle.mdb_explained_runs.specs.declared.mark.Mark.{Mark};
+    ghost use Rattle.mdb_run_search.specs.declared.mark.Mark.{Mark};
     ghost use Rattle.mdb_explain.specs.Replay.{mark_at};
-    ghost use Rattle.mdb_verdict.specs.Ending.{HasTakenOrStopped};
-    ghost use Rattle.mdb_explain.specs.inner.Replaying.{Finishes, HasReplayed, HasStopped};
-    ghost use Rattle.mdb_explain.specs.inner.Replaying.{HasTakenNext, IsStoppedAt};
+    ghost use Rattle.mdb_verdict.specs.Ending.{HasTakenOrStoppedAt};
+    ghost use Rattle.mdb_explain.specs.inner.Replaying.{Finishes, HasReplayed, IsStoppedAt};
 
     /// Before the first entry, by a profile: these devices are left out.
     pub(crate) fn new(alloc: Global, profile: Profile, without: DeviceSet) -> Replaying
@@ -58,26 +57,12 @@ impl Replaying {
         }
     }
 
-    /// Takes the next entries, or tells why it stops at one of them.
-    fn take_each(&mut self, entries: &[Entry]) -> Option<Stop>
-        ensures taken { (scope : Scope) (earlier : List Entry) → HasReplayed scope self.old earlier
-            → HasTakenOrStopped (HasReplayed scope self.new) (HasStopped scope) earlier entries.now
-            result }
-        ensures scope { scope_of self.new.replay ≡ scope_of self.old.replay }
-    {
-        for entry in entries {
-            let stop = self.take(*entry);
-            if stop.is_some() {
-                return stop;
-            }
-        }
-        None
-    }
-
     /// Takes the next entry, or tells why it stops at it.
-    fn take(&mut self, entry: Entry) -> Option<Stop>
+    #[inline(always)]
+    fn take_entry(&mut self, entry: Entry) -> Option<Stop>
         ensures taken { (scope : Scope) (earlier : List Entry) → HasReplayed scope self.old earlier
-            → HasTakenNext scope self.new earlier entry result }
+            → HasTakenOrStoppedAt (HasReplayed scope self.new) (IsStoppedAt scope) earlier entry
+            result }
         ensures scope { scope_of self.new.replay ≡ scope_of self.old.replay }
     {
         match entry {
@@ -91,7 +76,8 @@ impl Replaying {
     /// Adds a mark, or tells why it stops at it.
     fn add(&mut self, row: u64, mark: Mark) -> Option<Stop>
         ensures taken { (scope : Scope) (earlier : List Entry) → HasReplayed scope self.old earlier
-            → HasTakenNext scope self.new earlier (Entry.Mark row mark) result }
+            → HasTakenOrStoppedAt (HasReplayed scope self.new) (IsStoppedAt scope) earlier
+            (Entry.Mark row mark) result }
         ensures scope { scope_of self.new.replay ≡ scope_of self.old.replay }
     {
         if self.replay.rows() > 0 {
@@ -113,7 +99,8 @@ impl Replaying {
     /// Feeds a row with its mark, or tells why it stops at it.
     fn feed(&mut self, event: Event) -> Option<Stop>
         ensures taken { (scope : Scope) (earlier : List Entry) → HasReplayed scope self.old earlier
-            → HasTakenNext scope self.new earlier (Entry.Row event) result }
+            → HasTakenOrStoppedAt (HasReplayed scope self.new) (IsStoppedAt scope) earlier
+            (Entry.Row event) result }
         ensures scope { scope_of self.new.replay ≡ scope_of self.old.replay }
     {
         if self.replay.rows() >= ROWS_MAX {
@@ -219,7 +206,7 @@ fn stop_of(fault: ReplayFault) -> Stop
 
 /// It stops at the first entry that isn't taken.
 impl TakeRows<()> for Replaying {
-    ghost use Rattle.mdb_explain.specs.inner.Replaying.{HasReplayed, HasStopped};
+    ghost use Rattle.mdb_explain.specs.inner.Replaying.{HasReplayed, IsStoppedAt};
 
     type Row = Entry;
 
@@ -233,14 +220,15 @@ impl TakeRows<()> for Replaying {
 
     ghost has = { λ taker before after. HasReplayed (scope_of taker.replay) taker };
 
-    ghost stops = { λ taker before after. HasStopped (scope_of taker.replay) };
+    ghost stops = { λ taker before after. IsStoppedAt (scope_of taker.replay) };
 
     fn rows_taken(&self) -> u64 {
         self.marks.len() as u64 + self.replay.rows()
     }
 
-    fn take_all(&mut self, _out: &mut (), rows: &[Entry]) -> Option<Stop> {
-        self.take_each(rows)
+    #[inline(always)]
+    fn take(&mut self, _out: &mut (), entry: Entry) -> Option<Stop> {
+        self.take_entry(entry)
     }
 
     ghost counts = { λ taker before after rows has. has.count };

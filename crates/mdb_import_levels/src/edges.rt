@@ -6,9 +6,10 @@ mod record;
 
 use crate::finish::finish;
 use crate::lines::Lines;
+use crate::side::Inverted;
 pub use fault::{EdgesFault, FormFault, OrderFault};
 use header::{Columns, columns_of};
-use mdb_exports::{Imported, Part, Unit};
+use mdb_import_shared::{Imported, Part, Unit, is_comment};
 use mdb_records::Records;
 use record::read_record;
 use std::alloc::Global;
@@ -23,8 +24,8 @@ pub struct EdgesOptions {
     pub controller: Option<String>,
     /// The name of the column of the peripherals' line; `None`: `S` or `s`.
     pub peripheral: Option<String>,
-    /// Whether the levels are inverted, so that 0 is high.
-    pub invert: bool,
+    /// Which lines are read upside down.
+    pub inverted: Inverted,
     /// Whether damaged words are left out, and not refused.
     pub skip_damaged: bool,
     /// The first microsecond of the part that is asked for. `None`: from the beginning.
@@ -34,7 +35,7 @@ pub struct EdgesOptions {
 }
 
 /// Reads the table of edges whose records are still to come, and writes the rows of its words and
-/// breaks, each with a line feed. [`mdb_exports::records_of`] answers the records of a reader.
+/// breaks, each with a line feed. [`mdb_import_shared::records_of`] answers those of a reader.
 ///
 /// No row is written before all is read, so where the table is refused none is. Then one line is
 /// written, which is no row, so that no checker takes it. The table's text isn't kept, but its rows
@@ -66,38 +67,47 @@ fn lines_of<R: Read + Drop>(
     options: &EdgesOptions,
     records: &mut Records<R>,
 ) -> Result<Lines, EdgesFault> {
-    let columns = read_header(options, records)?;
-    let mut lines = Lines::new(alloc, options.skip_damaged);
+    let (columns, first) = read_header(options, records)?;
+    let mut lines = Lines::new(alloc, options.inverted, options.skip_damaged);
     let mut earliest = 0;
-    for number in 2..u64::MAX {
+    for number in first..u64::MAX {
         if !records.advance()? {
-            return match lines.end() {
-                Ok(()) => Ok(lines),
-                Err(fault) => Err(EdgesFault::of_levels(number, fault)),
+            lines.end(number)?;
+            return match lines.refusal() {
+                Some(refusal) => Err(EdgesFault::Line(refusal)),
+                None => Ok(lines),
             };
         }
-        let moment = read_record(options, &columns, number, earliest, &records.row())?;
+        let moment = match read_record(options, &columns, number, earliest, &records.row()) {
+            Ok(moment) => moment,
+            Err(fault) => return Err(lines.refusal().map_or(fault, EdgesFault::Line)),
+        };
         earliest = moment.at.parts() + 1;
-        match lines.take(moment.at, moment.controller, moment.peripheral) {
-            Ok(()) => (),
-            Err(fault) => return Err(EdgesFault::of_levels(number, fault)),
-        }
+        let (controller, peripheral) = (Some(moment.controller), Some(moment.peripheral));
+        lines.take(number, moment.at, controller, peripheral)?;
     }
     Err(EdgesFault::Read)
 }
 
-/// Reads the header.
+/// Reads the header, and answers its columns and the number of the record that comes next.
 fn read_header<R: Read + Drop>(
     options: &EdgesOptions,
     records: &mut Records<R>,
-) -> Result<Columns, EdgesFault> {
-    let number = 1;
-    if !records.advance()? {
-        let fault = FormFault::NoHeader;
-        return Err(EdgesFault::Form { number, fault });
+) -> Result<(Columns, u64), EdgesFault> {
+    for number in 1..u64::MAX {
+        if !records.advance()? {
+            let fault = FormFault::NoHeader;
+            return Err(EdgesFault::Form { number, fault });
+        }
+        let row = records.row();
+        let columns = columns_of(options, &row);
+        if is_comment(&row, columns.is_ok()) {
+            continue;
+        }
+        return match columns {
+            Ok(columns) => Ok((columns, number.saturating_add(1))),
+            Err(fault) => Err(EdgesFault::Form { number, fault }),
+        };
     }
-    match columns_of(options, &records.row()) {
-        Ok(columns) => Ok(columns),
-        Err(fault) => Err(EdgesFault::Form { number, fault }),
-    }
+    Err(EdgesFault::Read)
 }

@@ -1,5 +1,6 @@
 //! What is wrong with the levels of a line, and other reasons for which there are no rows.
 
+use mdb_import_shared::LowAtRest;
 use mdb_words::Line;
 use mdb_writing::WriteFailed;
 use std::alloc::{AllocError, AllocFailed};
@@ -45,20 +46,16 @@ impl LineFault {
     fn text(self) -> &'static str {
         match self {
             LineFault::Framing => {
-                "wanted a high stop bit, or a break of 95 ms or more, and the stop bit is low; \
-                 --skip-damaged leaves out what is damaged"
+                "wanted a high stop bit, or a break of 95 ms or more, and the stop bit is low"
             }
             LineFault::DeviceBreak => {
-                "wanted words alone on the line of the peripherals, and it is low for a break; \
-                 --skip-damaged leaves out what is damaged"
+                "wanted words alone on the line of the peripherals, and it is low for a break"
             }
             LineFault::LongBreak => {
-                "wanted a break of at most 999999999 microseconds, and it is longer; \
-                 --skip-damaged leaves out what is damaged"
+                "wanted a break of at most 999999999 microseconds, and it is longer"
             }
             LineFault::Cut => {
-                "wanted a line that is high at the end of the export, and it is low; \
-                 --skip-damaged leaves out what is damaged"
+                "wanted a line that is high at the end of the export, and it is low"
             }
         }
     }
@@ -72,13 +69,39 @@ impl fmt::Display for LineFault {
 
 impl std::error::Error for LineFault {}
 
-/// Why both lines take no more.
+/// What helps where the levels of a line are refused.
+#[derive(Clone, Copy, PartialEq, Eq, Debug, Error)]
+pub enum Advice {
+    /// Leaving out what is damaged.
+    #[error("--skip-damaged leaves out what is damaged")]
+    SkipDamaged,
+    /// Reading the line the other way up.
+    #[error("{0}")]
+    LowAtRest(LowAtRest),
+}
+
+/// Where the levels of a line are no words and breaks, and what is wrong.
+#[derive(Clone, Copy, PartialEq, Eq, Debug, Error)]
+#[error("{number} at {micros} on {line}: {fault}; {advice}")]
+pub struct LineRefusal {
+    /// The number of the record, or of the line of a dump, that shows the fault, counted from 1. At
+    /// the end of the export it is that of the one that would come next.
+    pub number: u64,
+    /// When the faulty word or break began, in whole microseconds.
+    pub micros: u64,
+    /// On which line of the bus.
+    pub line: Wire,
+    /// What is wrong.
+    pub fault: LineFault,
+    /// What helps.
+    pub advice: Advice,
+}
+
+/// Why a line takes no more.
 #[derive(Clone, Copy)]
-pub(crate) enum LevelsFault {
-    /// The levels of a line are no words and breaks.
-    Line {
-        /// Of which line.
-        line: Line,
+pub(crate) enum WaveFault {
+    /// Its levels are no words and breaks.
+    Levels {
         /// When the faulty word or break began, in whole microseconds.
         micros: u64,
         /// What is wrong.
@@ -88,9 +111,9 @@ pub(crate) enum LevelsFault {
     Memory,
 }
 
-impl<T: Drop> From<AllocFailed<T>> for LevelsFault {
-    fn from(_failed: AllocFailed<T>) -> LevelsFault {
-        LevelsFault::Memory
+impl<T: Drop> From<AllocFailed<T>> for WaveFault {
+    fn from(_failed: AllocFailed<T>) -> WaveFault {
+        WaveFault::Memory
     }
 }
 

@@ -2,7 +2,7 @@
 
 use crate::fault::Failure;
 use crate::lines::Lines;
-use mdb_exports::{Imported, Part, write_refusal};
+use mdb_import_shared::{Imported, Part, write_refusal};
 use std::alloc::Global;
 use std::io::Write;
 

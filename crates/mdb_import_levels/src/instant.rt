@@ -11,14 +11,14 @@ const MICRO: u128 = 3_000_000_000_000_000_000;
 const HALF_MICRO: u128 = 1_500_000_000_000_000_000;
 
 /// So many parts are more than any instant.
-const END: u128 = 3_000_000_000_000_000_000_000_000_000_000_000;
+const END: u128 = 3_000_000_000_000_000_000_000_000_000_000_000_000;
 
 /// An instant: thirds of 10^-24 of a second since the recording's zero, in whole microseconds below
-/// 10^15.
+/// 10^18.
 #[derive(Clone, Copy)]
 pub(crate) struct Instant {
     parts: u128,
-    ghost below: { parts + 1500000000000000000 < 3000000000000000000000000000000000 },
+    ghost below: { parts + 1500000000000000000 < 3000000000000000000000000000000000000 },
 }
 
 impl Instant {
@@ -27,7 +27,7 @@ impl Instant {
         Instant { parts: 0 }
     }
 
-    /// The instant of this many parts; `None` where it has more than 15 digits of microseconds.
+    /// The instant of this many parts; `None` where it has more than 18 digits of microseconds.
     pub(crate) fn new(parts: u128) -> Option<Instant> {
         if parts < END - HALF_MICRO {
             Some(Instant { parts })
@@ -38,7 +38,7 @@ impl Instant {
 
     /// The parts.
     pub(crate) fn parts(self) -> u128
-        ensures { result < 3000000000000000000000000000000000 }
+        ensures { result < 3000000000000000000000000000000000000 }
     {
         self.parts
     }

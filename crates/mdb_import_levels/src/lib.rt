@@ -12,6 +12,7 @@
 //! - A pulse of at most half a bit is passed over and counted, and so is what is damaged, if that
 //!   is asked for.
 //! - Rows outside the part that is asked for are counted.
+//! - One line alone that stands upside down is read so, and that is reported.
 //! - Everything else that is no row is refused, and then no row is written.
 //!
 //! Times of rows are in microseconds.
@@ -22,9 +23,12 @@ mod fault;
 mod finish;
 mod instant;
 mod lines;
+mod rest;
+mod side;
 mod vcd;
 mod wave;
 
 pub use edges::{EdgesFault, EdgesOptions, FormFault, OrderFault, import_edge_records};
-pub use fault::{LineFault, Wire};
+pub use fault::{Advice, LineFault, LineRefusal, Wire};
+pub use side::Inverted;
 pub use vcd::{DumpFault, LevelFault, VcdFault, VcdOptions, import_vcd};

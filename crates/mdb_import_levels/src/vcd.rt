@@ -7,8 +7,9 @@ mod text;
 mod values;
 
 use crate::finish::finish;
+use crate::side::Inverted;
 pub use fault::{DumpFault, LevelFault, VcdFault};
-use mdb_exports::{Imported, Part};
+use mdb_import_shared::{Imported, Part};
 use std::alloc::Global;
 use std::io::{Read, Write};
 use text::lines_of;
@@ -20,8 +21,8 @@ pub struct VcdOptions {
     pub controller: Option<String>,
     /// The name or the path of the peripherals' line; `None`: the name `S` or `s`.
     pub peripheral: Option<String>,
-    /// Whether the levels are inverted, so that 0 is high.
-    pub invert: bool,
+    /// Which lines are read upside down.
+    pub inverted: Inverted,
     /// Whether damaged words are left out, and told. Otherwise they are refused.
     pub skip_damaged: bool,
     /// The first microsecond of the part that is asked for. `None`: from the beginning.

@@ -2,9 +2,9 @@
 
 ghost use Rattle.std.specs.Prelude.{◌<◌};
 
-use crate::fault::{LevelsFault, LineFault};
+use crate::fault::{LineFault, WaveFault};
 use crate::instant::Instant;
-use mdb_exports::{Imported, Place};
+use mdb_import_shared::{Place, Places};
 use mdb_words::{Event, Line, Word};
 use std::alloc::Global;
 
@@ -106,6 +106,10 @@ pub(crate) struct Wave {
     state: State,
     /// Its rows.
     rows: Vec<Event>,
+    /// Where a pulse was passed over.
+    pulses: Places,
+    /// Where a damaged word was left out.
+    damaged: Places,
 }
 
 impl Wave {
@@ -117,6 +121,8 @@ impl Wave {
             high: false,
             state: State::Quiet,
             rows: Vec::new(alloc),
+            pulses: Places::new(),
+            damaged: Places::new(),
         }
     }
 
@@ -125,46 +131,53 @@ impl Wave {
         self.rows.as_slice()
     }
 
+    /// Where pulses were passed over.
+    pub(crate) fn pulses(&self) -> &Places {
+        &self.pulses
+    }
+
+    /// Where damaged words were left out.
+    pub(crate) fn damaged(&self) -> &Places {
+        &self.damaged
+    }
+
+    /// Whether a word was read.
+    pub(crate) fn has_word(&self) -> bool {
+        self.rows
+            .iter()
+            .any(|row| matches!(row, Event::Word { .. }))
+    }
+
     /// Takes the level that the line has from an instant on, which is after all that were taken.
     #[inline(always)]
-    pub(crate) fn take(
-        &mut self,
-        at: Instant,
-        high: bool,
-        told: &mut Imported,
-    ) -> Result<(), LevelsFault> {
+    pub(crate) fn take(&mut self, at: Instant, high: bool) -> Result<(), WaveFault> {
         if high == self.high && self.stays_until(at.parts()) {
             Ok(())
         } else {
-            self.take_news(at, high, told)
+            self.take_news(at, high)
         }
     }
 
     /// The same, where the line doesn't stay as it is, or something is found before the instant.
     #[inline(never)]
-    fn take_news(
-        &mut self,
-        at: Instant,
-        high: bool,
-        told: &mut Imported,
-    ) -> Result<(), LevelsFault> {
-        self.read_until(at.parts(), told)?;
+    fn take_news(&mut self, at: Instant, high: bool) -> Result<(), WaveFault> {
+        self.read_until(at.parts())?;
         if high == self.high {
             return Ok(());
         }
         self.high = high;
-        self.turn(at, told)
+        self.turn(at)
     }
 
     /// Takes the end: the line stays as it is.
-    pub(crate) fn end(&mut self, told: &mut Imported) -> Result<(), LevelsFault> {
+    pub(crate) fn end(&mut self) -> Result<(), WaveFault> {
         if self.high {
-            return self.read_until(u128::MAX, told);
+            return self.read_until(u128::MAX);
         }
         match self.state {
             State::Quiet => Ok(()),
             State::Framed(Frame { start, .. }) | State::Low(start) => {
-                self.add_damaged(start, LineFault::Cut, told)
+                self.add_damaged(start, LineFault::Cut)
             }
         }
     }
@@ -181,7 +194,7 @@ impl Wave {
 
     /// Reads what is before an instant up to which the line stays as it is.
     #[inline(always)]
-    fn read_until(&mut self, at: u128, told: &mut Imported) -> Result<(), LevelsFault> {
+    fn read_until(&mut self, at: u128) -> Result<(), WaveFault> {
         let State::Framed(frame) = &mut self.state else {
             return Ok(());
         };
@@ -194,7 +207,8 @@ impl Wave {
         match outcome {
             Outcome::Open => Ok(()),
             Outcome::Pulse => {
-                told.pulses.note(self.place_of(start));
+                let place = self.place_of(start);
+                self.pulses.note(place);
                 Ok(())
             }
             Outcome::Word(word) => self.add_word(start, word),
@@ -202,12 +216,12 @@ impl Wave {
                 self.state = State::Low(start);
                 Ok(())
             }
-            Outcome::Mixed => self.add_damaged(start, LineFault::Framing, told),
+            Outcome::Mixed => self.add_damaged(start, LineFault::Framing),
         }
     }
 
     /// Notes that the line has its level from an instant on, and had the other one before.
-    fn turn(&mut self, at: Instant, told: &mut Imported) -> Result<(), LevelsFault> {
+    fn turn(&mut self, at: Instant) -> Result<(), WaveFault> {
         match &mut self.state {
             State::Quiet => {
                 if !self.high {
@@ -227,23 +241,18 @@ impl Wave {
             State::Low(start) => {
                 let start = *start;
                 self.state = State::Quiet;
-                self.end_low(start, at, told)
+                self.end_low(start, at)
             }
         }
     }
 
     /// Adds the break from one instant to another one, if what is low between them is one.
-    fn end_low(
-        &mut self,
-        start: Instant,
-        end: Instant,
-        told: &mut Imported,
-    ) -> Result<(), LevelsFault> {
+    fn end_low(&mut self, start: Instant, end: Instant) -> Result<(), WaveFault> {
         if start.parts() + BREAK_LEAST > end.parts() {
-            return self.add_damaged(start, LineFault::Framing, told);
+            return self.add_damaged(start, LineFault::Framing);
         }
         if self.line == Line::Peripheral {
-            return self.add_damaged(start, LineFault::DeviceBreak, told);
+            return self.add_damaged(start, LineFault::DeviceBreak);
         }
         match start.until(end) {
             Some(length) => {
@@ -251,30 +260,25 @@ impl Wave {
                 self.rows.push(Event::Break { at, length })?;
                 Ok(())
             }
-            None => self.add_damaged(start, LineFault::LongBreak, told),
+            None => self.add_damaged(start, LineFault::LongBreak),
         }
     }
 
     /// Adds a word that began at an instant.
-    fn add_word(&mut self, start: Instant, word: Word) -> Result<(), LevelsFault> {
+    fn add_word(&mut self, start: Instant, word: Word) -> Result<(), WaveFault> {
         let (at, line) = (start.time(), self.line);
         self.rows.push(Event::Word { at, line, word })?;
         Ok(())
     }
 
     /// Notes what is damaged and began at an instant; or refuses it, if that isn't left out.
-    fn add_damaged(
-        &mut self,
-        start: Instant,
-        fault: LineFault,
-        told: &mut Imported,
-    ) -> Result<(), LevelsFault> {
+    fn add_damaged(&mut self, start: Instant, fault: LineFault) -> Result<(), WaveFault> {
         if self.skip {
-            told.damaged.note(self.place_of(start));
+            let place = self.place_of(start);
+            self.damaged.note(place);
             Ok(())
         } else {
-            Err(LevelsFault::Line {
-                line: self.line,
+            Err(WaveFault::Levels {
                 micros: start.time().value(),
                 fault,
             })

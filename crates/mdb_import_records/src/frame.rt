@@ -1,7 +1,7 @@
 //! What all imports by records do: they read record by record, write the rows of the part that is
 //! asked for, count the others, and end what was written of a refused export.
 
-use mdb_exports::{Imported, Part, add_row, write_refused};
+use mdb_import_shared::{Imported, Part, add_row, write_refused};
 use mdb_records::{ReadFault, Records};
 use mdb_words::Event;
 use mdb_writing::{Page, WriteFailed};

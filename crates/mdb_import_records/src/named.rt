@@ -1,6 +1,6 @@
 //! What a field means in more than one format.
 
-use mdb_exports::is_named;
+use mdb_import_shared::is_named;
 use mdb_words::Line;
 
 /// The line that a field names: by its letter, or by the name that was given. `None` where it names
@@ -19,12 +19,7 @@ pub(crate) fn line_named(
     }
 }
 
-/// Whether a field has no decimal digit.
-pub(crate) fn has_no_digit(field: &[u8]) -> bool {
-    for byte in field {
-        if byte.is_ascii_digit() {
-            return false;
-        }
-    }
-    true
+/// Whether a text can be that of titles: it has no decimal digit, and isn't what gzip writes.
+pub(crate) fn can_be_titles(text: &[u8]) -> bool {
+    !text.starts_with(b"\x1F\x8B") && !text.iter().any(u8::is_ascii_digit)
 }

@@ -3,7 +3,7 @@
 -- otherwise, and where other levels were told before it.
 use Rattle.mdb_late_start.proofs.Words.{◌≡◌, inl, inr, ℕ, List, [], ◌∷◌, ◌++◌, Levels, Beginning, Scope, profile_of, Command, IsForeignOpening, Piece, Whole, AskTail, IsSaid, Asks, InAnswerTime, arith, sym, ◌∙◌, ◌⊎◌, ◌+◌, Option, AllByRecursion, Event, Break, Controller, IsBlockWord, IsForeign, IsForeignWord, Say, reply_words, IsBreakEvent, AreForeignWords, word_waits, block_waits, Profile, rest_after, ReplyTail, RepeatTail, Position, InForeign, MayCome, NotBefore, piece_events, Quiet, low_words, peripheral_foreign, answer_foreign, heard}
 use Rattle.mdb_bus.specs.declared.act.Act.TheVariants as acts
-use Rattle.mdb_blocks.specs.Block.{block_of, controller_words}
+use Rattle.mdb_words.specs.Block.{block_of, controller_words}
 use Rattle.mdb_msgs.specs.Commands.{IsByte, command_bytes}
 use Rattle.mdb_msgs.proofs.CommandBytes.{begun_low, whole_low}
 

@@ -1,3 +1,4 @@
+-- What a device's facts are after its reply, and after it takes a further mask.
 use Rattle.mdb_machine.proofs.Words.{◌≡◌, ◌∙◌, ℕ, false, [], refl, ap, sym, bit_or, Reply, Profile, Effect, Facts, Tables, enabled_after, facts_in, facts_taken, facts_told, PastFacts, or_else, resets, effect_answered, past_after, past_in}
 use Rattle.mdb_machine.specs.declared.past.Effect.TheVariants as effects
 use Rattle.mdb_machine.specs.declared.keeper.KeeperFacts.{KeeperFacts}

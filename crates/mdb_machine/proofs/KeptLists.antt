@@ -1,3 +1,4 @@
+-- What is kept of a reply, message by message, and what a reply can tell of it.
 use Rattle.mdb_machine.proofs.Words.{◌≡◌, ◌||◌, ◌&&◌, not, Bool, List, [], ◌∷◌, ◌++◌, Option, Some, None, IfNone, refl, ap, sym, subst, ◌∙◌, map, true, false, OnFalse, list_any, filter_map-append, Part, Choice, Lost, Restart, IsNew, MayBeRead, HasNews, has_reset, holds_acked, is_reset, keeps_early, kept_by, kept_of, IsSummary}
 use Rattle.std.proofs.lemmas.List.Folds.{list_any-append}
 use Rattle.mdb_machine.specs.declared.kept.Part.TheVariants as part

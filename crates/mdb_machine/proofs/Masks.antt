@@ -1,3 +1,4 @@
+-- Which types a mask of 16 bits enables, and how a further mask adds to them.
 use Rattle.mdb_machine.proofs.Words.{◌≡◌, ℕ, zero, suc, ◌<◌, ◌≤◌, ◌/◌, ◌%◌, ◌^◌, ◌==◌, ◌||◌, ◌∙◌, inl, inr, Bool, false, ltb, arith, ap, sym, refl, bit_or, max, cases_lt, le-ltb, lt-ltb, fun_ext, bit_at, Profile, enabled_after}
 use Rattle.std.proofs.Math.Pow.{pow_mono}
 use Rattle.std.proofs.lemmas.Nat.{div_below}

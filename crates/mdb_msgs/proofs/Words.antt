@@ -10,7 +10,7 @@ pub use Rattle.std.proofs.lemmas.Result.{err_from_is_err_and}
 pub use Rattle.std.specs.List.{AllByRecursion, flat_map, list_any}
 pub use Rattle.std.specs.Option.{option_or}
 pub use Rattle.std.specs.Result.{result_ok}
-pub use Rattle.mdb_blocks.specs.Block.{IsContent, block_of}
+pub use Rattle.mdb_words.specs.Block.{IsContent, block_of}
 pub use Rattle.mdb_msgs.specs.Bill.{IsBillMsg, IsOfRecycler, NoBillMsg, bill_msg_bytes}
 pub use Rattle.mdb_msgs.specs.Changer.{IsChangerMsg, NoChangerMsg, changer_msg_bytes}
 pub use Rattle.mdb_msgs.specs.CommandFaults.{IsCommandFault, IsRefused}

@@ -1,6 +1,6 @@
 -- Laws about commands and replies.
 use Rattle.std.specs.Prelude.{◌≡◌, ◌≢◌, ◌<◌, ◌≤◌, ◌⊎◌, ◌++◌, Bool, List, [], ℕ, length, All, false}
-use Rattle.mdb_blocks.specs.Block.{IsContent}
+use Rattle.mdb_words.specs.Block.{IsContent}
 use Rattle.mdb_msgs.specs.declared.command.Command.{Command}
 use Rattle.mdb_msgs.specs.declared.fault.MsgFault.{MsgFault}
 use Rattle.mdb_msgs.specs.declared.command.Device.{Device}

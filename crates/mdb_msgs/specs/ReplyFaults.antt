@@ -3,7 +3,7 @@ use Rattle.std.specs.Prelude.{◌≤◌, length, ◌≡◌, ◌≢◌, ℕ, ◌�
 use Rattle.mdb_msgs.specs.declared.fault.MsgFault.{MsgFault}
 use Rattle.mdb_msgs.specs.declared.fault.MsgFault.TheVariants.{Length, Message, Profile, Answer}
 use Rattle.mdb_msgs.specs.Reader.{IsReaderList, ReaderMessages, reader_list_bytes}
-use Rattle.mdb_blocks.specs.Block.{block_of}
+use Rattle.mdb_words.specs.Block.{block_of}
 use Rattle.mdb_msgs.specs.declared.answer.DataForm.{DataForm}
 use Rattle.mdb_msgs.specs.declared.command.Command.{Command}
 use Rattle.mdb_msgs.specs.declared.reply.Reply.{Reply}

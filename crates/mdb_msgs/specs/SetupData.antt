@@ -3,7 +3,7 @@
 -- device; that it may be known from an earlier recording, this profile).
 use Rattle.std.specs.Prelude.{◌≡◌, ◌⊎◌, ℕ, Bool, true, false, List, [], ◌∷◌, Option, Some, None, option_map, is_some}
 use Rattle.std.specs.Option.{option_or}
-use Rattle.mdb_blocks.specs.BlockFaults.{IsBlock}
+use Rattle.mdb_words.specs.BlockFaults.{IsBlock}
 use Rattle.mdb_msgs.specs.declared.command.BillCommand.TheVariants as bill
 use Rattle.mdb_msgs.specs.declared.command.ChangerCommand.TheVariants as changer
 use Rattle.mdb_msgs.specs.declared.command.Command.{Command}

@@ -8,12 +8,12 @@ ghost use Rattle.mdb_msgs.specs.declared.fault.MsgFault.{MsgFault};
 ghost use Rattle.mdb_msgs.specs.Commands.{HasBillFields, HasChangerFields, HasReaderFields, Spells, bill_bytes, changer_bytes, poll_of, reader_bytes};
 ghost use Rattle.mdb_msgs.specs.CommandFaults.{IsCommandFault, IsRefused};
 ghost use Rattle.mdb_msgs.specs.Needs.{reader_need};
-ghost use Rattle.mdb_blocks.specs.Block.{block_of};
+ghost use Rattle.mdb_words.specs.Block.{block_of};
 
 use super::command::{BillCommand, ChangerCommand, Command, Device, ReaderCommand, ReaderUnit};
 use super::fault::MsgFault;
 use super::two_bytes::number;
-use mdb_blocks::Block;
+use mdb_words::Block;
 
 /// Reads a block as a command.
 ///

@@ -1,13 +1,13 @@
 //! Commands as blocks of the controller.
 
 ghost use Rattle.std.specs.Prelude.{◌≡◌, ◌<◌, ◌≤◌, ◌+◌, ◌/◌, ◌∷◌, ◌++◌, length};
-ghost use Rattle.mdb_blocks.specs.Block.{block_of};
+ghost use Rattle.mdb_words.specs.Block.{block_of};
 ghost use Rattle.mdb_msgs.specs.Commands.{AreBytes, HasBillFields, HasChangerFields, HasReaderFields, Spells, bill_bytes, changer_bytes, reader_bytes};
 ghost use Rattle.mdb_msgs.specs.TwoBytes.{two_bytes};
 
 use super::command::{BillCommand, ChangerCommand, Command, ReaderCommand};
 use arrayvec::ArrayVec;
-use mdb_blocks::{Block, seal};
+use mdb_words::{Block, seal};
 
 /// The block of a command.
 pub fn write_command(command: &Command) -> Block

@@ -1,7 +1,7 @@
 //! Laws of commands and replies. They follow from the grammars alone.
 
 ghost use Rattle.std.specs.Prelude.{◌≡◌, ◌<◌, ◌≤◌, ◌+◌, ◌++◌, List, ℕ, length, All, slice_index};
-ghost use Rattle.mdb_blocks.specs.Block.{block_of};
+ghost use Rattle.mdb_words.specs.Block.{block_of};
 ghost use Rattle.mdb_msgs.specs.declared.command.Command.{Command};
 ghost use Rattle.mdb_msgs.specs.declared.need.Need.TheVariants.{Exactly};
 ghost use Rattle.mdb_msgs.specs.declared.device_set.DeviceSet.{DeviceSet};

@@ -1,7 +1,7 @@
 //! Replies of the peripherals.
 
 ghost use Rattle.std.specs.Prelude.{◌≡◌, ℕ, List, ◌≤◌, ◌↔◌, length, IsTrue, Ok, Err, IsOk, IfOk, IfErr};
-ghost use Rattle.mdb_blocks.specs.Block.{block_of};
+ghost use Rattle.mdb_words.specs.Block.{block_of};
 ghost use Rattle.mdb_msgs.specs.Answers.{IsDataLength};
 ghost use Rattle.mdb_msgs.specs.declared.fault.MsgFault.{MsgFault};
 ghost use Rattle.mdb_msgs.specs.declared.reply.Reply.{Reply};
@@ -22,7 +22,7 @@ use arrayvec::ArrayVec;
 use bill::BillMsg;
 use changer::ChangerMsg;
 use list::{Bytes, list_of};
-use mdb_blocks::{Block, seal};
+use mdb_words::{Block, seal};
 use reader::ReaderList;
 use setup::{BillSetup, ChangerSetup, Stacker, TubeStatus};
 

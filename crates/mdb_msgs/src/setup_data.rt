@@ -15,7 +15,7 @@ use crate::reading::Reading;
 use crate::reply::reader::{ReaderList, ReaderMsg};
 use crate::reply::{Reply, read_reply};
 use crate::setups::{ReaderConfig, Setups};
-use mdb_blocks::Block;
+use mdb_words::Block;
 
 impl Setups {
     /// Learns how a device is set up from the block of its answer to SETUP, or of a reader's answer

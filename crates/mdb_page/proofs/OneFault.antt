@@ -1,6 +1,6 @@
 -- How one fault more of a survey is listed, or not.
 use Rattle.mdb_page.proofs.Words.{All, All-push, Ended, FaultListing, HasNoRoom, IsPlace, LINES_ROOM, List, PageFault, PageLines, [], ap, arith, false, length, length-append, length-set, map, map-append, refl, rows_of_faults, set, subst, sym, take, take_more_set, text_lines, true, written_lines, ℕ, ◌++◌, ◌+◌, ◌<◌, ◌∙◌, ◌∷◌, ◌≡◌, ◌⊎◌}
-use Rattle.mdb_survey_text.specs.Lines.{ended_lines, lines_of}
+use Rattle.mdb_surveyor.specs.Lines.{ended_lines, lines_of}
 use Rattle.mdb_page.specs.inner.Surveying.{HasListed}
 
 -- The faults of a survey are listed, and one comes more.

@@ -1,8 +1,8 @@
 -- What a replay without marks tells.
 use Rattle.mdb_page.proofs.Words.{Event, List, None, Offence, Scope, [], ℕ, ◌≡◌}
-use Rattle.mdb_explained_runs.specs.ReplayFaults.{IsReplayFault}
-use Rattle.mdb_explained_runs.specs.declared.replay.ReplayFault.{ReplayFault}
-use Rattle.mdb_explained_runs.specs.declared.replay.ReplayFault.TheVariants as faults
+use Rattle.mdb_run_search.specs.ReplayFaults.{IsReplayFault}
+use Rattle.mdb_run_search.specs.declared.replay.ReplayFault.{ReplayFault}
+use Rattle.mdb_run_search.specs.declared.replay.ReplayFault.TheVariants as faults
 use Rattle.mdb_page.specs.Replays.{IsPlainOffence}
 
 -- without a mark there is none that may not stand

@@ -1,11 +1,11 @@
 -- What the survey of a text comes to, by how its reading ended.
 use Rattle.mdb_page.proofs.Words.{AreListed, Bool, Ended, Event, FaultListing, HasNoRoom, IsLine, IsPlace, IsSurveyed, IsUnmarked, IsWhole, LineFault, List, PageFault, PageLines, PageTold, ROWS_MAX, Scope, TellsRow, [], ap, arith, false, faultless, faulty, inl, inr, length, length-append, length-map, min, min-eq_left, min-eq_right, refl, stretch_text, subst, suc, summary_text, sym, true, written, zero, ℕ, ◌++◌, ◌+◌, ◌-◌, ◌<◌, ◌∙◌, ◌∷◌, ◌≡◌, ◌≢◌, ◌≤◌, ◌⊎◌}
-use Rattle.mdb_stretches.specs.declared.stretch.Stretch.{Stretch}
-use Rattle.mdb_stretches.specs.declared.summary.Summary.{Summary}
-use Rattle.mdb_stretches.specs.declared.surveyor.Surveyor.{Surveyor}
-use Rattle.mdb_stretches.specs.Stretches.{IsSurvey}
-use Rattle.mdb_stretches.specs.Summaries.{summary_of}
-use Rattle.mdb_stretches.specs.Surveyor.{StandsFor, rows_of}
+use Rattle.mdb_surveyor.specs.declared.stretch.Stretch.{Stretch}
+use Rattle.mdb_surveyor.specs.declared.summary.Summary.{Summary}
+use Rattle.mdb_surveyor.specs.declared.surveyor.Surveyor.{Surveyor}
+use Rattle.mdb_surveyor.specs.Stretches.{IsSurvey}
+use Rattle.mdb_surveyor.specs.Summaries.{summary_of}
+use Rattle.mdb_surveyor.specs.Surveyor.{StandsFor, rows_of}
 use Rattle.mdb_page.specs.Lines as texts
 use Rattle.mdb_page.specs.Surveys.{EndsSo, no_row, too_long, unread}
 use Rattle.mdb_page.specs.inner.Surveying.{AreLater, EndsWith, HasListed, HasSurveyed, StopsFor}

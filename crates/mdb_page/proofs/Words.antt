@@ -25,8 +25,8 @@ pub use Rattle.mdb_follow.specs.declared.follower.TheConstants.{ROWS_MAX}
 pub use Rattle.mdb_follow.specs.declared.offence.Offence.{Offence}
 pub use Rattle.mdb_follow.specs.declared.range.Range.{Range}
 pub use Rattle.mdb_follow.specs.declared.report.Report.{Report}
-pub use Rattle.mdb_stretches.specs.declared.stretch.Ended.{Ended}
-pub use Rattle.mdb_survey_text.specs.SurveyText.{stretch_text, summary_text, text_lines}
+pub use Rattle.mdb_surveyor.specs.declared.stretch.Ended.{Ended}
+pub use Rattle.mdb_surveyor.specs.SurveyText.{stretch_text, summary_text, text_lines}
 pub use Rattle.mdb_words.specs.Event.{start_of}
 pub use Rattle.mdb_words.specs.declared.event.Event.{Event}
 pub use Rattle.mdb_page.specs.Acts.{HasRows, IsKept, IsNext, IsOfPiece, Shows, ShowsAct, has_options, place_in}

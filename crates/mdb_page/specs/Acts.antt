@@ -4,7 +4,7 @@ use Rattle.std.specs.List.{list_any}
 use Rattle.mdb_words.specs.declared.event.Event.{Event}
 use Rattle.mdb_words.specs.declared.row.RowFault.{RowFault}
 use Rattle.mdb_words.specs.Event.{start_of}
-use Rattle.mdb_blocks.specs.Block.{block_of}
+use Rattle.mdb_words.specs.Block.{block_of}
 use Rattle.mdb_msgs.specs.declared.command.Command.{Command}
 use Rattle.mdb_msgs.specs.declared.command.Device.{Device}
 use Rattle.mdb_msgs.specs.declared.command.Device.TheVariants.{Changer, Bill, Reader}

@@ -3,8 +3,8 @@
 use Rattle.std.specs.Prelude.{List, [], None}
 use Rattle.mdb_words.specs.declared.event.Event.{Event}
 use Rattle.mdb_bus.specs.declared.scope.Scope.{Scope}
-use Rattle.mdb_explained_runs.specs.ReplayFaults.{IsReplayOffence}
-use Rattle.mdb_explained_runs.specs.Replays.{IsReplayReport}
+use Rattle.mdb_run_search.specs.ReplayFaults.{IsReplayOffence}
+use Rattle.mdb_run_search.specs.Replays.{IsReplayReport}
 use Rattle.mdb_follow.specs.declared.offence.Offence.{Offence}
 use Rattle.mdb_follow.specs.declared.report.Report.{Report}
 

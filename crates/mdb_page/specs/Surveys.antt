@@ -4,12 +4,12 @@ use Rattle.mdb_words.specs.declared.event.Event.{Event}
 use Rattle.mdb_words.specs.declared.row.RowFault.{RowFault}
 use Rattle.mdb_bus.specs.declared.scope.Scope.{Scope}
 use Rattle.mdb_follow.specs.declared.follower.TheConstants.{ROWS_MAX}
-use Rattle.mdb_stretches.specs.declared.stretch.Ended.{Ended}
-use Rattle.mdb_stretches.specs.declared.stretch.Stretch.{Stretch}
-use Rattle.mdb_stretches.specs.Stretches.{IsSurvey}
-use Rattle.mdb_stretches.specs.Summaries.{summary_of}
-use Rattle.mdb_survey_text.specs.Lines.{lines_of}
-use Rattle.mdb_survey_text.specs.SurveyText.{stretch_text, summary_text, text_lines}
+use Rattle.mdb_surveyor.specs.declared.stretch.Ended.{Ended}
+use Rattle.mdb_surveyor.specs.declared.stretch.Stretch.{Stretch}
+use Rattle.mdb_surveyor.specs.Stretches.{IsSurvey}
+use Rattle.mdb_surveyor.specs.Summaries.{summary_of}
+use Rattle.mdb_surveyor.specs.Lines.{lines_of}
+use Rattle.mdb_surveyor.specs.SurveyText.{stretch_text, summary_text, text_lines}
 use Rattle.mdb_page.specs.Answers.{number_of, written}
 use Rattle.mdb_page.specs.Lines.{HasRead, IsLine, IsNextRow, IsNoRow, IsUnmarked, IsUnread}
 use Rattle.mdb_page.specs.declared.answer.PageTold.{PageTold}

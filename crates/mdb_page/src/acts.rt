@@ -3,7 +3,7 @@
 ghost use Rattle.std.specs.Prelude.{◌<◌, ◌≡◌, ◌≤◌, ℕ, List, [], ◌∷◌, length, IfSome, None, Some};
 ghost use Rattle.std.specs.List.{list_any};
 ghost use Rattle.mdb_words.specs.declared.event.Event.{Event};
-ghost use Rattle.mdb_blocks.specs.Block.{block_of};
+ghost use Rattle.mdb_words.specs.Block.{block_of};
 ghost use Rattle.mdb_msgs.specs.Commands.{device_of};
 ghost use Rattle.mdb_msgs.specs.Reader.{has_long};
 ghost use Rattle.mdb_msgs.specs.Replies.{reply_bytes};
@@ -16,9 +16,9 @@ ghost use Rattle.mdb_page.specs.declared.acts.PageAct.{PageAct};
 ghost use Rattle.mdb_page.specs.inner.Listing.{AreOf, HasListed, Moves, with_rows};
 
 use crate::rows::{Rows, device_number};
-use mdb_blocks::Block;
 use mdb_bus::Act;
 use mdb_msgs::{Command, ReaderList, ReaderMsg, Reply, write_command, write_reply};
+use mdb_words::Block;
 
 /// An act on the bus.
 #[repr(C)]

@@ -16,8 +16,8 @@ use crate::lines::{LineFault, first_line, row_of, without_mark, without_return};
 use crate::options::{PageOptions, profile_asked, taken_so};
 use crate::sheet::PageText;
 use mdb_bus::Scope;
-use mdb_explained_runs::Replay;
 use mdb_follow::{Follower, Offence, ROWS_MAX, laws};
+use mdb_run_search::Replay;
 use mdb_text::{Outcome, write_outcome};
 use mdb_words::RowFault;
 

@@ -1,9 +1,9 @@
 //! The faults of a survey, as they are listed.
 
 ghost use Rattle.std.specs.Prelude.{◌≡◌, ◌∷◌, ◌≤◌, ◌-◌, List, [], OnOk, false, true, ℕ, length};
-ghost use Rattle.mdb_stretches.specs.declared.stretch.Ended.{Ended};
-ghost use Rattle.mdb_survey_text.specs.Lines.{ended_lines};
-ghost use Rattle.mdb_survey_text.specs.SurveyText.{text_lines};
+ghost use Rattle.mdb_surveyor.specs.declared.stretch.Ended.{Ended};
+ghost use Rattle.mdb_surveyor.specs.Lines.{ended_lines};
+ghost use Rattle.mdb_surveyor.specs.SurveyText.{text_lines};
 ghost use Rattle.mdb_page.specs.Answers.{written};
 ghost use Rattle.mdb_page.specs.Surveys.{IsPlace};
 ghost use Rattle.mdb_page.specs.inner.Surveying.{HasListed};
@@ -12,8 +12,7 @@ ghost use Rattle.mdb_page.specs.declared.sheet.PageLines.{PageLines};
 ghost use Rattle.mdb_page.specs.declared.sheet.TheConstants.{LINES_ROOM};
 
 use crate::sheet::{PageLines, PageText};
-use mdb_stretches::Ended;
-use mdb_survey_text::{write_fault, write_stretch};
+use mdb_surveyor::{Ended, write_fault, write_stretch};
 use std::io;
 
 /// Where a fault of a survey stands.

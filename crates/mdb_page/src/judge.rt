@@ -8,11 +8,11 @@ ghost use Rattle.mdb_follow.specs.Offences.{IsOffence};
 ghost use Rattle.mdb_follow.specs.Report.{IsReport};
 ghost use Rattle.mdb_follow.specs.declared.offence.Offence.{Offence};
 ghost use Rattle.mdb_follow.specs.declared.report.Report.{Report};
-ghost use Rattle.mdb_explained_runs.specs.Replays as replays;
+ghost use Rattle.mdb_run_search.specs.Replays as replays;
 ghost use Rattle.mdb_page.specs.Replays.{IsPlainOffence, IsPlainReport};
 
-use mdb_explained_runs::{Replay, ReplayFault};
 use mdb_follow::{Follower, Offence, ROWS_MAX, Report};
+use mdb_run_search::{Replay, ReplayFault};
 use mdb_words::Event;
 
 /// What takes rows until one is impossible, and reports on those before it.

@@ -1,16 +1,16 @@
 //! The options of a check, as the page gives them.
 
 ghost use Rattle.std.specs.Prelude.{◌≡◌, ◌≤◌, ◌↔◌, take, IfNone, IfSome, IsTrue, if◌then◌else◌, true, false};
-ghost use Rattle.mdb_blocks.specs.BlockFaults.{IsBlock};
+ghost use Rattle.mdb_words.specs.BlockFaults.{IsBlock};
 ghost use Rattle.mdb_bus.specs.declared.scope.Scope.{Scope};
 ghost use Rattle.mdb_msgs.specs.Settings.{with_device, nothing_known};
 ghost use Rattle.mdb_msgs.specs.declared.setups.Setups.{Setups};
 ghost use Rattle.mdb_page.specs.Options.{Adds, AddsAsk, AddsLevel, AddsTold, AreAnswers, AreSetups, AreTold, GivesNone};
 ghost use Rattle.mdb_page.specs.Options.{GivesNothing, IsTakenSo, IsTold, TellsNothing, both, devices_of, profile_by, reader_with};
 
-use mdb_blocks::{Block, unseal};
 use mdb_bus::{Profile, Scope};
 use mdb_msgs::{Device, DeviceSet, ReaderSetup, ReaderUnit, Setups, laws, read_command};
+use mdb_words::{Block, unseal};
 
 /// A device's answer to SETUP, or a block of the controller to a reader: a whole block, with its
 /// sum at the end.

@@ -2,9 +2,9 @@
 
 ghost use Rattle.std.specs.Prelude.{◌==◌, ◌≡◌, ◌≢◌, ◌≤◌, ◌++◌, [], List, ℕ, length, if◌then◌else◌};
 ghost use Rattle.mdb_bus.specs.declared.scope.Scope.{Scope};
-ghost use Rattle.mdb_stretches.specs.Surveyor.{StandsFor, rows_of};
+ghost use Rattle.mdb_surveyor.specs.Surveyor.{StandsFor, rows_of};
 ghost use Rattle.mdb_follow.specs.declared.follower.TheConstants.{ROWS_MAX};
-ghost use Rattle.mdb_survey_text.specs.SurveyText.{summary_text};
+ghost use Rattle.mdb_surveyor.specs.SurveyText.{summary_text};
 ghost use Rattle.mdb_page.specs.Answers.{written};
 ghost use Rattle.mdb_page.specs.Options.{IsTakenSo};
 ghost use Rattle.mdb_page.specs.Surveys.{IsSurveyed};
@@ -18,8 +18,7 @@ use crate::lines::{LineFault, first_line, row_of, without_mark, without_return};
 use crate::options::{PageOptions, taken_so};
 use crate::sheet::{PageLines, PageText};
 use mdb_follow::ROWS_MAX;
-use mdb_stretches::{Stretch, Summary, Surveyor};
-use mdb_survey_text::{write_stretch, write_summary};
+use mdb_surveyor::{Stretch, Summary, Surveyor, write_stretch, write_summary};
 
 /// Why a survey ends.
 #[derive(Clone, Copy)]

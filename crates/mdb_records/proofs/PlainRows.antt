@@ -45,29 +45,29 @@ plain_of most n letter value is plain others = record {
 abbrev pub IsWritten : Event → Type 0
 IsWritten event = IsRow (row_fields event) event × IsPlain (row_fields event)
 
-pub word_written : (at : ℕ) (line : Line) (word : ℕ) → at < 10 ^ 15 → word < 512
+pub word_written : (at : ℕ) (line : Line) (word : ℕ) → at < 10 ^ 18 → word < 512
     → IsWritten (Word at line word)
 word_written at line word early small =
-    let start : IsDecimal 15 (decimal at) at =
-    IsDecimal-decimal 15 at (omega arith) early (omega arith) in (
+    let start : IsDecimal 18 (decimal at) at =
+    IsDecimal-decimal 18 at (omega arith) early (omega arith) in (
       (decimal at, hex_word word, refl, start, IsHexWord-hex_word word small),
-      plain_of 15 at (letter_of line) (hex_word word) start (letter_plain line)
+      plain_of 18 at (letter_of line) (hex_word word) start (letter_plain line)
           (hex_bytes IsPlainByte glyph_plain word small),
     )
 
-pub break_written : (at span : ℕ) → at < 10 ^ 15 → span < 10 ^ 9 → IsWritten (Break at span)
+pub break_written : (at span : ℕ) → at < 10 ^ 18 → span < 10 ^ 9 → IsWritten (Break at span)
 break_written at span early short =
-    let start : IsDecimal 15 (decimal at) at =
-    IsDecimal-decimal 15 at (omega arith) early (omega arith) in
+    let start : IsDecimal 18 (decimal at) at =
+    IsDecimal-decimal 18 at (omega arith) early (omega arith) in
     let long : IsDecimal 9 (decimal span) span =
     IsDecimal-decimal 9 span (omega arith) short (omega arith) in (
       (decimal at, decimal span, refl, start, long),
-      plain_of 15 at break_letter (decimal span) start (omega arith, omega arith)
+      plain_of 18 at break_letter (decimal span) start (omega arith, omega arith)
           (decimal_plain 9 span long),
     )
 
 pub row_written : (fields : List (List ℕ)) (event : Event) → IsRow fields event → IsWritten event
 row_written fields (Word at line word) is =
-    word_written at line word (IsDecimal-lt 15 is.0 at is.3) is.4.small
+    word_written at line word (IsDecimal-lt 18 is.0 at is.3) is.4.small
 row_written fields (Break at span) is =
-    break_written at span (IsDecimal-lt 15 is.0 at is.3) (IsDecimal-lt 9 is.1 span is.4)
+    break_written at span (IsDecimal-lt 18 is.0 at is.3) (IsDecimal-lt 9 is.1 span is.4)

@@ -6,7 +6,7 @@ use Rattle.json.proofs.OnLiterals.{json_on_literals}
 use Rattle.json.proofs.Printed.Strings.{escape_byte_plain}
 use Rattle.serde_json.specs.Data.{Members, number, string, member, no_members, unsigned}
 use Rattle.serde_json.specs.Written.{compact_text, members_text}
-use Rattle.mdb_blocks.specs.Block.{block_of}
+use Rattle.mdb_words.specs.Block.{block_of}
 use Rattle.mdb_msgs.specs.declared.command.Command.{Command}
 use Rattle.mdb_msgs.specs.declared.command.Device.{Device}
 use Rattle.mdb_msgs.specs.declared.command.Device.TheVariants.{Reader}

@@ -50,7 +50,7 @@ module _ (scope : Scope) (laws : BusLaws scope) where
         link.fault.rule.breaks (rw link.act_list.whole list))
     | inr machine ↦
         let longer = Whole machine.act (machine.begun ++ row ∷ []) ∷ machine.earlier in
-        elim (counted_or_early (profile_of scope.begins) (is_in_haste scope longer) row
+        elim (counted_or_early (profile_of scope.begins) (is_in_haste longer) row
         (record { rule = machine.own; blame = sender_of machine.act })) [
           | inl own ↦ inl (
             machine.no_step.device,

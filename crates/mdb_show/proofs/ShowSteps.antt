@@ -1,36 +1,18 @@
--- How far the lines of some rows have come.
-use Rattle.mdb_show.proofs.Words.{Act, ArePieces, Err, Event, HasAdded, HasPieces, HasShown, IsAdded, IsAddedToFault, IsLinkFault, IsNotTaken, LeadInto, LineForm, Lines, LinkFault, List, Memory, NamesAReply, None, Output, Piece, Puts, RunFault, Scope, Some, StandsFor, Whole, Write, [], add-one, ap, append-nil, append_assoc, arith, break_both, closed_pieces, drop, ended_text, events_of, get_or, inl, inr, length, length-append, lines_of, piece_events, put_both, refl, scope_of, sym, take, take-append-drop, take_more, ℕ, ◌++◌, ◌+◌, ◌<◌, ◌∙◌, ◌∷◌, ◌≡◌, ◌≤◌}
-use Rattle.std.proofs.Math.Seq.{drop-cons}
+-- How far the lines of rows have come, row by row.
+use Rattle.mdb_show.proofs.Words.{Act, ArePieces, Err, Event, HasAdded, HasFaultLine, HasLines, HasPieces, HasShown, IsActList, IsAdded, IsLinkFault, IsNotTaken, LineForm, Lines, LinkFault, List, Memory, NamesAReply, None, Ok, Output, Piece, Puts, RunFault, Scope, Some, StandsFor, Whole, Write, [], ap, arith, break_both, closed_pieces, ended_text, events_of, inl, inr, length, length-append, lines_of, piece_events, put_both, refl, scope_of, sym, ℕ, ◌++◌, ◌+◌, ◌∙◌, ◌∷◌, ◌≡◌}
 use Rattle.mdb_bus.specs.declared.bus.Bus.{Bus}
 use Rattle.mdb_bus.specs.Bus.{GoesOn}
 use Rattle.mdb_bus.proofs.Breaks.{whole_of}
 use Rattle.mdb_show.proofs.ShowTexts.{ends_act, goes_on_closed}
 
--- The lines of some rows.
-
--- after the old lines those of so many rows are added
-pub record Adds (form : LineForm) (scope : Scope) (old lines : Lines) (was now : Output)
-    (rows : List Event) (count : ℕ) : Type 0 where
-  pub stands : HasPieces lines.bus
-  pub few : lines.shown ≤ lines.rows
-  pub counted : lines.rows ≡ old.rows + count
-  pub kept : scope_of lines.bus ≡ scope_of old.bus
-  pub shown : (before : Output) (earlier : List Event) → HasShown form scope old before was earlier
-      → HasShown form scope lines before now (earlier ++ rows)
-
-pub adds_none : (form : LineForm) (scope : Scope) (lines : Lines) (now : Output)
-    → HasPieces lines.bus → lines.shown ≤ lines.rows → Adds form scope lines lines now now [] 0
-adds_none form scope lines now stands few = record {
-  stands = stands;
-  few = few;
-  counted = omega (arith);
-  kept = refl;
-  shown = λ before earlier has. rw append-nil has;
-}
-
 module _ {form : LineForm} {scope : Scope} {before now : Output} where
+  -- the rows so far have their act list
+  abbrev pub its_list : {lines : Lines} {rows : List Event}
+      (has : HasShown form scope lines before now rows) → IsActList scope has.pieces rows
+  its_list has = record { in_order = rw has.in_scope at has.stands.in_order; whole = has.are }
+
   -- a row that ends no act is shown
-  row_shown : {old new : Lines} {rows : List Event} {event : Event}
+  pub row_shown : {old new : Lines} {rows : List Event} {event : Event}
       (has : HasShown form scope old before now rows) → new.rows ≡ old.rows + 1
       → new.shown ≡ old.shown → scope_of new.bus ≡ scope_of old.bus
       → GoesOn new.bus has.pieces event None
@@ -64,7 +46,7 @@ module _ {form : LineForm} {scope : Scope} {before now : Output} where
       (order, added.0, added.1)
 
   -- a row that ends an act is shown, whose lines are written
-  act_shown : {old new : Lines} {later : Output} {rows : List Event} {event : Event} {act : Act}
+  pub act_shown : {old new : Lines} {later : Output} {rows : List Event} {event : Event} {act : Act}
       (has : HasShown form scope old before now rows) → new.rows ≡ old.rows + 1
       → new.shown ≡ old.rows + 1 → scope_of new.bus ≡ scope_of old.bus
       → GoesOn new.bus has.pieces event (Some act)
@@ -102,154 +84,69 @@ names bus next event act stands law on =
     law (scope_of next) act (piece_events newest) gone.grown.earlier
     (rw (whole_of newest act gone.grown.ends) at (rw gone.grown.are at gone.stands.in_order))
 
--- One of the rows, after the first of them.
-module _ {form : LineForm} {scope : Scope} {old lines : Lines} {was now : Output}
-    (events : List Event) (i : ℕ) (event : Event) (within : i < length events)
-    (is : event ≡ get_or events i event)
-    (adds : Adds form scope old lines was now (take i events) i)
-  where
-    -- one row more of them
-    one_more : (earlier : List Event)
-        → (earlier ++ take i events) ++ event ∷ [] ≡ earlier ++ take (i + 1) events
-    one_more earlier =
-        append_assoc earlier (take i events) (event ∷ [])
-        ∙ ap (λ l. earlier ++ l)
-        (ap (λ e. take i events ++ e ∷ []) is ∙ sym (take_more events i event within))
+-- A line isn't taken.
+module _ {form : LineForm} {scope : Scope} {lines : Lines} {before now : Output}
+    {rows : List Event} {event : Event} (has : HasShown form scope lines before now rows)
+    (left : Lines) (later : Output) where
+  -- a text isn't put after the lines so far
+  line_untaken : (text : List ℕ)
+      → IsAdded form scope rows event (lines_of form (closed_pieces has.pieces) ++ text)
+      → (fault : RunFault) → IsNotTaken fault now later text
+      → HasAdded form scope left before later rows event (Err fault)
+  line_untaken text added Write not_taken = (
+    lines_of form (closed_pieces has.pieces) ++ text,
+    added,
+    break_both before now later (lines_of form (closed_pieces has.pieces)) text has.written
+        not_taken,
+  )
+  line_untaken text added Memory not_taken = (
+    lines_of form (closed_pieces has.pieces),
+    record { pieces = has.pieces; list = its_list has; lines = refl },
+    rw not_taken has.written,
+  )
+  line_untaken text added fault not_taken = absurd not_taken
 
-    -- it ends no act
-    pub goes_on : {new : Lines} → new.rows ≡ lines.rows + 1 → new.shown ≡ lines.shown
-        → scope_of new.bus ≡ scope_of lines.bus
-        → ((pieces : List Piece) → StandsFor lines.bus pieces → GoesOn new.bus pieces event None)
-        → Adds form scope old new was now (take (i + 1) events) (i + 1)
-    goes_on {new = new} more same kept on =
-        let gone = on adds.stands.0 adds.stands.1 in
-        record {
-          stands = (gone.longer, gone.stands);
-          few = omega (arith, adds.few, more, same);
-          counted = omega (arith, adds.counted, more);
-          kept = kept ∙ adds.kept;
-          shown = λ before earlier has.
-              let shown = adds.shown before earlier has in
-              rw (one_more earlier) at
-              (row_shown {new = new} shown more same kept (on shown.pieces shown.stands));
-        }
-
-    -- it ends an act, whose lines are written
-    pub act_ended : {new : Lines} {later : Output} (act : Act) → new.rows ≡ lines.rows + 1
-        → new.shown ≡ lines.rows + 1 → scope_of new.bus ≡ scope_of lines.bus
-        → ((pieces : List Piece) → StandsFor lines.bus pieces
-        → GoesOn new.bus pieces event (Some act))
-        → Puts now later (ended_text form lines.shown lines.rows act)
-        → Adds form scope old new was later (take (i + 1) events) (i + 1)
-    act_ended {new = new} act more all kept on written =
-        let gone = on adds.stands.0 adds.stands.1 in
-        record {
-          stands = (gone.longer, gone.stands);
-          few = omega (arith, more, all);
-          counted = omega (arith, adds.counted, more);
-          kept = kept ∙ adds.kept;
-          shown = λ before earlier has.
-              let shown = adds.shown before earlier has in
-              rw (one_more earlier) at
-              (act_shown {new = new} shown more all kept (on shown.pieces shown.stands) written);
-        }
-
-    -- the pieces lead into the rows
-    abbrev lead_into : {before : Output} (earlier : List Event)
-        (has : HasShown form scope lines before now (earlier ++ take i events))
-        → LeadInto scope earlier events has.pieces
-    lead_into earlier has = record {
-      front = take i events;
-      rest = drop i events;
-      parts = sym (take-append-drop i events);
-      are = has.are;
-      in_order = rw has.in_scope at has.stands.in_order;
+  -- The row breaks a rule of the link.
+  module _ (fault : LinkFault)
+      (faults : IsLinkFault (scope_of lines.bus) has.pieces event fault.rule fault.blame) where
+    -- the lines so far and its own
+    fault_line : HasFaultLine form scope rows event fault
+        (lines_of form (closed_pieces has.pieces) ++ form.fault (lines.rows + 1) fault)
+    fault_line = record {
+      pieces = has.pieces;
+      list = its_list has;
+      is = rw has.in_scope at faults;
+      lines = rw has.counted;
     }
 
-    -- a text isn't put after the lines so far
-    line_untaken : (left : Lines) {before : Output} (later : Output) (earlier : List Event)
-        (text : List ℕ)
-        (has : HasShown form scope lines before now (earlier ++ take i events))
-        → IsAdded form scope earlier events (lines_of form (closed_pieces has.pieces) ++ text)
-        → (fault : RunFault) → IsNotTaken fault now later text
-        → HasAdded form scope left before later earlier events (Err fault)
-    line_untaken left {before = before} later earlier text has added Write not_taken = (
-      lines_of form (closed_pieces has.pieces) ++ text,
-      added,
-      break_both before now later (lines_of form (closed_pieces has.pieces)) text has.written
-          not_taken,
+    pub fault_added : Puts now later (form.fault (lines.rows + 1) fault)
+        → HasAdded form scope left before later rows event (Ok (Some fault))
+    fault_added line = (
+      lines_of form (closed_pieces has.pieces) ++ form.fault (lines.rows + 1) fault,
+      fault_line,
+      put_both before now later (lines_of form (closed_pieces has.pieces))
+          (form.fault (lines.rows + 1) fault) has.written line,
     )
-    line_untaken left later earlier text has added Memory not_taken = (
-      lines_of form (closed_pieces has.pieces),
-      record { pieces = has.pieces; lead = lead_into earlier has; lines = refl },
-      rw not_taken has.written,
-    )
-    line_untaken left later earlier text has added fault not_taken = absurd not_taken
 
-    -- It breaks a rule of the link.
-    module _ (fault : LinkFault) (row : ℕ) (number : row ≡ lines.rows + 1)
-        (faults : (pieces : List Piece) → StandsFor lines.bus pieces
-        → IsLinkFault (scope_of lines.bus) pieces event fault.rule fault.blame) where
-      -- the lines so far and its own
-      to_fault : {before : Output} (earlier : List Event)
-          (has : HasShown form scope lines before now (earlier ++ take i events))
-          → IsAddedToFault form scope earlier events fault
-          (lines_of form (closed_pieces has.pieces) ++ form.fault row fault)
-      to_fault earlier has = record {
-        pieces = has.pieces;
-        row = event;
-        after = drop (i + 1) events;
-        lead = lead_into earlier has;
-        next = rw add-one (drop-cons events i event within)
-            ∙ ap (λ e. e ∷ drop (i + 1) events) (sym is);
-        is = rw has.in_scope at (faults has.pieces has.stands);
-        lines = ap (λ n. lines_of form (closed_pieces has.pieces) ++ form.fault n fault)
-            (number ∙ ap (λ n. n + 1) (sym (ap length has.are ∙ has.counted)));
-      }
+    -- its line isn't put there
+    pub fault_refused : (refused : RunFault)
+        → IsNotTaken refused now later (form.fault (lines.rows + 1) fault)
+        → HasAdded form scope left before later rows event (Err refused)
+    fault_refused refused not_taken =
+        line_untaken (form.fault (lines.rows + 1) fault) (inr (fault, fault_line)) refused not_taken
 
-      pub fault_added : {later : Output} → Puts now later (form.fault row fault) → (before : Output)
-          (earlier : List Event) → HasShown form scope old before was earlier
-          → (text : List ℕ) × IsAddedToFault form scope earlier events fault text
-          × Puts before later text
-      fault_added {later = later} line before earlier has_old =
-          let has = adds.shown before earlier has_old in (
-            lines_of form (closed_pieces has.pieces) ++ form.fault row fault,
-            to_fault earlier has,
-            put_both before now later (lines_of form (closed_pieces has.pieces))
-                (form.fault row fault) has.written line,
-          )
-
-      -- its line isn't put there
-      pub fault_refused : (left : Lines) (later : Output) (refused : RunFault)
-          → IsNotTaken refused now later (form.fault row fault) → (before : Output)
-          (earlier : List Event) → HasShown form scope old before was earlier
-          → HasAdded form scope left before later earlier events (Err refused)
-      fault_refused left later refused not_taken before earlier has_old =
-          let has = adds.shown before earlier has_old in
-          line_untaken left later earlier (form.fault row fault) has
-          (inr (fault, to_fault earlier has)) refused not_taken
-
-    -- the lines of its act aren't put there
-    pub act_refused : (left : Lines) {next : Bus} (later : Output) (act : Act)
-        → scope_of next ≡ scope_of lines.bus
-        → ((pieces : List Piece) → StandsFor lines.bus pieces → GoesOn next pieces event (Some act))
-        → (refused : RunFault)
-        → IsNotTaken refused now later (ended_text form lines.shown lines.rows act)
-        → (before : Output) (earlier : List Event) → HasShown form scope old before was earlier
-        → HasAdded form scope left before later earlier events (Err refused)
-    act_refused left later act kept on refused not_taken before earlier has_old =
-        let has = adds.shown before earlier has_old in
-        let gone = on has.pieces has.stands in
-        let added = act_lines has kept gone in
-        line_untaken left later earlier (ended_text form lines.shown lines.rows act) has
-        (inl (record {
-          pieces = gone.longer;
-          lead = record {
-            front = take (i + 1) events;
-            rest = drop (i + 1) events;
-            parts = sym (take-append-drop (i + 1) events);
-            are = gone.rows ∙ (ap (λ l. l ++ event ∷ []) has.are ∙ one_more earlier);
-            in_order = added.0;
-          };
-          lines = sym (ap (lines_of form) added.1 ∙ added.2);
-        })) refused not_taken
+  -- the lines of its act aren't put there
+  pub act_refused : {next : Bus} (act : Act) → scope_of next ≡ scope_of lines.bus
+      → GoesOn next has.pieces event (Some act) → (refused : RunFault)
+      → IsNotTaken refused now later (ended_text form lines.shown lines.rows act)
+      → HasAdded form scope left before later rows event (Err refused)
+  act_refused act kept gone refused not_taken =
+      let added = act_lines has kept gone in
+      line_untaken (ended_text form lines.shown lines.rows act) (inl (record {
+        pieces = gone.longer;
+        list = record {
+          in_order = added.0;
+          whole = gone.rows ∙ ap (λ l. l ++ event ∷ []) has.are;
+        };
+        lines = sym (ap (lines_of form) added.1 ∙ added.2);
+      })) refused not_taken

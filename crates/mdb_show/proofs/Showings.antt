@@ -1,8 +1,8 @@
 -- What the showing is, by how the reading of rows ended.
-use Rattle.mdb_show.proofs.Words.{Err, List, None, Ok, Option, Result, Some, [], ap, append_assoc, arith, inl, inr, length, refl, sym, ℕ, ◌++◌, ◌∙◌, ◌∷◌, ◌≡◌, ◌≤◌, Piece, StandsFor, scope_of, LinkFault, Scope, ROWS_MAX, LineForm, closed_pieces, lines_of, AreShown, IsShowingIn, IsShownInPartIn, IsShownToFaultIn, IsShownWholeIn, Lines, HasAdded, HasShown, HasStopped, IsAdded, IsAddedInPart, IsAddedToFault, LeadInto, PutsShowing, cut_text, AreRead, HasEnded, HasTakenOrStopped, IsStop, IsStopped, IsTakenWhole, IsNotTaken, IsOfOutput, RunFault, BadRow, Memory, Read, TooLong, Write, IsRow, Event, break_both, put_begun, put_both, Output, Puts, begun, output}
+use Rattle.mdb_show.proofs.Words.{AreRead, AreShown, BadRow, Err, Event, HasAdded, HasEnded, HasFaultLine, HasLines, HasShown, HasStopped, HasTakenOrStoppedAt, IsActList, IsAdded, IsNotTaken, IsOfOutput, IsRow, IsShowingIn, IsShownInPartIn, IsShownToFaultIn, IsShownWholeIn, IsStop, IsStopped, IsTakenWhole, LineForm, Lines, LinkFault, List, Memory, None, Ok, Option, Output, Piece, Puts, PutsShowing, ROWS_MAX, Read, Result, RunFault, Scope, Some, StandsFor, TooLong, Write, [], ap, arith, begun, break_both, closed_pieces, cut_text, inl, inr, length, lines_of, output, put_begun, put_both, refl, scope_of, sym, ℕ, ◌++◌, ◌∙◌, ◌∷◌, ◌≡◌, ◌≤◌}
 use Rattle.mdb_words.specs.Refusals.{IsRefusal}
 use Rattle.std.specs.Result.{result_transpose}
-use Rattle.mdb_verdict.proofs.Rows.{fewer, read_at, read_before}
+use Rattle.mdb_verdict.proofs.Rows.{read_with}
 use Rattle.mdb_show.proofs.ShowTexts.{all_shown}
 
 -- before the first row
@@ -23,15 +23,15 @@ begins form scope lines page is stands no_rows none empty contents =
       written = put_begun contents page empty;
     }
 
--- The lines of rows are added, or they end at one of them.
+-- The lines of a row are added, or it is stopped at.
 pub added : (form : LineForm) (scope : Scope) (lines : Lines) (before after : Output)
-    (earlier rows : List Event) (answer : Result (Option LinkFault) RunFault)
+    (rows : List Event) (row : Event) (answer : Result (Option LinkFault) RunFault)
     (stop : Option (Result LinkFault RunFault)) → stop ≡ result_transpose answer
-    → HasAdded form scope lines before after earlier rows answer
-    → HasTakenOrStopped (HasShown form scope lines before after)
-    (HasStopped form scope lines before after) earlier rows stop
-added form scope lines before after earlier rows (Ok None) stop is adds = rw is adds
-added form scope lines before after earlier rows answer stop is adds = rw is adds
+    → HasAdded form scope lines before after rows row answer
+    → HasTakenOrStoppedAt (HasShown form scope lines before after)
+    (HasStopped form scope lines before after) rows row stop
+added form scope lines before after rows row (Ok None) stop is adds = rw is adds
+added form scope lines before after rows row answer stop is adds = rw is adds
 
 module _ (form : LineForm) (scope : Scope) (all : List (List (List ℕ))) (lines : Lines)
     (before now : Output) where
@@ -139,100 +139,81 @@ module _ (form : LineForm) (scope : Scope) (all : List (List (List ℕ))) (lines
   refused_by Memory ended = inl (in_part ended.has ended.read)
   refused_by Write ended = absurd ended
 
--- Where they end at one of the later rows.
+-- Where a row is stopped at.
 module _ (form : LineForm) (scope : Scope) (all : List (List (List ℕ))) where
-  -- pieces that lead into the rows
-  lead_shown : {earlier later : List Event} {pieces : List Piece} {rest : List (List (List ℕ))}
-      (lead : LeadInto scope earlier later pieces) → AreRead IsRow all (earlier ++ lead.front) rest
-      → AreShown scope all pieces rest
-  lead_shown {earlier = earlier} lead read = record {
+  -- the pieces of rows that were read
+  listed : {rows : List Event} {pieces : List Piece} {rest : List (List (List ℕ))}
+      → AreRead IsRow all rows rest → IsActList scope pieces rows → AreShown scope all pieces rest
+  listed read list = record {
     done = read.done;
     split = read.split;
-    told = rw lead.are read.told;
-    in_order = lead.in_order;
+    told = rw list.whole read.told;
+    in_order = list.in_order;
   }
 
-  -- the pieces up to a row that breaks a rule of the link, and its text, are of the records
-  fault_showing : (earlier later : List Event) {rest : List (List (List ℕ))}
-      → AreRead IsRow all (earlier ++ later) rest → length (earlier ++ later) ≤ ROWS_MAX
-      → (fault : LinkFault) (text : List ℕ) → IsAddedToFault form scope earlier later fault text
-      → IsShownToFaultIn form scope all fault text
-  fault_showing earlier later read few fault text added =
-      let lead = added.lead in
-      let parts : later ≡ lead.front ++ added.row ∷ added.after = rw added.next at lead.parts in
-      let up_to = read_at IsRow earlier lead.front added.row added.after read parts in
-      let less = fewer earlier lead.front added.row added.after parts in
-      record {
-        pieces = added.pieces;
-        fields = up_to.fields;
-        rest = up_to.rest;
-        shown = lead_shown lead up_to.read;
-        few = rw lead.are (omega (arith, less, few));
-        row = added.row;
-        row_told = up_to.told;
-        is = added.is;
-        lines = added.lines;
-      }
+  -- their lines are those of a part of the records
+  part_showing : {rows : List Event} {rest : List (List (List ℕ))} → AreRead IsRow all rows rest
+      → (text : List ℕ) → HasLines form scope rows text → IsShownInPartIn form scope all text
+  part_showing {rest = rest} read text its = record {
+    pieces = its.pieces;
+    rest = rest;
+    shown = listed read its.list;
+    lines = its.lines;
+  }
 
-  -- and so are those of some of the rows
-  part_showing : (earlier later : List Event) {rest : List (List (List ℕ))}
-      → AreRead IsRow all (earlier ++ later) rest → (text : List ℕ)
-      → IsAddedInPart form scope earlier later text → IsShownInPartIn form scope all text
-  part_showing earlier later {rest = rest} read text added =
-      let lead = added.lead in
-      let before = read_before IsRow all (earlier ++ lead.front) lead.rest rest
-      (rw (lead.parts, sym (append_assoc earlier lead.front lead.rest)) at read) in
-      record {
-        pieces = added.pieces;
-        rest = before.after ++ before.rest;
-        shown = lead_shown lead before.read;
-        lines = added.lines;
-      }
+  module _ {Stops : List Event → Event → Type 0} (ended : IsStopped IsRow Stops ROWS_MAX all) where
+    -- and so are those up to a row that breaks a rule of the link
+    fault_showing : (fault : LinkFault) (text : List ℕ)
+        → HasFaultLine form scope ended.rows ended.row fault text
+        → IsShownToFaultIn form scope all fault text
+    fault_showing fault text its = record {
+      pieces = its.pieces;
+      fields = ended.fields;
+      rest = ended.rest;
+      shown = listed ended.read its.list;
+      few = rw its.list.whole ended.few;
+      row = ended.row;
+      row_told = ended.told;
+      is = its.is;
+      lines = rw its.list.whole its.lines;
+    }
 
-  -- a text that these rows may come to is one of the records
-  showing_of : (earlier later : List Event) {rest : List (List (List ℕ))}
-      → AreRead IsRow all (earlier ++ later) rest → length (earlier ++ later) ≤ ROWS_MAX
-      → (text : List ℕ) → IsAdded form scope earlier later text
-      → (answer : Result (Option LinkFault) RunFault) × IsShowingIn form scope all answer text
-  showing_of earlier later read few text (inl part) =
-      (Err Memory, part_showing earlier later read text part)
-  showing_of earlier later read few text (inr (fault, added)) =
-      (Ok (Some fault), fault_showing earlier later read few fault text added)
+    -- a text that the row may come to is one of the records
+    showing_of : (text : List ℕ) → IsAdded form scope ended.rows ended.row text
+        → (answer : Result (Option LinkFault) RunFault) × IsShowingIn form scope all answer text
+    showing_of text (inl part) =
+        (Err Memory, part_showing (read_with IsRow ended.read ended.told) text part)
+    showing_of text (inr (fault, its)) = (Ok (Some fault), fault_showing fault text its)
 
   module _ (lines : Lines) (before after : Output) where
     -- a row breaks a rule of the link
     pub at_fault : (fault : LinkFault) → IsStopped IsRow
-        (λ earlier later. HasStopped form scope lines before after earlier later (Ok fault))
-        ROWS_MAX all
+        (λ rows row. HasStopped form scope lines before after rows row (Ok fault)) ROWS_MAX all
         → PutsShowing form scope all before after (Ok (Some fault))
     at_fault fault ended =
-        let (text, added, written) = ended.stops in inl (
-          text,
-          fault_showing ended.earlier ended.later ended.read ended.few fault text added,
-          written,
-        )
+        let (text, its, written) = ended.stops in
+        inl (text, fault_showing ended fault text its, written)
 
     -- a line isn't taken
     pub untaken_by : (fault : RunFault) → IsStopped IsRow
-        (λ earlier later. HasStopped form scope lines before after earlier later (Err fault))
-        ROWS_MAX all
+        (λ rows row. HasStopped form scope lines before after rows row (Err fault)) ROWS_MAX all
         → PutsShowing form scope all before after (Err fault)
     untaken_by Write ended =
         let (text, added, broken) = ended.stops in
-        let would = showing_of ended.earlier ended.later ended.read ended.few text added in
+        let would = showing_of ended text added in
         inr (refl, record { answer = would.0; text = text; is = would.1; broken = broken })
     untaken_by Memory ended =
-        let (text, added, written) = ended.stops in
-        inl (text, part_showing ended.earlier ended.later ended.read text added, written)
+        let (text, its, written) = ended.stops in
+        inl (text, part_showing ended.read text its, written)
     untaken_by fault ended = absurd ended.stops
 
--- A fault at one of the rows is one of the output.
+-- A fault at a row is one of the output.
 module _ (form : LineForm) (scope : Scope) (lines : Lines) (before after : Output) where
-  added_of_output : (earlier rows : List Event) (fault : RunFault)
-      → HasAdded form scope lines before after earlier rows (Err fault) → IsOfOutput fault
-  added_of_output earlier rows Write added = tt
-  added_of_output earlier rows Memory added = tt
-  added_of_output earlier rows fault added = absurd added
+  added_of_output : (rows : List Event) (row : Event) (fault : RunFault)
+      → HasAdded form scope lines before after rows row (Err fault) → IsOfOutput fault
+  added_of_output rows row Write added = tt
+  added_of_output rows row Memory added = tt
+  added_of_output rows row fault added = absurd added
 
   pub stop_of_output : (stop : Result LinkFault RunFault) (fault : RunFault)
       → IsStop (HasStopped form scope lines before after) stop → stop ≡ Err fault

@@ -23,7 +23,7 @@ pub use Rattle.mdb_text.specs.declared.form.Form.{Form}
 pub use Rattle.mdb_verdict.proofs.OneAnswer.{compared, Ending, EndsBy, one_ending, row_not_refused, row_one, SaysOne}
 pub use Rattle.mdb_verdict.proofs.Tellings.{not_taken_of_output, reads_all, reads_fault, reads_finished, reads_output, told}
 pub use Rattle.mdb_verdict.proofs.Verdicts.{is_fault}
-pub use Rattle.mdb_verdict.specs.Ending.{AreRead, HasEnded, HasTakenOrStopped, IsStop, IsStopped, IsTakenWhole}
+pub use Rattle.mdb_verdict.specs.Ending.{AreRead, HasEnded, HasTakenOrStoppedAt, IsStop, IsStopped, IsTakenWhole}
 pub use Rattle.mdb_verdict.specs.Telling.{IsNotTaken, IsOfOutput}
 pub use Rattle.mdb_verdict.specs.Verdict.{IsAnswer, IsImpossible, IsOwnAnswer, LeadUpTo}
 pub use Rattle.mdb_verdict.specs.declared.fault.RunFault.{RunFault}
@@ -34,4 +34,4 @@ pub use Rattle.mdb_show.specs.ShowJson.{act_data, block_members, cut_data, deed_
 pub use Rattle.mdb_show.specs.ShowText.{bytes_text}
 pub use Rattle.mdb_show.specs.declared.showing.Lines.{Lines}
 pub use Rattle.mdb_show.specs.inner.JsonLines.{act_json, blame_json, block_json, bytes_json, deed_json, device_json, fault_json, head_json, rows_json, rows_only_json, rule_json}
-pub use Rattle.mdb_show.specs.inner.ShowSteps.{cut_text, ended_text, HasAdded, HasPieces, HasShown, HasStopped, IsAdded, IsAddedInPart, IsAddedToFault, LeadInto, PutsShowing}
+pub use Rattle.mdb_show.specs.inner.ShowSteps.{cut_text, ended_text, HasAdded, HasFaultLine, HasLines, HasPieces, HasShown, HasStopped, IsAdded, PutsShowing}

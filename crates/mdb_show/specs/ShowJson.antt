@@ -4,7 +4,7 @@ use Rattle.std.specs.Prelude.{◌/◌, ◌%◌, ℕ, true, List, [], ◌∷◌, 
 use Rattle.std.specs.Fmt.{digit_glyph}
 use Rattle.serde_json.specs.Data.{Data, Members, number, string, object, member, no_members, unsigned}
 use Rattle.serde_json.specs.Written.{compact_text}
-use Rattle.mdb_blocks.specs.Block.{block_of}
+use Rattle.mdb_words.specs.Block.{block_of}
 use Rattle.mdb_msgs.specs.declared.command.Command.{Command}
 use Rattle.mdb_msgs.specs.Commands.{command_bytes, device_of}
 use Rattle.mdb_msgs.specs.Devices.{device_word}

@@ -2,7 +2,7 @@
 -- (this profile).
 use Rattle.std.specs.Prelude.{◌/◌, ◌%◌, ℕ, true, List, [], ◌∷◌, ◌++◌, codes}
 use Rattle.std.specs.Fmt.{decimal, digit_glyph}
-use Rattle.mdb_blocks.specs.Block.{block_of}
+use Rattle.mdb_words.specs.Block.{block_of}
 use Rattle.mdb_msgs.specs.declared.command.Command.{Command}
 use Rattle.mdb_msgs.specs.Commands.{command_bytes, device_of}
 use Rattle.mdb_msgs.specs.Devices.{device_word}

@@ -4,7 +4,7 @@ ghost use Rattle.std.specs.Prelude.{◌≡◌, ◌∷◌, [], ◌++◌, OnOk, co
 ghost use Rattle.json.specs.Print.{quoted};
 ghost use Rattle.mdb_bus.specs.Acts.{IsReply};
 ghost use Rattle.mdb_bus.specs.Pieces.{NamesAReply};
-ghost use Rattle.mdb_blocks.specs.Block.{block_of};
+ghost use Rattle.mdb_words.specs.Block.{block_of};
 ghost use Rattle.mdb_msgs.specs.Replies.{reply_bytes};
 ghost use Rattle.mdb_show.specs.ShowJson.{hex_text};
 ghost use Rattle.mdb_show.specs.inner.JsonLines.{act_json, blame_json, block_json, bytes_json, deed_json, device_json, fault_json, head_json, rows_json, rows_only_json, rule_json};

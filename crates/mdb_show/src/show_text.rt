@@ -4,7 +4,7 @@ ghost use Rattle.std.specs.Prelude.{◌≡◌, ◌∷◌, [], ◌++◌, OnOk, co
 ghost use Rattle.std.specs.Fmt.{decimal, digit_glyph};
 ghost use Rattle.mdb_bus.specs.Acts.{IsReply};
 ghost use Rattle.mdb_bus.specs.Pieces.{NamesAReply};
-ghost use Rattle.mdb_blocks.specs.Block.{block_of};
+ghost use Rattle.mdb_words.specs.Block.{block_of};
 ghost use Rattle.mdb_msgs.specs.Replies.{reply_bytes};
 ghost use Rattle.mdb_show.specs.ShowText.{act_text, bytes_text, deed_text, fault_line, rows_line, rows_text};
 

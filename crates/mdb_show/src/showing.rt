@@ -1,6 +1,6 @@
 //! The acts of a transcript.
 
-ghost use Rattle.std.specs.Prelude.{◌≡◌, List, [], ℕ, length};
+ghost use Rattle.std.specs.Prelude.{◌≡◌, List, [], ℕ};
 ghost use Rattle.mdb_records.specs.ToCome.{ToCome};
 ghost use Rattle.mdb_bus.specs.Bus.{scope_of};
 ghost use Rattle.mdb_bus.specs.declared.scope.Scope.{Scope};
@@ -185,9 +185,10 @@ impl<W: Write> TakeRows<W> for Showing {
         self.lines.rows
     }
 
-    fn take_all(&mut self, writer: &mut W, rows: &[Event]) -> Option<Result<LinkFault, RunFault>> {
+    #[inline(always)]
+    fn take(&mut self, writer: &mut W, row: Event) -> Option<Result<LinkFault, RunFault>> {
         self.lines
-            .add_all(self.form, rows, &mut self.printer, writer)
+            .add(self.form, row, &mut self.printer, writer)
             .transpose()
     }
 
@@ -206,7 +207,7 @@ struct Lines {
 }
 
 impl Lines {
-    ghost use Rattle.std.specs.Prelude.{◌≤◌, ◌+◌, []};
+    ghost use Rattle.std.specs.Prelude.{◌≤◌, ◌<◌, []};
     ghost use Rattle.mdb_words.specs.declared.event.Event.{Event};
     ghost use Rattle.mdb_bus.specs.Bus.{StandsFor, scope_of};
     ghost use Rattle.mdb_writing.specs.Output.{Output, output};
@@ -227,40 +228,39 @@ impl Lines {
         }
     }
 
-    /// Adds the lines of the next rows. The first of them that breaks a rule of the link has a line
-    /// too, and is answered: of those after it nothing is said.
-    fn add_all<W: Write>(
+    /// Adds the lines of the act that the next row ends, if it ends one. A row that breaks a rule
+    /// of the link has a line too, and its fault is answered.
+    #[inline(always)]
+    fn add<W: Write>(
         &mut self,
         form: Form,
-        events: &[Event],
+        event: Event,
         printer: &mut Printer,
         writer: &mut W,
     ) -> Result<Option<LinkFault>, RunFault>
         requires stands { HasPieces self.old.bus }
         requires few { self.old.shown ≤ self.old.rows }
-        requires room { self.old.rows + length events.now ≤ ROWS_MAX }
+        requires room { self.old.rows < ROWS_MAX }
         ensures added { (before : Output) (earlier : List Event)
             → HasShown (lines_in form) (scope_of self.old.bus) self.old before
             (output (W.contents writer.old) printer.old.page) earlier
             → HasAdded (lines_in form) (scope_of self.old.bus) self.new before
-            (output (W.contents writer.new) printer.new.page) earlier events.now result }
+            (output (W.contents writer.new) printer.new.page) earlier event result }
         ensures scope { scope_of self.new.bus ≡ scope_of self.old.bus }
     {
         laws::acts_name_replies_of_their_commands();
-        for event in events {
-            let ended = match self.bus.feed_into(*event, &mut self.act) {
-                Ok(ended) => ended,
-                Err(fault) => {
-                    add_fault(printer, form, writer, self.rows + 1, fault)?;
-                    return Ok(Some(fault));
-                }
-            };
-            if ended {
-                add_ended(printer, form, writer, self.shown, self.rows, &self.act)?;
-                self.shown = self.rows + 1;
+        let ended = match self.bus.feed_into(event, &mut self.act) {
+            Ok(ended) => ended,
+            Err(fault) => {
+                add_fault(printer, form, writer, self.rows + 1, fault)?;
+                return Ok(Some(fault));
             }
-            self.rows += 1;
+        };
+        if ended {
+            add_ended(printer, form, writer, self.shown, self.rows, &self.act)?;
+            self.shown = self.rows + 1;
         }
+        self.rows += 1;
         Ok(None)
     }
 }

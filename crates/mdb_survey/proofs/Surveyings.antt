@@ -1,16 +1,12 @@
 -- What the survey is, by how the reading of rows ended.
 use Rattle.mdb_survey.proofs.Words.{Err, IfErr, List, Ok, Result, [], append_assoc, arith, inl, inr, refl, ℕ, ◌++◌, ◌+◌, ◌-◌, ◌∙◌, ◌∷◌, ◌≡◌, Scope, ROWS_MAX, IsSurvey, summary_of, rows_of, Ended, Stretch, Summary, Surveyor, AreSurveyed, IsSurveyedInPart, IsSurveying, HasAddedEnd, HasAddedLast, HasStopped, HasSurveyed, LeadInto, PutsSurveying, LineForm, lines_of, not_taken_of_output, IsNotTaken, IsOfOutput, RunFault, BadRow, Memory, Read, TooLong, Write, Event, break_both, put_both, Output, Puts}
-use Rattle.mdb_stretches.specs.Surveyor.{StandsFor}
-use Rattle.mdb_verdict.specs.Ending.{AreRead, FindsUpTo, HasEnded, IsStopped, IsTakenInPart, IsTakenWhole}
+use Rattle.mdb_surveyor.specs.Surveyor.{StandsFor}
+use Rattle.mdb_verdict.specs.Ending.{AreRead, FindsUpTo, HasEnded, IsStop, IsStopped, IsTakenInPart, IsTakenWhole}
 use Rattle.mdb_words.specs.Refusals.{IsRefusal}
 use Rattle.mdb_words.specs.Row.{IsRow}
-use Rattle.mdb_verdict.proofs.Rows.{read_before}
+use Rattle.mdb_verdict.proofs.Rows.{read_before, read_with}
 use Rattle.mdb_survey.proofs.NoRows.{NoneAreReached}
 use Rattle.mdb_survey.proofs.Surveys.{lead_into}
-
--- what a surveyor may have stopped at
-abbrev pub Stops : LineForm → Scope → Output → Output → List Event → List Event → RunFault → Type 0
-Stops form scope before after earlier rows = HasStopped form scope before after (earlier ++ rows)
 
 module _ (form : LineForm) (scope : Scope) (all : List (List (List ℕ))) where
   -- the survey of the rows that were read
@@ -107,14 +103,14 @@ module _ (form : LineForm) (scope : Scope) (all : List (List (List ℕ))) where
     -- the reading ended at a fault that isn't want of memory
     module _ (start found : ℕ) (fault : RunFault) (not : fault ≡ Memory → ⊥)
         (ended : HasEnded IsRow IsRefusal (HasSurveyed form scope surveyor before now)
-        (Stops form scope before now) ROWS_MAX all (Err fault))
+        (HasStopped form scope before now) ROWS_MAX all (Err fault))
         (most : FindsUpTo fault (start + rows_of surveyor) found) where
       taken_up_to : TakenUpTo (found - start) fault
       taken_up_to = by fault not ended most
         where
           by : (fault : RunFault) → (fault ≡ Memory → ⊥)
               → HasEnded IsRow IsRefusal (HasSurveyed form scope surveyor before now)
-              (Stops form scope before now) ROWS_MAX all (Err fault)
+              (HasStopped form scope before now) ROWS_MAX all (Err fault)
               → FindsUpTo fault (start + rows_of surveyor) found
               → TakenUpTo (found - start) fault
           by (BadRow row fault) not it most = record {
@@ -203,7 +199,7 @@ module _ (form : LineForm) (scope : Scope) (all : List (List (List ℕ))) where
     -- memory is refused
     pub out_of_memory : NoneAreReached → (read : ℕ) (fault : RunFault) → fault ≡ Memory
         → HasEnded IsRow IsRefusal (HasSurveyed form scope surveyor before now)
-        (Stops form scope before now) ROWS_MAX all (Err fault)
+        (HasStopped form scope before now) ROWS_MAX all (Err fault)
         → PutsSurveying form scope all read before now (Err fault)
     out_of_memory law read fault is ended =
         let it : IsTakenInPart IsRow (HasSurveyed form scope surveyor before now) all =
@@ -212,15 +208,14 @@ module _ (form : LineForm) (scope : Scope) (all : List (List (List ℕ))) where
 
   -- The lines of a fault and its stretch aren't taken.
   pub lines_untaken : (read : ℕ) (before now : Output) (fault : RunFault)
-      → IsStopped IsRow
-      (λ earlier later. HasStopped form scope before now (earlier ++ later) fault) ROWS_MAX all
+      → IsStopped IsRow (λ rows row. HasStopped form scope before now rows row fault) ROWS_MAX all
       → PutsSurveying form scope all read before now (Err fault)
   lines_untaken read before now Write it = inr (
     refl,
     record {
       answer = Err Memory;
       text = lines_of form it.stops.0;
-      is = part_of it.stops.0 it.read it.stops.1;
+      is = part_of it.stops.0 (read_with IsRow it.read it.told) it.stops.1;
       broken = it.stops.2;
     },
   )
@@ -260,8 +255,8 @@ pub last_of_output : (form : LineForm) (surveyor : Surveyor) (before after : Out
 last_of_output form surveyor before after fault adds =
     not_taken_of_output fault before after (form.stretch adds.last) adds.refused
 
-pub stop_of_output : (form : LineForm) (scope : Scope) (before after : Output) (rows : List Event)
-    (fault : RunFault) → HasStopped form scope before after rows fault → IsOfOutput fault
-stop_of_output form scope before after rows Write stopped = tt
-stop_of_output form scope before after rows Memory stopped = tt
-stop_of_output form scope before after rows fault stopped = absurd stopped
+pub stop_of_output : (form : LineForm) (scope : Scope) (before after : Output) (fault : RunFault)
+    → IsStop (HasStopped form scope before after) fault → IsOfOutput fault
+stop_of_output form scope before after Write stopped = tt
+stop_of_output form scope before after Memory stopped = tt
+stop_of_output form scope before after fault stopped = absurd stopped.2

@@ -6,10 +6,10 @@ use Rattle.mdb_words.specs.Refusals.{IsRefusal}
 use Rattle.mdb_bus.specs.declared.scope.Profile.{Profile}
 use Rattle.mdb_bus.specs.declared.scope.Scope.{Scope}
 use Rattle.mdb_follow.specs.declared.follower.TheConstants.{ROWS_MAX}
-use Rattle.mdb_stretches.specs.declared.stretch.Ended.{Ended}
-use Rattle.mdb_stretches.specs.declared.stretch.Stretch.{Stretch}
-use Rattle.mdb_stretches.specs.Stretches.{IsSurvey}
-use Rattle.mdb_stretches.specs.Summaries.{summary_of}
+use Rattle.mdb_surveyor.specs.declared.stretch.Ended.{Ended}
+use Rattle.mdb_surveyor.specs.declared.stretch.Stretch.{Stretch}
+use Rattle.mdb_surveyor.specs.Stretches.{IsSurvey}
+use Rattle.mdb_surveyor.specs.Summaries.{summary_of}
 use Rattle.mdb_verdict.specs.declared.fault.RunFault.{RunFault}
 use Rattle.mdb_verdict.specs.declared.fault.RunFault.TheVariants.{BadRow, TooLong, Read, Write, Memory}
 use Rattle.mdb_text.specs.declared.form.Form.{Form}
@@ -17,10 +17,10 @@ use Rattle.mdb_text.specs.declared.form.Form.TheVariants.{Text, Json}
 use Rattle.mdb_verdict.specs.Rows.{AreRows}
 use Rattle.mdb_verdict.specs.Telling.{Tells}
 use Rattle.mdb_writing.specs.Answers as answers
-use Rattle.mdb_stretches.specs.declared.summary.Summary.{Summary}
-use Rattle.mdb_survey_text.specs.Lines.{LineForm, lines_of}
+use Rattle.mdb_surveyor.specs.declared.summary.Summary.{Summary}
+use Rattle.mdb_surveyor.specs.Lines.{LineForm, lines_of}
 use Rattle.mdb_survey.specs.SurveyJson.{json_lines}
-use Rattle.mdb_survey_text.specs.SurveyText.{text_lines}
+use Rattle.mdb_surveyor.specs.SurveyText.{text_lines}
 
 -- The records up to the rest are rows, and this is their survey.
 pub record AreSurveyed (scope : Scope) (records : List (List (List ℕ))) (ended : List Ended)

@@ -12,11 +12,11 @@ use Rattle.mdb_bus.specs.Scopes.{profile_of}
 use Rattle.mdb_follow.specs.declared.offence.Offence.{Offence}
 use Rattle.mdb_follow.specs.declared.report.TheConstants.Report.{DEVICES}
 use Rattle.mdb_json.specs.Reports.{accounts_data, members, untimely_data, version_of, yes_data}
-use Rattle.mdb_stretches.specs.declared.counts.FaultCounts.{FaultCounts}
-use Rattle.mdb_stretches.specs.declared.stretch.Stretch.{Stretch}
-use Rattle.mdb_stretches.specs.Totals.{total_silences, total_unvalued}
-use Rattle.mdb_stretches.specs.declared.summary.Summary.{Summary}
-use Rattle.mdb_survey_text.specs.Lines.{LineForm}
+use Rattle.mdb_surveyor.specs.declared.counts.FaultCounts.{FaultCounts}
+use Rattle.mdb_surveyor.specs.declared.stretch.Stretch.{Stretch}
+use Rattle.mdb_surveyor.specs.Totals.{total_silences, total_unvalued}
+use Rattle.mdb_surveyor.specs.declared.summary.Summary.{Summary}
+use Rattle.mdb_surveyor.specs.Lines.{LineForm}
 use Rattle.mdb_text.specs.Text.{line}
 
 -- A stretch that has rows: its first row and its last, the report on them, and its number. The

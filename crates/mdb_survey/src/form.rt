@@ -3,15 +3,14 @@
 ghost use Rattle.std.specs.Prelude.{◌≡◌, ◌++◌, IfErr, OnOk};
 ghost use Rattle.mdb_bus.specs.Scopes.{profile_of};
 ghost use Rattle.mdb_survey.specs.Survey.{survey_lines_in};
-ghost use Rattle.mdb_survey_text.specs.Lines.{ended_lines};
+ghost use Rattle.mdb_surveyor.specs.Lines.{ended_lines};
 ghost use Rattle.mdb_verdict.specs.Telling.{IsNotTaken};
 ghost use Rattle.mdb_writing.specs.Output.{Puts, output};
 
 use super::json_text;
 use mdb_bus::Scope;
 use mdb_follow::Offence;
-use mdb_stretches::{Ended, Stretch, Summary};
-use mdb_survey_text::{write_fault, write_stretch, write_summary};
+use mdb_surveyor::{Ended, Stretch, Summary, write_fault, write_stretch, write_summary};
 use mdb_text::Form;
 use mdb_verdict::{Printer, RunFault};
 use std::alloc::AllocError;

@@ -11,7 +11,7 @@ use mdb_bus::Profile;
 use mdb_follow::{Offence, Report};
 use mdb_json::{accounts_of, report_value, untimely_value, version_by};
 use mdb_msgs::Device;
-use mdb_stretches::{FaultCounts, Stretch, Summary};
+use mdb_surveyor::{FaultCounts, Stretch, Summary};
 use serde_json::{Map, Value, json, put};
 use std::alloc::{AllocError, Global};
 

@@ -3,13 +3,13 @@
 
 ghost use Rattle.std.specs.Prelude.{◌≡◌, ℕ, List, Result};
 ghost use Rattle.mdb_bus.specs.declared.scope.Scope.{Scope};
-ghost use Rattle.mdb_stretches.specs.declared.summary.Summary.{Summary};
+ghost use Rattle.mdb_surveyor.specs.declared.summary.Summary.{Summary};
 ghost use Rattle.mdb_verdict.specs.declared.fault.RunFault.{RunFault};
-ghost use Rattle.mdb_survey_text.specs.Lines.{LineForm};
+ghost use Rattle.mdb_surveyor.specs.Lines.{LineForm};
 ghost use Rattle.mdb_survey.specs.Survey.{IsSurveying};
 ghost use Rattle.mdb_verdict.specs.Verdict.{IsOwnAnswer};
 
-use mdb_stretches::laws as stretches;
+use mdb_surveyor::laws as stretches;
 
 /// The records of a text are surveyed in at most one way of their own: what is answered, and what
 /// is written.

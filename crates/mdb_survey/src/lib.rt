@@ -2,8 +2,8 @@
 //!
 //! [`survey_records`] writes the lines of each stretch and each fault while it reads, as text or as
 //! JSON, one object a line. It returns the [`Summary`]. To get each
-//! [`Stretch`](mdb_stretches::Stretch) and each fault as it ends, feed the rows to a
-//! [`Surveyor`](mdb_stretches::Surveyor).
+//! [`Stretch`](mdb_surveyor::Stretch) and each fault as it ends, feed the rows to a
+//! [`Surveyor`](mdb_surveyor::Surveyor).
 //!
 //! Money is in the smallest unit of its device, and times are in microseconds.
 #![tactic(auto)]
@@ -13,5 +13,5 @@ mod json_text;
 pub mod laws;
 mod surveying;
 
-pub use mdb_stretches::Summary;
+pub use mdb_surveyor::Summary;
 pub use surveying::survey_records;

@@ -13,7 +13,7 @@ use super::form::{add_end, add_ended, add_stretch};
 use mdb_bus::Scope;
 use mdb_follow::{ROWS_MAX, laws};
 use mdb_records::Records;
-use mdb_stretches::{Summary, Surveyor};
+use mdb_surveyor::{Summary, Surveyor};
 use mdb_text::Form;
 use mdb_verdict::{Batch, Printer, RunFault, TakeRows, read_rows};
 use mdb_words::Event;
@@ -162,10 +162,9 @@ impl Surveying {
 
 /// It stops where a line can't be added, and at no row.
 impl<W: Write> TakeRows<W> for Surveying {
-    ghost use Rattle.std.specs.Prelude.{◌++◌};
     ghost use Rattle.mdb_text.specs.declared.form.Form.{Form};
     ghost use Rattle.mdb_follow.specs.declared.follower.TheConstants.{ROWS_MAX};
-    ghost use Rattle.mdb_stretches.specs.Surveyor.{rows_of};
+    ghost use Rattle.mdb_surveyor.specs.Surveyor.{rows_of};
     ghost use Rattle.mdb_writing.specs.Output.{begun, output};
     ghost use Rattle.mdb_survey.specs.inner.SurveySteps.{HasSurveyed, HasStopped};
 
@@ -186,32 +185,24 @@ impl<W: Write> TakeRows<W> for Surveying {
         surveying.scope surveying.surveyor (begun (W.contents before))
         (output (W.contents after) surveying.printer.page) rows };
 
-    ghost stops = { λ surveying before after earlier rows. HasStopped
+    ghost stops = { λ surveying before after. HasStopped
         (survey_lines_in surveying.form (profile_of surveying.scope.begins)) surveying.scope
         (begun (W.contents before))
-        (output (W.contents after) surveying.printer.page) (earlier ++ rows) };
+        (output (W.contents after) surveying.printer.page) };
 
     fn rows_taken(&self) -> u64 {
         self.surveyor.rows()
     }
 
-    fn take_all(&mut self, writer: &mut W, rows: &[Event]) -> Option<RunFault> {
+    #[inline(always)]
+    fn take(&mut self, writer: &mut W, row: Event) -> Option<RunFault> {
         laws::followers_stand_for_reached_rows();
         laws::fronts_of_reached_rows_are_reached();
-        let mut rest = rows;
-        while let Some((ended, after)) = self.surveyor.feed_all(rest) {
-            if let Err(fault) = add_ended(
-                &mut self.printer,
-                self.form,
-                &self.scope,
-                writer,
-                &ended,
-            ) {
-                return Some(fault);
-            }
-            rest = after;
+        if self.surveyor.take(row) {
+            return None;
         }
-        None
+        let ended = self.surveyor.end_stretch();
+        add_ended(&mut self.printer, self.form, &self.scope, writer, &ended).err()
     }
 
     ghost counts = { λ surveying before after rows has. has.counted };

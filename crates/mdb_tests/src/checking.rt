@@ -6,7 +6,8 @@ use mdb_bus::{Blame, Rule, Scope, Untimely};
 use mdb_follow::{Account, AskCounts, DeviceFacts, DeviceReport, Offence, Range, Report};
 use mdb_msgs::{Device, DeviceSet, ReaderConfig, ReaderSetup, Setups};
 use mdb_text::Outcome;
-use mdb_verdict::{RunFault, check, text_of, text_scoped};
+use mdb_check::check;
+use mdb_verdict::{RunFault, text_of, text_scoped};
 use mdb_words::RowFault;
 use std::io::ErrorKind;
 

@@ -33,7 +33,7 @@ static REFUSED: [(Fields, RowFault); 14] = [
     (["", "M", "108"], RowFault::BadTime),
     ([" 1", "M", "108"], RowFault::BadTime),
     (["+1", "M", "108"], RowFault::BadTime),
-    (["1234567890123456", "M", "108"], RowFault::BadTime),
+    (["1234567890123456789", "M", "108"], RowFault::BadTime),
     (["x", "m", "2"], RowFault::BadTime),
     (["1", "m", "108"], RowFault::BadLine),
     (["1", "MS", "2"], RowFault::BadLine),
@@ -55,7 +55,7 @@ fn rows_are_refused_for_their_first_fault(rt: HostRuntime) {
 }
 
 /// Rows of words, each with its time, line and value, and its text.
-static WORDS: [(Fields, u64, Line, u16, &str); 4] = [
+static WORDS: [(Fields, u64, Line, u16, &str); 5] = [
     (
         ["000000000000001", "M", "108"],
         1,
@@ -78,16 +78,23 @@ static WORDS: [(Fields, u64, Line, u16, &str); 4] = [
         10,
         "2146,S,00A",
     ),
+    (
+        ["1764547200000000", "S", "10b"],
+        1_764_547_200_000_000,
+        Line::Peripheral,
+        0x10B,
+        "1764547200000000,S,10B",
+    ),
 ];
 
 /// Rows of breaks, each with its time and length, and its text.
 static BREAKS: [(Fields, u64, u64, &str); 2] = [
     (["0", "B", "100000"], 0, 100_000, "0,B,100000"),
     (
-        ["999999999999999", "B", "999999999"],
-        999_999_999_999_999,
+        ["999999999999999999", "B", "999999999"],
+        999_999_999_999_999_999,
         999_999_999,
-        "999999999999999,B,999999999",
+        "999999999999999999,B,999999999",
     ),
 ];
 

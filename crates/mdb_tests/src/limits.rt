@@ -6,7 +6,8 @@ use super::streams::{ROWS, WRONG_SUM, polls};
 use mdb_bus::{Blame, Rule};
 use mdb_follow::{Offence, ROWS_MAX};
 use mdb_text::Outcome;
-use mdb_verdict::{BYTES_MAX, RunFault, check, check_within};
+use mdb_check::{check, check_within};
+use mdb_verdict::{BYTES_MAX, RunFault};
 use mdb_words::RowFault;
 use std::alloc::Global;
 

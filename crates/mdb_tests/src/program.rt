@@ -1,5 +1,5 @@
 //! The program's command lines where streams fail, and where no command stands. What it makes of
-//! other words, texts and streams is tested from outside (`tests/refusals.txt`, `conformance`).
+//! other words, texts and streams is tested from outside (`tests/refusals.txt`, `tests/worked`).
 
 use super::asserts::{run_gives, same_at};
 use super::streams::{Pieces, ROWS, Sheet, words_of};

@@ -2,11 +2,11 @@
 
 use super::asserts::{same, same_at};
 use arrayvec::ArrayVec;
-use mdb_blocks::seal;
 use mdb_msgs::{
     BillCommand, ChangerCommand, ChangerSetup, Command, MsgFault, ReaderCommand, ReaderList,
     ReaderMsg, ReaderUnit, Reading, Reply, read_reply, write_reply,
 };
+use mdb_words::seal;
 use std::process::Abort;
 
 const CHANGER_SETUP: Command = Command::Changer(ChangerCommand::Setup);

@@ -1,9 +1,9 @@
 -- How far the reading of rows has come, and how it ends.
-use Rattle.mdb_verdict.proofs.Words.{AreRead, ComesAfter, EndsAfter, Err, FindsAtMost, FindsUpTo, FitsIn, HasEnded, HasFirst, HasRead, IfErr, IfSome, IsErrOf, IsHeard, IsMet, IsStopped, IsTakenInPart, IsTakenWhole, IsToldEnd, List, Memory, Next, None, Ok, Option, Read, ReadFault, Records, RowFault, RunFault, Some, ToCome, TooLong, [], ap, append_assoc, arith, false, goes_on_by, inl, inr, length, length-append, refl, run_fault_of, sym, true, ℕ, ◌++◌, ◌+◌, ◌∙◌, ◌≡◌, ◌≤◌, ◌⊎◌}
+use Rattle.mdb_verdict.proofs.Words.{AreRead, ComesAfter, EndsAfter, Err, FindsAtMost, FindsUpTo, FitsIn, HasEnded, HasFirst, HasRead, IfErr, IfSome, IsErrOf, IsHeard, IsMet, IsStopped, IsTakenInPart, IsTakenWhole, IsToldEnd, List, Memory, Next, None, Ok, Option, Read, ReadFault, Records, RowFault, RunFault, Some, StopsAmong, ToCome, TooLong, [], ap, append_assoc, arith, false, goes_on_by, inl, inr, length, length-append, refl, run_fault_of, sym, true, ℕ, ◌++◌, ◌+◌, ◌∙◌, ◌≡◌, ◌≤◌, ◌⊎◌}
 use Rattle.mdb_records.specs.declared.ReadFault.TheVariants as reading
 use Rattle.mdb_verdict.specs.declared.batch.Next.TheVariants as next
 use Rattle.mdb_verdict.proofs.Batches as batches
-use Rattle.mdb_verdict.proofs.Rows.{all_append, empty, first_row, no_rows}
+use Rattle.mdb_verdict.proofs.Rows.{all_append, empty, fewer, first_row, no_rows, read_at}
 
 -- The first of the records are so many rows, which were taken, and this is what comes after them.
 pub record Progress {R Row : Type 0} (Is : List (List ℕ) → Row → Type 0)
@@ -70,19 +70,33 @@ module _ {R Row : Type 0} {Is : List (List ℕ) → Row → Type 0}
         )
 
     -- one of them was stopped at
-    pub stopped : {Stops : List Row → List Row → Type 0} {limit : ℕ} {all : List (List (List ℕ))}
+    pub stopped : {Stops : List Row → Row → Type 0} {limit : ℕ} {all : List (List (List ℕ))}
         → ToCome remaining start all
-        → ((earlier : List Row) → Has earlier → Stops earlier events)
+        → ((earlier : List Row) → Has earlier → StopsAmong Stops earlier events)
         → count + length later ≤ limit → IsStopped Is Stops limit all
     stopped {all = all} to_come takes room =
         let read = both_read (progress.has_read all to_come) reads in
+        let at = takes progress.rows progress.has in
+        let whole : AreRead Is all (progress.rows ++ events) read.rest =
+        rw same (record { done = read.done; split = read.split; told = read.told }) in
+        let up_to = read_at Is progress.rows at.front at.row at.rest whole at.parts in
+        let less = fewer progress.rows at.front at.row at.rest at.parts in
         record {
-          earlier = progress.rows;
-          later = later;
-          rest = read.rest;
-          read = record { done = read.done; split = read.split; told = read.told };
-          few = omega (arith, progress.number, length-append progress.rows later, room);
-          stops = rw same at (takes progress.rows progress.has);
+          rows = progress.rows ++ at.front;
+          row = at.row;
+          fields = up_to.fields;
+          rest = up_to.rest;
+          read = up_to.read;
+          told = up_to.told;
+          few = omega (
+            arith,
+            less,
+            ap length same,
+            progress.number,
+            length-append progress.rows events,
+            room,
+          );
+          stops = at.stops;
         }
 
   -- How the reading ends after rows that were taken.
@@ -117,7 +131,7 @@ module _ {R Row : Type 0} {Is : List (List ℕ) → Row → Type 0}
       has = progress.has;
     }
 
-    module _ {Stop : Type 0} (Stops : List Row → List Row → Stop → Type 0) (limit : ℕ) where
+    module _ {Stop : Type 0} (Stops : List Row → Row → Stop → Type 0) (limit : ℕ) where
       -- a record isn't taken, or can't be read
       pub refused : (room : ℕ) (later : List Row) → FitsIn room later after
           → count + room ≡ limit + length later

@@ -106,6 +106,16 @@ pub fewer : {Row : Type 0} (earlier : List Row) {later : List Row} (front : List
     → length (earlier ++ front) < length (earlier ++ later)
 fewer earlier front row more parts = rw parts (simp length-append (omega arith))
 
+-- with the record of the next row
+pub read_with : {Row : Type 0} (Is : List (List ℕ) → Row → Type 0) {all : List (List (List ℕ))}
+    {rows : List Row} {row : Row} {fields : List (List ℕ)} {rest : List (List (List ℕ))}
+    → AreRead Is all rows (fields ∷ rest) → Is fields row → AreRead Is all (rows ++ row ∷ []) rest
+read_with Is {rows = rows} {row = row} {fields = fields} {rest = rest} read told = record {
+  done = read.done ++ fields ∷ [];
+  split = read.split ∙ sym (append_assoc read.done (fields ∷ []) rest);
+  told = all_append Is read.done rows (fields ∷ []) (row ∷ []) read.told (told, tt);
+}
+
 -- the first of the records of some rows
 pub first_row : {Row : Type 0} (Is : List (List ℕ) → Row → Type 0)
     (done rest : List (List (List ℕ))) (rows : List Row) → AreAll Is done rows → 0 < length rows

@@ -4,8 +4,8 @@ use Rattle.std.proofs.lemmas.Result.{err_from_is_err_and}
 use Rattle.std.specs.Result.{result_err}
 use Rattle.mdb_follow.specs.declared.follower.Follower.{Follower}
 use Rattle.mdb_follow.specs.Feeding.{HasTakenRows}
+use Rattle.mdb_follow.specs.Offences.{IsOffence}
 use Rattle.mdb_follow.specs.Sales.{SalesFollowApprovals}
-use Rattle.mdb_verdict.proofs.Rows.{fewer, read_at}
 
 -- an answer that `?` hands on is its fault
 pub is_fault : {A Fault : Type 0} {fault : Fault} (answer : Result A Fault)
@@ -28,14 +28,21 @@ pub followed : (scope : Scope) (old new : Follower) (rows : List Event)
     → IfOk answer (λ _. HasTakenRows old new rows)
     → ((before : List Event) → StandsFor old before → IfErr answer (HasOffence scope before rows))
     → scope_of new ≡ scope_of old → (earlier : List Event) → HasFollowedRows scope old earlier
-    → HasTakenOrStopped (HasFollowedRows scope new) (HasOffence scope) earlier rows stop
+    → HasTakenOrStopped (HasFollowedRows scope new) (IsOffence scope) earlier rows stop
 followed scope old new rows (Ok done) stop is taken offends kept earlier has = rw is (record {
   in_scope = kept ∙ has.in_scope;
   stands = taken.stands earlier has.stands;
   counted = omega (arith, taken.counted, has.counted, length-append earlier rows);
 })
 followed scope old new rows (Err offence) stop is taken offends kept earlier has =
-    rw is (offends earlier has.stands)
+    let at = offends earlier has.stands in
+    rw is (record {
+      front = at.front;
+      row = at.row;
+      rest = at.rest;
+      parts = at.parts;
+      stops = at.is;
+    })
 
 -- rows that can be and are read lead up to the record after them
 pub lead_up : {scope : Scope} {all : List (List (List ℕ))} {rows : List Event}
@@ -76,26 +83,23 @@ whole_of scope {limit = limit} {all = all} sales ended outcome tells_yes =
     told (No offence) never = absurd never
 
 -- a row cannot be
-pub impossible : (scope : Scope) (limit : ℕ) (all : List (List (List ℕ))) (offence : Offence)
-    → IsStopped IsRow (λ earlier rows. HasOffence scope earlier rows offence) limit all
+abbrev pub impossible : (scope : Scope) (limit : ℕ) (all : List (List (List ℕ))) (offence : Offence)
+    → IsStopped IsRow (λ rows row. IsOffence scope rows row offence) limit all
     → IsImpossible scope limit all offence
-impossible scope limit all offence ended =
-    let has = ended.stops in
-    let up_to = read_at IsRow ended.earlier has.front has.row has.rest ended.read has.parts in
-    record {
-      rows = ended.earlier ++ has.front;
-      row = has.row;
-      fields = up_to.fields;
-      stops = lead_up up_to.read has.is.reached;
-      told = up_to.told;
-      few = omega (arith, fewer ended.earlier has.front has.row has.rest has.parts, ended.few);
-      is = has.is;
-    }
+impossible scope limit all offence ended = record {
+  rows = ended.rows;
+  row = ended.row;
+  fields = ended.fields;
+  stops = lead_up ended.read ended.stops.reached;
+  told = ended.told;
+  few = ended.few;
+  is = ended.stops;
+}
 
 -- a record isn't taken, or can't be read
 module _ {Stop : Type 0} (scope : Scope) (limit : ℕ) (all : List (List (List ℕ)))
     (Has : List Event → Type 0) (reaches : (rows : List Event) → Has rows → IsReached scope rows)
-    (Stops : List Event → List Event → Stop → Type 0) where
+    (Stops : List Event → Event → Stop → Type 0) where
   refused_by : (fault : RunFault) → HasEnded IsRow IsRefusal Has Stops limit all (Err fault)
       → IsAnswer scope limit all (Err fault)
   refused_by (BadRow row fault) ended = record {

@@ -19,7 +19,7 @@ pub use Rattle.mdb_words.specs.Row.{IsRow}
 pub use Rattle.mdb_words.specs.declared.event.Event.{Event}
 pub use Rattle.mdb_words.specs.declared.row.RowFault.{RowFault}
 pub use Rattle.mdb_verdict.specs.Batch.{AreAll, ComesAfter, FindsAtMost, FitsIn, HasRead, IsMet}
-pub use Rattle.mdb_verdict.specs.Ending.{AreRead, EndsAfter, FindsUpTo, HasEnded, HasFirst, HasFollowedRows, HasTakenOrStopped, IsHeard, IsStopped, IsTakenInPart, IsTakenWhole, IsToldEnd, goes_on_by}
+pub use Rattle.mdb_verdict.specs.Ending.{AreRead, EndsAfter, FindsUpTo, HasEnded, HasFirst, HasFollowedRows, HasTakenOrStopped, IsHeard, IsStopped, IsTakenInPart, IsTakenWhole, IsToldEnd, StopsAmong, goes_on_by}
 pub use Rattle.mdb_verdict.specs.Rows.{AreRows}
 pub use Rattle.mdb_verdict.specs.Verdict.{HasCause, IsAnswer, IsImpossible, IsNoYes, IsOwnAnswer, IsPossible, IsYes, LeadUpTo, run_fault_of}
 pub use Rattle.mdb_verdict.specs.declared.batch.Next.{Next}

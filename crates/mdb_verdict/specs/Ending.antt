@@ -1,7 +1,7 @@
 -- How a reading of rows ends.
 --
 -- `Is` says which fields are which row, `Refuses` why they are none. `Has` says which rows were
--- taken, `Stops` that one of some rows after earlier ones was stopped at.
+-- taken, `Stops` that a row after earlier ones was stopped at.
 use Rattle.std.specs.Prelude.{◌≡◌, ◌+◌, ◌<◌, ◌≤◌, ℕ, List, [], ◌∷◌, ◌++◌, length, ⊤, Bool, true, false, Option, Some, None, Result, Ok, Err}
 use Rattle.mdb_words.specs.declared.event.Event.{Event}
 use Rattle.mdb_words.specs.declared.row.RowFault.{RowFault}
@@ -17,15 +17,31 @@ use Rattle.mdb_verdict.specs.Batch.{AreAll}
 use Rattle.mdb_verdict.specs.Verdict.{run_fault_of}
 use Rattle.mdb_bus.specs.declared.scope.Scope.{Scope}
 
+-- a row was taken after the earlier ones, or was stopped at
+abbrev pub HasTakenOrStoppedAt : {Row Stop : Type 0} → (List Row → Type 0)
+    → (List Row → Row → Stop → Type 0) → List Row → Row → Option Stop → Type 0
+HasTakenOrStoppedAt Has Stops earlier row None = Has (earlier ++ row ∷ [])
+HasTakenOrStoppedAt Has Stops earlier row (Some stop) = Stops earlier row stop
+
+-- One of the later rows was stopped at, after the earlier ones and those before it.
+pub record StopsAmong {Row : Type 0} (Stops : List Row → Row → Type 0) (earlier later : List Row)
+    : Type 0 where
+  pub front : List Row
+  pub row : Row
+  pub rest : List Row
+  pub parts : later ≡ front ++ row ∷ rest
+  pub stops : Stops (earlier ++ front) row
+
 -- the later rows were taken after the earlier ones, or one of them was stopped at
 abbrev pub HasTakenOrStopped : {Row Stop : Type 0} → (List Row → Type 0)
-    → (List Row → List Row → Stop → Type 0) → List Row → List Row → Option Stop → Type 0
+    → (List Row → Row → Stop → Type 0) → List Row → List Row → Option Stop → Type 0
 HasTakenOrStopped Has Stops earlier later None = Has (earlier ++ later)
-HasTakenOrStopped Has Stops earlier later (Some stop) = Stops earlier later stop
+HasTakenOrStopped Has Stops earlier later (Some stop) =
+    StopsAmong (λ front row. Stops front row stop) earlier later
 
 -- it was stopped at some row
-abbrev pub IsStop : {Row Stop : Type 0} → (List Row → List Row → Stop → Type 0) → Stop → Type 0
-IsStop {Row = Row} Stops stop = (earlier later : List Row) × Stops earlier later stop
+abbrev pub IsStop : {Row Stop : Type 0} → (List Row → Row → Stop → Type 0) → Stop → Type 0
+IsStop {Row = Row} Stops stop = (earlier : List Row) × (row : Row) × Stops earlier row stop
 
 -- a follower has taken these rows
 pub record HasFollowedRows (scope : Scope) (follower : Follower) (rows : List Event) : Type 0 where
@@ -49,16 +65,18 @@ pub record IsTakenWhole {Row : Type 0} (Is : List (List ℕ) → Row → Type 0)
   pub few : length rows ≤ limit
   pub has : Has rows
 
--- One of the later rows was stopped at.
+-- The row after some that were read was stopped at.
 pub record IsStopped {Row : Type 0} (Is : List (List ℕ) → Row → Type 0)
-    (Stops : List Row → List Row → Type 0) (limit : ℕ) (records : List (List (List ℕ)))
+    (Stops : List Row → Row → Type 0) (limit : ℕ) (records : List (List (List ℕ)))
     : Type 0 where
-  pub earlier : List Row
-  pub later : List Row
+  pub rows : List Row
+  pub row : Row
+  pub fields : List (List ℕ)
   pub rest : List (List (List ℕ))
-  pub read : AreRead Is records (earlier ++ later) rest
-  pub few : length (earlier ++ later) ≤ limit
-  pub stops : Stops earlier later
+  pub read : AreRead Is records rows (fields ∷ rest)
+  pub told : Is fields row
+  pub few : length rows < limit
+  pub stops : Stops rows row
 
 -- The record after the rows that were taken is no row.
 pub record IsTakenToBadRow {Row : Type 0} (Is : List (List ℕ) → Row → Type 0)
@@ -95,11 +113,11 @@ pub record IsTakenInPart {Row : Type 0} (Is : List (List ℕ) → Row → Type 0
 -- record that isn't taken, and where a record can't be read
 abbrev pub HasEnded : {Row Stop : Type 0} → (List (List ℕ) → Row → Type 0)
     → (List (List ℕ) → RowFault → Type 0) → (List Row → Type 0)
-    → (List Row → List Row → Stop → Type 0) → ℕ → List (List (List ℕ))
+    → (List Row → Row → Stop → Type 0) → ℕ → List (List (List ℕ))
     → Result (Option Stop) RunFault → Type 0
 HasEnded Is Refuses Has Stops limit records (Ok None) = IsTakenWhole Is Has limit records
 HasEnded Is Refuses Has Stops limit records (Ok (Some stop)) =
-    IsStopped Is (λ earlier later. Stops earlier later stop) limit records
+    IsStopped Is (λ rows row. Stops rows row stop) limit records
 HasEnded Is Refuses Has Stops limit records (Err (BadRow row fault)) =
     IsTakenToBadRow Is Refuses Has limit records row fault
 HasEnded Is Refuses Has Stops limit records (Err TooLong) = IsTakenToLimit Is Has limit records

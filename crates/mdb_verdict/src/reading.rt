@@ -3,7 +3,7 @@
 ghost use Rattle.std.specs.Prelude.{◌≡◌, ◌+◌, ◌^◌, ◌<◌, ◌≤◌, ◌≢◌, List, ℕ, [], IfErr, IfOk, IfSome, IsErr, IsErrOf, None, Ok, Option, length};
 ghost use Rattle.mdb_records.specs.ToCome.{IsOverLimit, ToCome, fault_of, found_by};
 ghost use Rattle.mdb_bus.specs.declared.scope.Scope.{Scope};
-ghost use Rattle.mdb_verdict.specs.Ending.{EndsAfter, FindsUpTo, HasEnded, HasTakenOrStopped, IsHeard, IsStop, IsToldEnd, goes_on_by};
+ghost use Rattle.mdb_verdict.specs.Ending.{EndsAfter, FindsUpTo, HasEnded, HasTakenOrStopped, HasTakenOrStoppedAt, IsHeard, IsStop, IsToldEnd, goes_on_by};
 ghost use Rattle.mdb_verdict.specs.Verdict.{run_fault_of};
 
 use super::batch::{Batch, Next};
@@ -38,14 +38,27 @@ pub trait TakeRows<O> {
     /// and is in the second.
     ghost has: { Self → O → O → List Self.Row → Type 0 };
 
-    /// After the earlier rows it has stopped at one of the later ones.
-    ghost stops: { Self → O → O → List Self.Row → List Self.Row → Self.Stop → Type 0 };
+    /// After the earlier rows it has stopped at this one.
+    ghost stops: { Self → O → O → List Self.Row → Self.Row → Self.Stop → Type 0 };
 
     /// The number of rows that it has accepted.
     fn rows_taken(&self) -> u64
         ensures { result ≡ count self.now };
 
+    /// Takes the next row, or tells why it stops at it.
+    fn take(&mut self, out: &mut O, row: Self::Row) -> Option<Self::Stop>
+        requires begun { (before : O) × (earlier : List Self.Row)
+            × has self.old before out.old earlier }
+        requires room { count self.old < most }
+        ensures taken { (before : O) (earlier : List Self.Row) → has self.old before out.old earlier
+            → HasTakenOrStoppedAt (has self.new before out.new) (stops self.new before out.new)
+            earlier row result }
+        // The row changes nothing of it.
+        ensures keeps { kept self.new ≡ kept self.old };
+
     /// Takes the next rows, or tells why it stops at one of them.
+    // Not inlined, so that its loop has the processor's registers to itself.
+    #[inline(never)]
     fn take_all(&mut self, out: &mut O, rows: &[Self::Row]) -> Option<Self::Stop>
         requires begun { (before : O) × (earlier : List Self.Row)
             × has self.old before out.old earlier }
@@ -53,8 +66,15 @@ pub trait TakeRows<O> {
         ensures taken { (before : O) (earlier : List Self.Row) → has self.old before out.old earlier
             → HasTakenOrStopped (has self.new before out.new) (stops self.new before out.new)
             earlier rows.now result }
-        // The rows change nothing of it.
-        ensures keeps { kept self.new ≡ kept self.old };
+        ensures keeps { kept self.new ≡ kept self.old }
+    {
+        for row in rows {
+            if let Some(stop) = self.take(out, *row) {
+                return Some(stop);
+            }
+        }
+        None
+    }
 
     /// Which rows it has taken tells how many.
     ghost counts: { (taker : Self) (before after : O) (rows : List Self.Row)

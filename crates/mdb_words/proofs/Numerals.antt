@@ -1,5 +1,5 @@
 -- Fields of digits: std's words of digits are those of `specs/Digits.antt`.
-use Rattle.mdb_words.proofs.Words.{◌≡◌, ℕ, zero, suc, ◌+◌, ◌-◌, ◌*◌, ◌/◌, ◌%◌, ◌^◌, ◌<◌, ◌≤◌, true, Option, None, Some, List, [], ◌∷◌, ◌++◌, append_assoc, length, get_or, map, take, drop, length-drop, length-append, All, refl, sym, ap, subst, inl, inr, ◌∙◌, arith, cases_lt, nat_tests, decimal_is_IsNumeral, decimal_digit, decimal_step, length-decimal-le, All-nil, All-cons, All-head, All-tail, IsAsciiDigit, IsAsciiHexdigit, digit_value, decimal, digit_glyph, SomeIff, IfSome, IfNone, IsDecimal, IsHexWord, positional, IsCount, IsCounted, hex_word}
+use Rattle.mdb_words.proofs.Words.{◌≡◌, ℕ, zero, suc, ◌+◌, ◌-◌, ◌*◌, ◌/◌, ◌%◌, ◌^◌, ◌<◌, ◌≤◌, true, Option, None, Some, List, [], ◌∷◌, ◌++◌, append_assoc, length, get_or, map, take, drop, length-drop, length-append, All, refl, sym, ap, subst, inl, inr, ◌∙◌, arith, cases_lt, nat_tests, decimal_is_IsNumeral, decimal_digit, decimal_step, length-decimal-le, All-nil, All-cons, All-head, All-tail, IsAsciiDigit, IsAsciiHexdigit, digit_value, decimal, digit_glyph, SomeIff, IfSome, IfNone, IsDecimal, IsHexWord, positional, IsCount, IsCounted, IsTime, hex_word}
 use Rattle.std.proofs.Math.Nat.{pow-zero, pow-succ', pow-le-pow_right}
 use Rattle.std.proofs.Math.ListN.{length-map}
 use Rattle.std.proofs.lemmas.Int.Digits.{digits_value-lt}
@@ -143,6 +143,13 @@ AllDigits-append : (base : ℕ) (front rest : List ℕ) → AllDigits base front
 AllDigits-append base [] rest h r = r
 AllDigits-append base (c ∷ cs) rest h r = (h.0, AllDigits-append base cs rest h.1 r)
 
+AllDigits-split : (base : ℕ) (front rest : List ℕ) → AllDigits base (front ++ rest)
+    → AllDigits base front × AllDigits base rest
+AllDigits-split base [] rest all = (tt, all)
+AllDigits-split base (c ∷ cs) rest all =
+    let others = AllDigits-split base cs rest all.1 in
+    ((all.0, others.0), others.1)
+
 value_append : (base n : ℕ) (front rest : List ℕ)
     → digits_value_after base n (front ++ rest)
     ≡ digits_value_after base (digits_value_after base n front) rest
@@ -161,18 +168,24 @@ pub none_so_far : (ds rest : List ℕ) (number : ℕ) → number ≡ 0 → rest 
 none_so_far ds rest number none all few =
     record { front = []; split = sym all; read = (tt, none); few = omega (arith, ap length all) }
 
-pub eight_so_far : (ds rest : List ℕ) (number : ℕ) → rest ≡ take (length ds - 8) (drop 8 ds)
-    → AllDigits 10 (take 8 ds) × (number ≡ digits_value 10 (take 8 ds)) → length ds ≤ 15
+pub front_so_far : (k : ℕ) (ds rest : List ℕ) (number : ℕ)
+    → rest ≡ take (length ds - k) (drop k ds)
+    → AllDigits 10 (take k ds) × (number ≡ digits_value 10 (take k ds)) → length ds ≤ k + 7
     → IsSoFar ds number rest
-eight_so_far ds rest number is read few =
-    let whole : rest ≡ drop 8 ds =
-    is ∙ take_all (length ds - 8) (drop 8 ds) (omega (arith, length-drop 8 ds)) in
+front_so_far k ds rest number is read few =
+    let whole : rest ≡ drop k ds =
+    is ∙ take_all (length ds - k) (drop k ds) (omega (arith, length-drop k ds)) in
     record {
-      front = take 8 ds;
-      split = sym (ap (λ l. take 8 ds ++ l) whole ∙ take-append-drop 8 ds);
+      front = take k ds;
+      split = sym (ap (λ l. take k ds ++ l) whole ∙ take-append-drop k ds);
       read = read;
-      few = omega (arith, ap length whole, length-drop 8 ds);
+      few = omega (arith, ap length whole, length-drop k ds);
     }
+
+pub part_digits : (ds front rest : List ℕ) → ds ≡ front ++ rest → AllDigits 10 ds
+    → AllDigits 10 front × AllDigits 10 rest
+part_digits ds front rest split all =
+    AllDigits-split 10 front rest (subst (λ l. AllDigits 10 l) split all)
 
 pub goes_on : (ds rest : List ℕ) (high low power : ℕ) → IsSoFar ds high rest
     → power ≡ 10 ^ length rest → AllDigits 10 rest × (low ≡ digits_value 10 rest)
@@ -198,11 +211,11 @@ goes_on ds rest high low power so_far is read =
       ),
     )
 
-pub small_number : (ds : List ℕ) (n : ℕ) → length ds ≤ 15
-    → AllDigits 10 ds × (n ≡ digits_value 10 ds) → n < 10 ^ 15
-small_number ds n few read =
+pub small_number : (most : ℕ) (ds : List ℕ) (n : ℕ) → length ds ≤ most
+    → AllDigits 10 ds × (n ≡ digits_value 10 ds) → n < 10 ^ most
+small_number most ds n few read =
     let below = digits_value-lt 10 ds read.0 in
-    let right : 10 ^ length ds ≤ 10 ^ 15 = pow-le-pow_right (omega arith) few in
+    let right : 10 ^ length ds ≤ 10 ^ most = pow-le-pow_right (omega arith) few in
     omega (arith, read.1)
 
 -- what reading a field answers
@@ -218,6 +231,23 @@ pub decimal_none : (most : ℕ) (field : List ℕ) (read : Option ℕ)
     → IfNone read ((n : ℕ) → IsDecimal most field n → ⊥)
 decimal_none most field None h = λ n decimal. h (values_from_digits field decimal.digits)
 decimal_none most field (Some n) h = tt
+
+pub time_some : (field : List ℕ) (read : Option ℕ)
+    → SomeIff read (IsTime field) (digits_value 10 field) → IfSome read (IsDecimal 18 field)
+time_some field None h = tt
+time_some field (Some n) h = IsDecimal-from 18 field n h.0.0 h.0.1 h.0.2 h.1
+
+pub time_none : (field : List ℕ) (read : Option ℕ)
+    → SomeIff read (IsTime field) (digits_value 10 field)
+    → IfNone read ((n : ℕ) → IsDecimal 18 field n → ⊥)
+time_none field None h =
+    λ n decimal. h (decimal.some, decimal.few, values_from_digits field decimal.digits)
+time_none field (Some n) h = tt
+
+pub decimal_below : (most : ℕ) (field : List ℕ) (read : Option ℕ)
+    → IfSome read (IsDecimal most field) → IfSome read (λ n. n < 10 ^ most)
+decimal_below most field None is = tt
+decimal_below most field (Some n) is = IsDecimal-lt most field n is
 
 -- decimals as they are appended
 
@@ -260,16 +290,16 @@ module _ (old front : List ℕ) (n : ℕ) where
         let digit = decimal_digit n ten in
         cc
 
--- a start alone takes 15 bytes at most
+-- a start alone takes 18 bytes at most
 pub length_start : (start : ℕ) (new text : List ℕ) → new ≡ [] → text ≡ new ++ decimal start
-    → start < 10 ^ 15 → length text ≤ 15
+    → start < 10 ^ 18 → length text ≤ 18
 length_start start new text empty is early =
     omega (
       arith,
       ap length is,
       ap length empty,
       length-append new (decimal start),
-      length-decimal-le 15 start (omega arith) early (omega arith),
+      length-decimal-le 18 start (omega arith) early (omega arith),
     )
 
 pub decimal_digits : (n : ℕ) → n < 2 ^ 64 → All IsAsciiDigit (decimal n)

@@ -39,7 +39,7 @@ no_letter letter no_line no_break (inr (inr is)) = no_break is
 
 pub refuses_letter : (letter value : List ℕ) (at : ℕ)
     → ((line : Line) → letter ≢ letter_of line ∷ []) → letter ≢ break_letter ∷ [] → (time : List ℕ)
-    → IsDecimal 15 time at → IsRefusal (time ∷ letter ∷ value ∷ []) BadLine
+    → IsDecimal 18 time at → IsRefusal (time ∷ letter ∷ value ∷ []) BadLine
 refuses_letter letter value at no_line no_break time decimal =
     (time, letter, value, refl, at, decimal, no_letter letter no_line no_break)
 
@@ -58,7 +58,7 @@ three_fields fields none some few = absurd (omega arith)
 pub refuses_time : (fields : List (Bor (List ℕ))) (none : Bor (List ℕ)) (read : Option ℕ)
     (fault : RowFault) → 3 ≤ length fields → length fields < 4
     → ◌≡◌ {A = Result ℕ RowFault} (Err fault) (ok_or read BadTime)
-    → IfNone read ((n : ℕ) → IsDecimal 15 (get_or fields 0 none).now n → ⊥)
+    → IfNone read ((n : ℕ) → IsDecimal 18 (get_or fields 0 none).now n → ⊥)
     → IsRefusal (texts fields) fault
 refuses_time fields none None fault some few is bad =
     let same : fault ≡ BadTime = cc in
@@ -68,8 +68,8 @@ refuses_time fields none (Some n) fault some few is bad = absurd (cc)
 pub tells_fields : (fields : List (Bor (List ℕ))) (none : Bor (List ℕ)) (read : Option ℕ) (at : ℕ)
     (told : Result Event RowFault) → 3 ≤ length fields → length fields < 4
     → ◌≡◌ {A = Result ℕ RowFault} (Ok at) (ok_or read BadTime)
-    → IfSome read (IsDecimal 15 (get_or fields 0 none).now)
-    → ((time : List ℕ) → IsDecimal 15 time at
+    → IfSome read (IsDecimal 18 (get_or fields 0 none).now)
+    → ((time : List ℕ) → IsDecimal 18 time at
     → Tells told (time ∷ (get_or fields 1 none).now ∷ (get_or fields 2 none).now ∷ []))
     → Tells told (texts fields)
 tells_fields fields none None at told some few is decimal rest = absurd (cc)
@@ -113,14 +113,14 @@ hex_bytes P glyph word small =
 abbrev pub IsWritten : Event → Type 0
 IsWritten event = IsRow (row_fields event) event × All (All IsFieldByte) (row_fields event)
 
-written_word : (at : ℕ) (line : Line) (word : ℕ) → at < 10 ^ 15 → word < 512
+written_word : (at : ℕ) (line : Line) (word : ℕ) → at < 10 ^ 18 → word < 512
     → IsWritten (Word at line word)
 written_word at line word early small = (
   (
     decimal at,
     hex_word word,
     refl,
-    IsDecimal-decimal 15 at (omega arith) early (omega arith),
+    IsDecimal-decimal 18 at (omega arith) early (omega arith),
     IsHexWord-hex_word word small,
   ),
   three_bytes (All IsFieldByte) (decimal at) (letter_of line ∷ []) (hex_word word)
@@ -128,13 +128,13 @@ written_word at line word early small = (
       (hex_bytes IsFieldByte glyph_byte word small),
 )
 
-written_break : (at span : ℕ) → at < 10 ^ 15 → span < 10 ^ 9 → IsWritten (Break at span)
+written_break : (at span : ℕ) → at < 10 ^ 18 → span < 10 ^ 9 → IsWritten (Break at span)
 written_break at span early short = (
   (
     decimal at,
     decimal span,
     refl,
-    IsDecimal-decimal 15 at (omega arith) early (omega arith),
+    IsDecimal-decimal 18 at (omega arith) early (omega arith),
     IsDecimal-decimal 9 span (omega arith) short (omega arith),
   ),
   three_bytes (All IsFieldByte) (decimal at) (break_letter ∷ []) (decimal span)
@@ -143,14 +143,14 @@ written_break at span early short = (
 )
 
 pub word_written : (event : Event) (start at : ℕ) (line : Line) (word : ℕ)
-    → event ≡ Word at line word → start ≡ start_of event → start < 10 ^ 15 → word < 512
+    → event ≡ Word at line word → start ≡ start_of event → start < 10 ^ 18 → word < 512
     → IsWritten event
 word_written event start at line word is from early small =
     let same : start_of event ≡ at = ap start_of is in
     rw is (written_word at line word (omega arith) small)
 
 pub break_written : (event : Event) (start at span : ℕ) → event ≡ Break at span
-    → start ≡ start_of event → start < 10 ^ 15 → span < 10 ^ 9 → IsWritten event
+    → start ≡ start_of event → start < 10 ^ 18 → span < 10 ^ 9 → IsWritten event
 break_written event start at span is from early short =
     let same : start_of event ≡ at = ap start_of is in
     rw is (written_break at span (omega arith) short)

@@ -9,4 +9,4 @@ pub use Rattle.std.specs.Fmt.{decimal, digit_glyph}
 pub use Rattle.std.specs.Option.{IfNone, IfSome, ok_or, SomeIff}
 pub use Rattle.mdb_words.specs.Digits.{IsDecimal, IsHexWord, positional}
 pub use Rattle.mdb_words.specs.RowsWritten.{hex_word, IsFieldByte, row_fields}
-pub use Rattle.mdb_words.specs.inner.Counts.{IsCount, IsCounted}
+pub use Rattle.mdb_words.specs.inner.Counts.{IsCount, IsCounted, IsFront, IsTime}

@@ -4,3 +4,6 @@ pub mod Refusals
 pub mod Row
 pub mod RowsWritten
 pub mod inner
+pub mod Block
+pub mod Answer
+pub mod BlockFaults

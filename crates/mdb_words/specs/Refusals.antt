@@ -17,11 +17,11 @@ IsLetter field =
 abbrev pub IsRefusal : List (List ℕ) → RowFault → Type 0
 IsRefusal fields FieldCount = length fields ≢ 3
 IsRefusal fields BadTime = (time letter value : List ℕ) × (fields ≡ time ∷ letter ∷ value ∷ [])
-    × ((at : ℕ) → IsDecimal 15 time at → ⊥)
+    × ((at : ℕ) → IsDecimal 18 time at → ⊥)
 IsRefusal fields BadLine = (time letter value : List ℕ) × (fields ≡ time ∷ letter ∷ value ∷ [])
-    × (at : ℕ) × IsDecimal 15 time at × (IsLetter letter → ⊥)
+    × (at : ℕ) × IsDecimal 18 time at × (IsLetter letter → ⊥)
 IsRefusal fields BadValue = (time letter value : List ℕ) × (fields ≡ time ∷ letter ∷ value ∷ [])
-    × (at : ℕ) × IsDecimal 15 time at × IsLetter letter × ((event : Event) → IsRow fields event → ⊥)
+    × (at : ℕ) × IsDecimal 18 time at × IsLetter letter × ((event : Event) → IsRow fields event → ⊥)
 
 -- what reading fields answers: the event of the row, or why they are none
 abbrev pub Tells : Result Event RowFault → List (List ℕ) → Type 0

@@ -19,7 +19,7 @@ break_letter = 66
 abbrev pub IsRow : List (List ℕ) → Event → Type 0
 IsRow fields (Word at line word) =
     (time value : List ℕ) × (fields ≡ time ∷ (letter_of line ∷ []) ∷ value ∷ [])
-    × IsDecimal 15 time at × IsHexWord value word
+    × IsDecimal 18 time at × IsHexWord value word
 IsRow fields (Break at length) =
     (time value : List ℕ) × (fields ≡ time ∷ (break_letter ∷ []) ∷ value ∷ [])
-    × IsDecimal 15 time at × IsDecimal 9 value length
+    × IsDecimal 18 time at × IsDecimal 9 value length

@@ -1,19 +1,32 @@
 //! Numbers as fields of digits, read and written.
 
-ghost use Rattle.std.specs.Prelude.{◌≡◌, ◌+◌, ◌%◌, ◌<◌, ◌≤◌, ◌++◌, ℕ, length, take, [], ◌∷◌, true, IfSome, IfNone};
+ghost use Rattle.std.specs.Prelude.{◌≡◌, ◌+◌, ◌-◌, ◌%◌, ◌<◌, ◌≤◌, ◌^◌, ◌++◌, ℕ, length, take, [], ◌∷◌, true, IfSome, IfNone};
 ghost use Rattle.std.specs.Fmt.{decimal, digit_glyph};
 ghost use Rattle.std.specs.Option.{SomeIff};
 ghost use Rattle.std.specs.Str.Parse.{AllDigits, digits_value};
 ghost use Rattle.arrayvec.specs.ArrayString.{array_string_len};
 ghost use Rattle.mdb_words.specs.Digits.{IsDecimal, IsHexWord};
-ghost use Rattle.mdb_words.specs.inner.Counts.{IsCount, IsCounted};
+ghost use Rattle.mdb_words.specs.inner.Counts.{IsCount, IsCounted, IsFront, IsTime};
 ghost use Rattle.mdb_words.specs.RowsWritten.{hex_word};
 
 use super::tables::{DECIMAL, HEX, POWERS};
 use arrayvec::ArrayString;
 
+/// The number of a field of 1 to 15 ASCII digits, with leading zeros allowed. `None` for any other
+/// field.
+#[inline(always)]
+#[tactic(auto, using(crate::proofs::Numerals::decimal_below))]
+pub fn whole_number(field: &[u8]) -> Option<u64>
+    ensures some { IfSome result (IsDecimal 15 field.now) }
+    ensures none { IfNone result ((n : ℕ) → IsDecimal 15 field.now n → ⊥) }
+    ensures range { IfSome result (λ n. n < 10 ^ 15) }
+{
+    read_decimal(field, 15)
+}
+
 /// The number of a field of 1 to `most` decimal digits, leading zeros allowed; else `None`.
 #[inline(always)]
+#[tactic(auto, using(crate::proofs::Numerals::decimal_some, crate::proofs::Numerals::decimal_none))]
 pub(crate) fn read_decimal(field: &[u8], most: usize) -> Option<u64>
     requires { most ≤ 15 }
     ensures some { IfSome result (IsDecimal most field.now) }
@@ -23,6 +36,46 @@ pub(crate) fn read_decimal(field: &[u8], most: usize) -> Option<u64>
         return None;
     }
     number_of(field)
+}
+
+/// The number of a field of 1 to 18 decimal digits, leading zeros allowed; else `None`.
+#[inline(always)]
+#[tactic(auto, using(crate::proofs::Numerals::time_some, crate::proofs::Numerals::time_none))]
+pub(crate) fn read_time(field: &[u8]) -> Option<u64>
+    ensures some { IfSome result (IsDecimal 18 field.now) }
+    ensures none { IfNone result ((n : ℕ) → IsDecimal 18 field.now n → ⊥) }
+{
+    time_of(field)
+}
+
+/// The number of 1 to 18 decimal digits; `None` where there are none or more, or a byte is no
+/// digit. The test that more than 15 need is also that for none, so fewer cost no further step.
+#[inline(always)]
+fn time_of(digits: &[u8]) -> Option<u64>
+    ensures { SomeIff result (IsTime digits.now) (digits_value 10 digits.now) }
+{
+    let (high, rest) = if digits.is_empty() || digits.len() > 15 {
+        (front_of(digits)?, &digits[digits.len() - 7..])
+    } else if digits.len() < 8 {
+        (0, digits)
+    } else {
+        (number_of_few(&digits[..8])?, &digits[8..])
+    };
+    let low = number_of_few(rest)?;
+    Some(high * POWERS[rest.len()] + low)
+}
+
+/// The number of the digits before the last seven, where there are 16 to 18 bytes; `None` where
+/// there are others, or one of these is no digit. This is kept out of the way of shorter times.
+#[inline(never)]
+fn front_of(digits: &[u8]) -> Option<u64>
+    ensures { SomeIff result (IsFront digits.now (take (length digits.now - 7) digits.now))
+        (digits_value 10 (take (length digits.now - 7) digits.now)) }
+{
+    if digits.len() < 16 || digits.len() > 18 {
+        return None;
+    }
+    number_of(&digits[..digits.len() - 7])
 }
 
 /// The number of decimal digits; `None` where a byte is no digit. The first eight are read apart,

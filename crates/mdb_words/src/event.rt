@@ -38,7 +38,7 @@ pub enum Event {
 impl Event {
     /// Reads the fields of a row (this profile). A row has three fields:
     ///
-    /// - the start in microseconds, 1 to 15 decimal digits;
+    /// - the start in microseconds, 1 to 18 decimal digits;
     /// - `M`, `S` or `B`: a word of the controller, a word of a peripheral, or a break;
     /// - a word as three hexadecimal digits up to 1FF, or the length of a break in microseconds as
     ///   1 to 9 decimal digits.
@@ -64,7 +64,7 @@ impl Event {
     #[inline(always)]
     fn read_at(at: Time, letter: &[u8], value: &[u8]) -> Result<Event, RowFault>
         ensures { (time : List ℕ) →
-            IsDecimal 15 time at → Tells result (time ∷ letter.now ∷ value.now ∷ []) }
+            IsDecimal 18 time at → Tells result (time ∷ letter.now ∷ value.now ∷ []) }
     {
         if let Some(line) = line_of(letter) {
             Event::read_word(at, line, value)
@@ -78,7 +78,7 @@ impl Event {
     /// The word that starts at a time on a line, by the value of its row.
     #[inline(always)]
     fn read_word(at: Time, line: Line, value: &[u8]) -> Result<Event, RowFault>
-        ensures { (time : List ℕ) → IsDecimal 15 time at →
+        ensures { (time : List ℕ) → IsDecimal 18 time at →
             Tells result (time ∷ (letter_of line ∷ []) ∷ value.now ∷ []) }
     {
         let word = Word::read(value).ok_or(RowFault::BadValue)?;
@@ -89,7 +89,7 @@ impl Event {
     /// out of the way of words.
     #[inline(never)]
     fn read_break(at: Time, value: &[u8]) -> Result<Event, RowFault>
-        ensures { (time : List ℕ) → IsDecimal 15 time at →
+        ensures { (time : List ℕ) → IsDecimal 18 time at →
             Tells result (time ∷ (break_letter ∷ []) ∷ value.now ∷ []) }
     {
         let length = Span::read(value).ok_or(RowFault::BadValue)?;
@@ -103,7 +103,7 @@ impl Event {
         ensures text { result.bytes ≡ joined_by_commas (row_fields self.now) }
         ensures row { IsRow (row_fields self.now) self.now }
         ensures apart { All (All IsFieldByte) (row_fields self.now) }
-        ensures short { length result.bytes ≤ 27 }
+        ensures short { length result.bytes ≤ 30 }
     {
         let mut text = ArrayString::new();
         push_decimal(&mut text, self.start().value());
@@ -137,7 +137,7 @@ impl Event {
     /// of a break.
     fn end(&self) -> u64
         ensures value { result ≡ end_of self.now }
-        ensures range { result < 2 ^ 50 }
+        ensures range { result < 2 ^ 60 }
     {
         match *self {
             Event::Word { at, .. } => at.value(),

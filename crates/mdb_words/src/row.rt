@@ -6,7 +6,7 @@
 pub enum RowFault {
     /// The record hasn't three fields.
     FieldCount,
-    /// The first field isn't 1 to 15 decimal digits.
+    /// The first field isn't 1 to 18 decimal digits.
     BadTime,
     /// The second field isn't `M`, `S` or `B`.
     BadLine,

@@ -4,10 +4,10 @@ ghost use Rattle.std.specs.Prelude.{◌≡◌, ◌^◌, ◌<◌, ℕ, IfSome, If
 ghost use Rattle.std.specs.Option.{SomeIff};
 ghost use Rattle.mdb_words.specs.Digits.{IsDecimal};
 
-use super::digits::read_decimal;
+use super::digits::{read_decimal, read_time};
 use std::marker::Model;
 
-/// When an event started: microseconds since the recorder's zero, below 10^15.
+/// When an event started: microseconds since the recorder's zero, below 10^18.
 ///
 /// A clause sees it as that number.
 #[derive(Clone, Copy, PartialEq, Eq, PartialOrd, Ord, Debug)]
@@ -22,38 +22,38 @@ impl Model for Time {
 
     ghost view = { λ t. t.micros };
 
-    ghost invariant = { λ t. t.micros < 10 ^ 15 };
+    ghost invariant = { λ t. t.micros < 10 ^ 18 };
 
     ghost inverse = { λ n. record { micros = n } };
 }
 
 impl Time {
-    /// The time of this many microseconds. `None` unless they are below 10^15.
+    /// The time of this many microseconds. `None` unless they are below 10^18.
     pub fn new(micros: u64) -> Option<Time>
-        ensures { SomeIff result (micros < 10 ^ 15) micros }
+        ensures { SomeIff result (micros < 10 ^ 18) micros }
     {
-        if micros < 1_000_000_000_000_000 {
+        if micros < 1_000_000_000_000_000_000 {
             Some(Time { micros })
         } else {
             None
         }
     }
 
-    /// Reads a field of 1 to 15 ASCII digits, with leading zeros allowed. `None` for any other
+    /// Reads a field of 1 to 18 ASCII digits, with leading zeros allowed. `None` for any other
     /// field (this profile).
     #[inline(always)]
     pub fn read(field: &[u8]) -> Option<Time>
-        ensures some { IfSome result (IsDecimal 15 field.now) }
-        ensures none { IfNone result ((n : ℕ) → IsDecimal 15 field.now n → ⊥) }
+        ensures some { IfSome result (IsDecimal 18 field.now) }
+        ensures none { IfNone result ((n : ℕ) → IsDecimal 18 field.now n → ⊥) }
     {
-        let micros = read_decimal(field, 15)?;
+        let micros = read_time(field)?;
         Some(Time { micros })
     }
 
     /// The microseconds.
     pub fn value(self) -> u64
         ensures value { result ≡ self }
-        ensures range { self < 10 ^ 15 }
+        ensures range { self < 10 ^ 18 }
     {
         self.micros
     }

@@ -25,7 +25,7 @@ use Rattle.mdbcheck_run.specs.Program.{SaysSurveyed, show_status_of, status_of, 
 use Rattle.mdb_verdict.specs.Answers.{Answers, Leaves}
 use Rattle.mdb_show.specs.Show.{IsShowingIn, ShowsIn, lines_in}
 use Rattle.mdb_survey.specs.Survey.{IsSurveyedWhole, IsSurveying, SurveysIn, survey_lines_in}
-use Rattle.mdb_stretches.specs.declared.summary.Summary.{Summary}
+use Rattle.mdb_surveyor.specs.declared.summary.Summary.{Summary}
 use Rattle.mdb_verdict.specs.Forms.{answer_text}
 use Rattle.mdb_verdict.specs.Verdict.{IsAnswer, IsNoYes}
 use Rattle.mdbcheck_run.specs.declared.task.Task.{Task}
@@ -66,6 +66,24 @@ says_answered IsAnswer text broken which contents old new (Ok (Yes report)) is l
     search arith
 says_answered IsAnswer text broken which contents old new (Ok (No offence)) is leaves =
     search arith
+
+-- What is said of each answer that it may be is said by the status too.
+pub says_likewise : (Is Holds : Result Outcome RunFault → Type 0) {text : Outcome → List ℕ}
+    {before after : Option (List ℕ)} {status : ℕ}
+    → ((outcome : Outcome) → Is (Ok outcome) → Holds (Ok outcome))
+    → SaysAnswered Is text before after status → SaysAnswered Holds text before after status
+says_likewise Is Holds law says = record {
+  possible = λ e. let it = says.possible e in (it.0, law (Yes it.0) it.1, it.2);
+  impossible = λ e. let it = says.impossible e in (it.0, law (No it.0) it.1, it.2);
+  unanswered = λ e. elim (says.unanswered e) [
+    | inl same ↦ inl same
+    | inr cut ↦ inr (record {
+      outcome = cut.outcome;
+      is = law cut.outcome cut.is;
+      taken = cut.taken;
+    })
+  ];
+}
 
 -- the same of an explanation
 pub says_explained : (scope : Scope) (goal : Goal) {W : Type 0} (contents : W → Option (List ℕ))

@@ -21,7 +21,8 @@ use Rattle.mdb_follow.specs.declared.offence.Offence.{Offence}
 use Rattle.mdb_text.specs.Text.{line}
 use Rattle.mdb_text.specs.declared.outcome.Outcome.{Outcome}
 use Rattle.mdb_text.specs.declared.outcome.Outcome.TheVariants.{Yes, No}
-use Rattle.mdb_unjudged.specs.Verdict.{IsJudgedNo}
+use Rattle.mdb_check.specs.declared.checking.Checked.{Checked}
+use Rattle.mdb_check.specs.Verdict.{IsJudgedNo}
 use Rattle.mdb_verdict.specs.declared.fault.RunFault.{RunFault}
 use Rattle.mdb_writing.specs.Written.{HasTaken}
 use Rattle.mdbcheck_run.specs.declared.aside.Remedy.{Remedy}
@@ -158,8 +159,10 @@ IsAside (Check scope readers form) text status aside =
 IsAside task text status aside = aside ≡ None
 
 -- The rest serves private functions: the line on an answer of `check`.
-abbrev pub aside_of : Beginning → Result Outcome RunFault → Option ReaderUnit → Option ℕ
-    → Option (List ℕ)
-aside_of begins (Ok (No offence)) reader spared = aside_line begins offence reader spared
-aside_of begins (Ok (Yes report)) reader spared = None
-aside_of begins (Err fault) reader spared = None
+abbrev pub aside_on : Beginning → Outcome → Option ReaderUnit → Option ℕ → Option (List ℕ)
+aside_on begins (No offence) reader spared = aside_line begins offence reader spared
+aside_on begins (Yes report) reader spared = None
+
+abbrev pub aside_of : Beginning → Result Checked RunFault → Option (List ℕ)
+aside_of begins (Ok checked) = aside_on begins checked.outcome checked.unjudged checked.spared
+aside_of begins (Err fault) = None

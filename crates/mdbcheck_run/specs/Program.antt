@@ -1,5 +1,5 @@
 -- What the program's exit status says of a task.
-use Rattle.std.specs.Prelude.{◌≡◌, ◌≢◌, ◌⊎◌, ◌<◌, ◌==◌, ℕ, List, if◌then◌else◌}
+use Rattle.std.specs.Prelude.{◌≡◌, ◌≢◌, ◌⊎◌, ◌<◌, ◌==◌, ⊤, ℕ, List, if◌then◌else◌}
 use Rattle.std.specs.Prelude.{Option, Some, None, Result, Ok, Err, IfSome, length}
 use Rattle.std.specs.Io.KnownBytes.{Appends}
 use Rattle.csv.specs.Reading.{default_config, records, strip_bom}
@@ -14,13 +14,14 @@ use Rattle.mdb_explain.specs.Explain.{IsCutExplanation, IsExplainedIn}
 use Rattle.mdb_explain.specs.Replay.{IsReplayAnswer}
 use Rattle.mdb_show.specs.Show.{IsCutShortIn, IsShownToFaultIn, IsShownWholeIn, lines_in}
 use Rattle.mdb_survey.specs.Survey.{IsCutShort, IsSurveyedWhole, survey_lines_in}
-use Rattle.mdb_stretches.specs.declared.summary.Summary.{Summary}
+use Rattle.mdb_surveyor.specs.declared.summary.Summary.{Summary}
 use Rattle.mdb_text.specs.Text.{report_text}
 use Rattle.mdb_text.specs.declared.form.Form.{Form}
 use Rattle.mdb_text.specs.declared.outcome.Outcome.{Outcome}
 use Rattle.mdb_text.specs.declared.outcome.Outcome.TheVariants.{Yes, No}
 use Rattle.mdb_verdict.specs.Answers.{IsCutIn}
 use Rattle.mdb_verdict.specs.Forms.{answer_text}
+use Rattle.mdb_verdict.specs.Headline.{Headline}
 use Rattle.mdb_verdict.specs.Verdict.{IsAnswer, IsImpossible, IsPossible}
 use Rattle.mdb_verdict.specs.declared.fault.RunFault.{RunFault}
 use Rattle.mdb_verdict.specs.declared.verdict.TheConstants.{BYTES_MAX}
@@ -38,6 +39,11 @@ pub record SaysAnswered {Fault : Type 0} (IsAnswer : Result Outcome Fault → Ty
   pub impossible : status ≡ 1 → (offence : Offence) × IsAnswer (Ok (No offence))
       × Appends before after (text (No offence))
   pub unanswered : status ≡ 2 → (after ≡ before) ⊎ IsCutIn IsAnswer text before after
+
+-- the headline of the records of a text says this of an answer
+abbrev pub HasHeadline : Scope → List (List (List ℕ)) → Result Outcome RunFault → Type 0
+HasHeadline scope records (Ok outcome) = Headline scope ROWS_MAX records outcome
+HasHeadline scope records (Err fault) = ⊤
 
 -- The same of `survey`. At 0 and at 1 all records are rows, and the lines of their survey were
 -- written: at 0 it has no fault, and at 1 one or more. At 2 a front of a text was written that the

@@ -9,10 +9,11 @@ ghost use Rattle.mdbcheck_run.specs.Aside.{HasHeard, aside_of, beyond_text, spar
 
 use super::complaint::tell;
 use mdb_bus::{Beginning, Blame, Profile, Rule};
+use mdb_check::Checked;
 use mdb_follow::Offence;
 use mdb_msgs::ReaderUnit;
 use mdb_text::Outcome;
-use mdb_unjudged::Judged;
+use mdb_verdict::RunFault;
 use mdb_writing::Page;
 use std::io::Write;
 
@@ -20,14 +21,22 @@ use std::io::Write;
 /// isn't judged, the line names the reader. Else, if the extended profile's times spare the row, it
 /// says how long the row took. Else, if the row isn't followed, it says why, and which words to
 /// type. On any other answer nothing is written.
-pub(crate) fn tell_aside<E: Write>(begins: &Beginning, judged: &Judged, err: &mut E)
-    ensures { HasHeard E.contents err.old err.new
-        (aside_of begins.now judged.now.answer judged.now.unjudged judged.now.spared) }
+pub(crate) fn tell_aside<E: Write>(
+    begins: &Beginning,
+    checked: &Result<Checked, RunFault>,
+    err: &mut E,
+)
+    ensures { HasHeard E.contents err.old err.new (aside_of begins.now checked.now) }
 {
-    let Ok(Outcome::No(offence)) = &judged.answer else {
+    let Ok(Checked {
+        outcome: Outcome::No(offence),
+        unjudged,
+        spared,
+    }) = checked
+    else {
         return;
     };
-    match (judged.unjudged, judged.spared) {
+    match (*unjudged, *spared) {
         (Some(unit), _) => tell(err, text_of_unjudged(unit)),
         (None, Some(micros)) => tell_spared(*offence, micros, err),
         (None, None) => {

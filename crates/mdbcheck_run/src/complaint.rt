@@ -4,6 +4,8 @@ ghost use Rattle.std.specs.Prelude.{◌≡◌};
 ghost use Rattle.mdb_writing.specs.Written.{HasTaken};
 ghost use Rattle.mdbcheck_run.specs.Complaint.{IsToldCause, cause_line, excess_line};
 
+use arrayvec::ArrayVec;
+use mdb_import_shared::{FRONT, Kind, kind_of};
 use mdb_records::{ReadCause, Record, Records};
 use mdb_verdict::RunFault;
 use mdb_words::RowFault;
@@ -64,7 +66,28 @@ fn complain_of_row<E: Write>(
         found.add_field(row.get(place).unwrap_or(&[]));
     }
     let form = form_of(fault, wanted, row);
-    writeln!(err, "mdbcheck: {fault}: wanted {form}, found \"{found}\"")
+    write!(err, "mdbcheck: {fault}: wanted {form}, found \"{found}\"")?;
+    match kind_in(fault, row) {
+        Some(kind) => writeln!(err, "; {kind}"),
+        None => err.write_all(b"\n"),
+    }
+}
+
+/// What `mdbimport` reads, if the first row is refused and looks like that.
+fn kind_in(fault: RunFault, row: &Record<'_>) -> Option<Kind> {
+    let RunFault::BadRow { row: 1, .. } = fault else {
+        return None;
+    };
+    let mut front: ArrayVec<u8, FRONT> = ArrayVec::new();
+    for place in 0..row.len() {
+        if place > 0 {
+            let _ = front.try_push(b',');
+        }
+        let field = row.get(place).unwrap_or(&[]);
+        let room = FRONT.saturating_sub(front.len()).min(field.len());
+        let _ = front.try_extend_from_slice(&field[..room]);
+    }
+    kind_of(front.as_slice())
 }
 
 /// The form that is wanted where a record is refused: that of a row, or of a mark, where it was

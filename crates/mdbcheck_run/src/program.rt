@@ -5,7 +5,7 @@ ghost use Rattle.mdbcheck_run.specs.Aside.{HasToldAside, IsAside, IsAsideOfCheck
 ghost use Rattle.mdbcheck_run.specs.Complaint.{IsToldCause, excess_line};
 ghost use Rattle.mdb_explain.specs.Replay.{IsReplayAnswer};
 ghost use Rattle.mdb_verdict.specs.Verdict.{IsAnswer};
-ghost use Rattle.mdbcheck_run.specs.Program.{Says, SaysAnswered, SaysExplained, SaysOf, SaysShown};
+ghost use Rattle.mdbcheck_run.specs.Program.{HasHeadline, Says, SaysAnswered, SaysExplained, SaysOf, SaysShown};
 ghost use Rattle.mdbcheck_run.specs.Program.{SaysSurveyed, show_status_of, status_of};
 ghost use Rattle.mdbcheck_run.specs.Program.{survey_status_of};
 ghost use Rattle.mdb_verdict.specs.Forms.{answer_text};
@@ -22,15 +22,16 @@ use super::complaint::{Wanted, complain};
 use super::task::Task;
 use command_words::write_manual;
 use mdb_bus::{Levels, LinkFault, Profile, Scope};
+use mdb_check::{answer_of, check_records};
 use mdb_explain::{MarkedFault, explain_records, replay_records};
 use mdb_follow::{Goal, ROWS_MAX};
 use mdb_msgs::DeviceSet;
 use mdb_records::Records;
 use mdb_show::show_records;
-use mdb_stretches::Summary;
 use mdb_survey::survey_records;
+use mdb_surveyor::Summary;
 use mdb_text::{Form, Outcome};
-use mdb_unjudged::judge_records;
+use mdb_verdict::laws::verdicts_say_the_headline;
 use mdb_verdict::{BYTES_MAX, RunFault, records_of};
 use mdb_writing::WriteFailed;
 use std::alloc::Global;
@@ -166,7 +167,8 @@ fn print_manual<W: Write, E: Write>(part: Option<&str>, out: &mut W, err: &mut E
 }
 
 /// Gives the verdict on the text that the reader has left, where these levels of the readers are
-/// known from elsewhere.
+/// known from elsewhere. From the bytes that are read to those that are written, it says what the
+/// headline says.
 fn run_check<R: Read + Drop, W: Write, E: Write>(
     alloc: Global,
     scope: &Scope,
@@ -177,16 +179,20 @@ fn run_check<R: Read + Drop, W: Write, E: Write>(
     err: &mut E,
 ) -> u8
     ensures status { result < 3 }
+    ensures headline { IfSome (R.remaining reader) (λ text.
+        SaysAnswered (HasHeadline scope.now (records default_config (strip_bom text)))
+        (answer_text form scope.now) (W.contents out.old) (W.contents out.new) result) }
     ensures says { SaysOf (λ all. SaysAnswered (IsAnswer scope.now ROWS_MAX all)
         (answer_text form scope.now) (W.contents out.old) (W.contents out.new))
         (R.remaining reader) result }
     ensures silent { result < 2 → HasToldAside E.contents err.old err.new
         (IsAsideOfCheck scope.now readers (R.remaining reader) result) }
 {
+    verdicts_say_the_headline();
     let mut records = input_of(alloc, reader);
-    let judged = judge_records(alloc, form, scope, readers, &mut records, out, ROWS_MAX);
-    tell_aside(&scope.begins, &judged, err);
-    finish_check(judged.answer, Wanted::Row, &records, err)
+    let checked = check_records(alloc, form, scope, readers, &mut records, out, ROWS_MAX);
+    tell_aside(&scope.begins, &checked, err);
+    finish_check(answer_of(checked), Wanted::Row, &records, err)
 }
 
 /// Surveys the text that the reader has left.

@@ -3,10 +3,9 @@
 ghost use Rattle.std.specs.Prelude.{◌<◌, IfSome};
 
 use super::refusal::{Refusal, SetupFault};
-use mdb_blocks::{Block, BlockFault, unseal};
 use mdb_bus::{Levels, Profile};
 use mdb_msgs::{Device, DeviceSet, ReaderUnit, Setups, read_command};
-use mdb_words::Time;
+use mdb_words::{Block, BlockFault, unseal, whole_number};
 use std::alloc::Global;
 
 /// What the values of `--setup` give.
@@ -186,7 +185,7 @@ fn after_rows(text: &str) -> Option<&str> {
 
 /// Whether a word is the number of a row.
 fn is_row(word: &str) -> bool {
-    Time::read(word.as_bytes()).is_some()
+    whole_number(word.as_bytes()).is_some()
 }
 
 /// The device and the bytes that these words name, as `show` writes them.

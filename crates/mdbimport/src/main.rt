@@ -2,7 +2,7 @@
 //! rows to standard output in the form that `mdbcheck` reads.
 #![tactic(auto)]
 
-use mdb_exports::write_refusal;
+use mdb_import_shared::write_refusal;
 use mdb_progress::Progress;
 use std::io::BufReader;
 use std::process::ExitCode;

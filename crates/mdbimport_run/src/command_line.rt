@@ -33,6 +33,12 @@ pub(crate) const TIME_OF: &str = "time-of";
 /// The option that takes levels upside down.
 pub(crate) const INVERT: &str = "invert";
 
+/// The option that takes the levels of one line upside down.
+pub(crate) const INVERT_LINE: &str = "invert-line";
+
+/// The option that takes words as decimal numbers.
+pub(crate) const DECIMAL: &str = "decimal";
+
 /// The option that leaves damaged words out.
 pub(crate) const SKIP_DAMAGED: &str = "skip-damaged";
 
@@ -47,11 +53,11 @@ const PROGRAM: Program<'static> = Program {
         CommandRow {
             name: "rows",
             options: &[UNIT, CONTROLLER, PERIPHERAL, FROM, UNTIL],
-            flags: &[],
+            flags: &[DECIMAL],
             words: &[],
             further: &[],
-            usage: "rows [--unit s|ms|us|ns] [--controller NAME] [--peripheral NAME] [--from T] \
-[--until T] < EXPORT",
+            usage: "rows [--unit s|ms|us|ns] [--controller N] [--peripheral N] [--decimal] \
+[--from T] [--until T]",
             manual: manual::ROWS,
         },
         CommandRow {
@@ -75,32 +81,32 @@ const PROGRAM: Program<'static> = Program {
         },
         CommandRow {
             name: "edges",
-            options: &[UNIT, CONTROLLER, PERIPHERAL, FROM, UNTIL],
+            options: &[UNIT, CONTROLLER, PERIPHERAL, INVERT_LINE, FROM, UNTIL],
             flags: &[INVERT, SKIP_DAMAGED],
             words: &[],
             further: &[],
-            usage: "edges [--unit U] [--controller N] [--peripheral N] [--invert] [--skip-damaged] \
-[--from T] [--until T]",
+            usage: "edges [--unit U] [--controller N] [--peripheral N] [--invert[-line N]] \
+[--skip-damaged] [--from|--until T]",
             manual: manual::EDGES,
         },
         CommandRow {
             name: "vcd",
-            options: &[CONTROLLER, PERIPHERAL, FROM, UNTIL],
+            options: &[CONTROLLER, PERIPHERAL, INVERT_LINE, FROM, UNTIL],
             flags: &[INVERT, SKIP_DAMAGED],
             words: &[],
             further: &[],
-            usage: "vcd [--controller NAME] [--peripheral NAME] [--invert] [--skip-damaged] \
+            usage: "vcd [--controller N] [--peripheral N] [--invert[-line N]] [--skip-damaged] \
 [--from T] [--until T] < DUMP",
             manual: manual::VCD,
         },
         CommandRow {
             name: "messages",
             options: &[UNIT, CONTROLLER, PERIPHERAL, TIME_OF, FROM, UNTIL],
-            flags: &[],
+            flags: &[DECIMAL],
             words: &[],
             further: &[],
-            usage: "messages [--unit U] [--controller N] [--peripheral N] [--time-of first|last] \
-[--from T] [--until T]",
+            usage: "messages [--unit U] [--controller N] [--peripheral N] [--time-of last] \
+[--decimal] [--from|--until T]",
             manual: manual::MESSAGES,
         },
         CommandRow {

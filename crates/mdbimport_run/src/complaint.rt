@@ -1,26 +1,23 @@
 //! What standard error is told of an import that is refused.
 
 use super::hint::hint_of;
-use super::notes::say;
-use mdb_exports::RecordFault;
-use mdb_import_levels::{EdgesFault, EdgesOptions};
+use mdb_import_levels::{EdgesFault, EdgesOptions, FormFault};
 use mdb_import_records::{ImportFault, SaleaeFault};
+use mdb_import_shared::{Kind, RecordFault};
 use mdb_records::{ReadCause, Record, Records};
+use mdb_words::Time;
 use mdb_writing::Excerpt;
 use std::fmt::Display;
 use std::io::{Read, Write};
 
-/// So many microseconds have 15 digits or fewer.
-const TIMES: u64 = 1_000_000_000_000_000;
-
-/// Writes one line on a fault of rows: at a record that is refused what was wanted and what stands
-/// there, where the reading failed its cause. The records are those that the fault was met with.
-/// Where the line is refused, nothing more is tried.
+/// Writes a line on a fault of rows, but for its end: at a record that is refused what was wanted
+/// and what stands there, where the reading failed its cause. The records are those that the fault
+/// was met with. It answers whether no row stands before that record.
 pub(crate) fn complain<R: Read + Drop, E: Write>(
     fault: ImportFault,
     records: &Records<R>,
     err: &mut E,
-) {
+) -> bool {
     match fault {
         ImportFault::BadRecord {
             number,
@@ -29,14 +26,16 @@ pub(crate) fn complain<R: Read + Drop, E: Write>(
             fault,
         } => {
             let _ = complain_of_record(number, own, last, fault, &records.row(), err);
+            return last.is_none();
         }
-        ImportFault::Read => say(text_of_cause(records.cause()), err),
+        ImportFault::Read => complain_of(&text_of_cause(records.cause()), None, "", err),
         ImportFault::Write | ImportFault::Memory => complain_of(&fault, None, "", err),
     }
+    false
 }
 
-/// Writes the line on a record that is refused: its number, its own time, if it tells one, or that
-/// of the last row before it, why it is refused, and where the import can go on.
+/// Writes the line on a record that is refused, but for its end: its number, its own time, if it
+/// tells one, or that of the last row before it, why it is refused, and where the import can go on.
 fn complain_of_record<E: Write>(
     number: u64,
     own: Option<u64>,
@@ -51,18 +50,24 @@ fn complain_of_record<E: Write>(
         (None, Some(at)) => write!(err, " after {at}")?,
         (None, None) => {}
     }
-    write!(err, ": {fault}; found \"{}\"", found_in(fields))?;
+    write!(err, ": {fault}")?;
+    if fault != RecordFault::CommentsAlone {
+        write!(err, "; found \"{}\"", found_in(fields))?;
+    }
+    if fault == RecordFault::DecimalWord {
+        err.write_all(b"; are the words decimal (--decimal)?")?;
+    }
     if let Some(first) = first_after(own, last) {
         write!(err, "; go on with --from {first}")?;
     }
-    err.write_all(b"\n")
+    Ok(())
 }
 
 /// The first microsecond after a record that is refused, and after all rows before it, where it
-/// tells its time and one of 15 digits comes after it.
+/// tells its time and a time comes after it.
 fn first_after(own: Option<u64>, last: Option<u64>) -> Option<u64> {
     let first = own?.max(last.unwrap_or(0)).saturating_add(1);
-    if first < TIMES { Some(first) } else { None }
+    Some(Time::new(first)?.value())
 }
 
 /// Why the input can't be read.
@@ -74,31 +79,36 @@ fn text_of_cause(cause: ReadCause) -> &'static str {
     }
 }
 
-/// Writes one line on a fault of an analyser's table, as [`complain`] does.
+/// Writes a line on a fault of an analyser's table, as [`complain`] does. It answers whether the
+/// header is refused.
 pub(crate) fn complain_of_table<R: Read + Drop, E: Write>(
     fault: SaleaeFault,
     records: &Records<R>,
     err: &mut E,
-) {
+) -> bool {
     match fault {
         SaleaeFault::BadHeader { .. }
         | SaleaeFault::BadRecord { .. }
         | SaleaeFault::BadRow { .. } => complain_of(&fault, Some(&records.row()), "", err),
-        SaleaeFault::Read => say(text_of_cause(records.cause()), err),
-        SaleaeFault::NoHeader | SaleaeFault::Write | SaleaeFault::Memory => {
+        SaleaeFault::Read => complain_of(&text_of_cause(records.cause()), None, "", err),
+        SaleaeFault::NoHeader { .. } | SaleaeFault::Write | SaleaeFault::Memory => {
             complain_of(&fault, None, "", err)
         }
     }
+    matches!(
+        fault,
+        SaleaeFault::BadHeader { .. } | SaleaeFault::NoHeader { .. }
+    )
 }
 
-/// Writes one line on a fault of a table of edges, as [`complain`] does. At a record that is
-/// refused by itself it adds the likely cause.
+/// Writes a line on a fault of a table of edges, as [`complain`] does. At a record that is refused
+/// by itself it adds the likely cause. It answers whether the header is refused.
 pub(crate) fn complain_of_edges<R: Read + Drop, E: Write>(
     options: &EdgesOptions,
     fault: EdgesFault,
     records: &Records<R>,
     err: &mut E,
-) {
+) -> bool {
     let row = &records.row();
     match fault {
         EdgesFault::Form { fault: form, .. } => {
@@ -107,21 +117,35 @@ pub(crate) fn complain_of_edges<R: Read + Drop, E: Write>(
         EdgesFault::Order { .. } | EdgesFault::Level { .. } => {
             complain_of(&fault, Some(row), "", err);
         }
-        EdgesFault::Read => say(text_of_cause(records.cause()), err),
-        EdgesFault::Line { .. } | EdgesFault::Write | EdgesFault::Memory => {
+        EdgesFault::Read => complain_of(&text_of_cause(records.cause()), None, "", err),
+        EdgesFault::Line(_) | EdgesFault::Write | EdgesFault::Memory => {
             complain_of(&fault, None, "", err);
         }
     }
+    matches!(
+        fault,
+        EdgesFault::Form {
+            fault: FormFault::NoHeader | FormFault::Columns,
+            ..
+        }
+    )
 }
 
-/// Writes one line on a fault that says all itself, and answers that this is no import.
-pub(crate) fn say_fault<D: Display, E: Write>(fault: &D, err: &mut E) -> bool {
+/// Ends a line: with what another command reads, if it is that.
+pub(crate) fn end_line<E: Write>(kind: Option<Kind>, err: &mut E) {
+    let _ = match kind {
+        Some(kind) => writeln!(err, "; {kind}"),
+        None => err.write_all(b"\n"),
+    };
+}
+
+/// Writes a line on a fault that says all itself, but for its end.
+pub(crate) fn say_fault<D: Display, E: Write>(fault: &D, err: &mut E) {
     complain_of(fault, None, "", err);
-    false
 }
 
-/// Writes one line: the fault, the fields of the record that is refused for it, and a hint. Without
-/// a record, it leaves out the fields. If the line is refused, nothing more is tried.
+/// Writes a line, but for its end: the fault, the fields of the record that is refused for it, and
+/// a hint. Without a record, it leaves out the fields.
 fn complain_of<D: Display, E: Write>(
     fault: &D,
     record: Option<&Record<'_>>,
@@ -130,13 +154,13 @@ fn complain_of<D: Display, E: Write>(
 ) {
     let _ = match record {
         Some(fields) if fields.len() > 0 => {
-            writeln!(
+            write!(
                 err,
                 "mdbimport: {fault}; found \"{}\"{hint}",
                 found_in(fields)
             )
         }
-        _ => writeln!(err, "mdbimport: {fault}{hint}"),
+        _ => write!(err, "mdbimport: {fault}{hint}"),
     };
 }
 

@@ -1,7 +1,7 @@
 //! What a header or record of a table of edges is likely to be refused for.
 
-use mdb_exports::bare;
 use mdb_import_levels::{EdgesOptions, FormFault};
+use mdb_import_shared::bare;
 use mdb_records::Record;
 
 /// How many fields the records of a table have at least: a time and two levels.

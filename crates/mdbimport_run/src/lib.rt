@@ -6,6 +6,7 @@
 
 mod command_line;
 mod complaint;
+mod front;
 mod hint;
 mod manual;
 mod notes;

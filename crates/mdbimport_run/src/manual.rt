@@ -23,9 +23,9 @@ DESCRIPTION
     A pulse shorter than half a bit is passed over, and reported. The decoder
     of Saleae never shows one.
 
-    Options stand after the command. Each may stand once, but for --swap,
-    --invert and --skip-damaged. --unit=ms, in one word, means the same as
-    two words.
+    Options stand after the command. Each may stand once, but for --decimal,
+    --swap, --invert and --skip-damaged. --unit=ms, in one word, means the
+    same as two words.
 
     If standard error is a terminal, a run that takes longer than a second
     shows there how many rows it has read.
@@ -36,22 +36,33 @@ DESCRIPTION
 pub const ROWS: &str = "\
 ROWS
         mdbimport rows [--unit s|ms|us|ns] [--controller NAME]
-            [--peripheral NAME] [--from T] [--until T] < EXPORT > ROWS
+            [--peripheral NAME] [--decimal] [--from T] [--until T]
+            < EXPORT > ROWS
 
-    Imports rows in other forms: with a header, semicolons or tabs, in
-    seconds, milliseconds or nanoseconds, with a decimal comma, times of day,
-    0x, lost zeros, other names for the lines, in UTF-16. If the time of a
-    refused record can be read, it also names the time to go on with --from.
+    Imports rows in other forms: with comments and a header, semicolons or
+    tabs, in seconds, milliseconds or nanoseconds, with a decimal comma, times
+    of day, dates, 0x, lost zeros, a * for the mode bit, other names for the
+    lines, in UTF-16. If the time of a refused record can be read, it also
+    names the time to go on with --from.
+
+    Times of day become microseconds since midnight. One that is more than 12
+    hours before the time before it is of the next day. Dates with a time
+    become microseconds since 1970-01-01T00:00:00Z: 2026-11-30 09:14:22.447,
+    30.11.2026 09:14:22,447, 2026-11-30T09:14:22Z, 2026-11-30T10:14:22+01:00.
+    Without an offset they are taken as UTC. All times of an export have the
+    form of its first.
 
     --unit s|ms|us|ns
-                     The unit of the times. Only times of day need none.
+                     The unit of the times. Times of day and dates need none.
     --controller NAME, --peripheral NAME
                      What the export calls the two lines, besides M and S.
+    --decimal        The words are decimal numbers, 0 to 511. Without this
+                     option they are hexadecimal.
     --from T, --until T
                      A part of the export. T is a time in the microseconds of
-                     the rows, and both ends belong to the part. A bad record
-                     whose own time is outside the part is passed over, and
-                     counted.
+                     the rows, a time of day, or a date with one, and both
+                     ends belong to the part. A bad record whose own time is
+                     outside the part is passed over, and counted.
 
 ";
 
@@ -99,8 +110,8 @@ SALEAE
 pub const EDGES: &str = "\
 EDGES
         mdbimport edges [--unit s|ms|us|ns] [--controller NAME]
-            [--peripheral NAME] [--invert] [--skip-damaged] [--from T]
-            [--until T] < CSV > ROWS
+            [--peripheral NAME] [--invert] [--invert-line NAME]
+            [--skip-damaged] [--from T] [--until T] < CSV > ROWS
 
     Decodes a table of the times at which each channel changed. edges.md has
     its form.
@@ -110,6 +121,11 @@ EDGES
     --controller NAME, --peripheral NAME
                      What the table calls the two channels.
     --invert         The levels of the table are upside down.
+    --invert-line NAME
+                     Those of one line alone are: of M, of S, or of the one
+                     with this name. Without both options, one line alone
+                     that is low at rest, and gives words upside down and no
+                     damaged ones, is read upside down, and that is reported.
     --skip-damaged   As with sigrok.
     --from T, --until T
                      A part of the table. T is a time in the microseconds of
@@ -121,7 +137,8 @@ EDGES
 pub const VCD: &str = "\
 VCD
         mdbimport vcd [--controller NAME] [--peripheral NAME] [--invert]
-            [--skip-damaged] [--from T] [--until T] < DUMP > ROWS
+            [--invert-line NAME] [--skip-damaged] [--from T] [--until T]
+            < DUMP > ROWS
 
     Decodes a value change dump, which most logic analysers and sigrok-cli
     write. vcd.md has its form.
@@ -129,6 +146,8 @@ VCD
     --controller NAME, --peripheral NAME
                      The names or the paths of the two lines' variables.
     --invert         The levels of the dump are upside down.
+    --invert-line NAME
+                     As with edges.
     --skip-damaged   As with sigrok.
     --from T, --until T
                      A part of the dump. T is a time in the microseconds of
@@ -140,25 +159,26 @@ VCD
 pub const MESSAGES: &str = "\
 MESSAGES
         mdbimport messages [--unit s|ms|us|ns] [--controller NAME]
-            [--peripheral NAME] [--time-of first|last] [--from T]
+            [--peripheral NAME] [--time-of first|last] [--decimal] [--from T]
             [--until T] < LOG > ROWS
 
     Imports the text log of a sniffer, with one message a line: a time, who
-    spoke, and the words, as bytes of two hexadecimal digits or words of
-    three. messages.md has its form. The times of the words in a message are
-    made up, so rules about times say nothing about such a recording.
+    spoke, and the words, as bytes of two hexadecimal digits, perhaps with a *
+    for the mode bit, or words of three. messages.md has its form. The times
+    of the words in a message are made up, so rules about times say nothing
+    about such a recording. Times of day and dates are read as with rows.
 
     --unit s|ms|us|ns
-                     The unit of the times. Only times of day need none.
+                     The unit of the times. Times of day and dates need none.
     --controller NAME, --peripheral NAME
                      What the log calls the two sides, besides M and S. A
                      name may have its arrow: --controller 'VMC ->'.
     --time-of first|last
                      Whether a line has the time of the message's first word
                      or of its last: of its first if this isn't given.
+    --decimal        As with rows.
     --from T, --until T
-                     A part of the log. T is a time in the microseconds of
-                     the rows, and both ends belong to the part.
+                     A part of the log, as with rows.
 
 ";
 
@@ -178,11 +198,13 @@ EXIT STATUS
                      are on standard output, or the manual is. Lines on
                      standard error may say what was passed over, and what is
                      likely to be wrong with the recording.
-    2                Not all rows are there. A line on standard error says
-                     why. If the export or the command line was refused, the
-                     last line on standard output is \"mdbimport refused this
-                     export\". It is no row, and mdbcheck refuses it. Only
-                     --help and --version write nothing there.
+    2                Not all rows are there, or there is none. A line on
+                     standard error says why. If the export, the part or the
+                     command line was refused, the last line on standard
+                     output is \"mdbimport refused this export\". It is no
+                     row, and mdbcheck refuses it. Only --help and --version
+                     write nothing there. If another command reads what was
+                     given, the line names it.
 
 EXAMPLES
     Check a trace of sigrok-cli, with no file in between:

@@ -1,7 +1,7 @@
 //! What standard error is told of an import that has its rows.
 
-use mdb_exports::{Imported, Place, Places};
 use mdb_import_records::MessagesImported;
+use mdb_import_shared::{Imported, Place, Places};
 use mdb_words::Line;
 use std::io::Write;
 
@@ -45,16 +45,24 @@ impl<'a> Notes<'a> {
         }
     }
 
-    /// Writes a line for each note: a header that was passed over, rows, pulses and damaged words
-    /// that were left out, and the likely cause if no word is marked or a line has no word.
-    pub(crate) fn tell<E: Write>(self, err: &mut E) {
+    /// Writes a line for each note: a header that was passed over, midnights, rows, pulses and
+    /// damaged words that were left out, and the likely cause if no word is marked or a line has no
+    /// word. Where no row was written, the last line says so in place of that cause.
+    ///
+    /// It answers whether a row was written.
+    pub(crate) fn tell<E: Write>(self, err: &mut E) -> bool {
         let Imported {
+            rows,
+            ends,
+            midnights,
             before,
             after,
             passed,
             ..
         } = *self.imported;
+        say(text_on_turned(self.imported.turned), err);
         say(self.header, err);
+        let _ = tell_midnights(midnights, err);
         if before > 0 || after > 0 {
             let _ = writeln!(
                 err,
@@ -73,8 +81,16 @@ impl<'a> Notes<'a> {
         }
         let _ = tell_pulses(&self.imported.pulses, err);
         let _ = tell_damaged(&self.imported.damaged, err);
+        if let Some(low) = self.imported.low {
+            let _ = writeln!(err, "mdbimport: {low}");
+        }
+        if rows == 0 {
+            let _ = tell_no_row(ends, err);
+            return false;
+        }
         say(self.text_on_lines(), err);
         say(self.text_on_marks(), err);
+        true
     }
 
     /// The note on a line without a word.
@@ -100,10 +116,45 @@ impl<'a> Notes<'a> {
     }
 }
 
+/// The note on a line that is read upside down, though no option says so.
+fn text_on_turned(turned: Option<Line>) -> &'static str {
+    match turned {
+        Some(Line::Controller) => "line M is low at rest, and is read upside down",
+        Some(Line::Peripheral) => "line S is low at rest, and is read upside down",
+        None => "",
+    }
+}
+
 /// Writes a line, unless its text is empty.
-pub(crate) fn say<E: Write>(text: &str, err: &mut E) {
+fn say<E: Write>(text: &str, err: &mut E) {
     if !text.is_empty() {
         let _ = writeln!(err, "mdbimport: {text}");
+    }
+}
+
+/// Writes the line on midnights that passed between times of day, if one did.
+fn tell_midnights<E: Write>(midnights: u64, err: &mut E) -> std::io::Result<()> {
+    match midnights {
+        0 => Ok(()),
+        1 => writeln!(
+            err,
+            "mdbimport: midnight passed 1 time: the times after it have 24 hours more"
+        ),
+        _ => writeln!(
+            err,
+            "mdbimport: midnight passed {midnights} times: the times after each have 24 hours more"
+        ),
+    }
+}
+
+/// Writes the line on a part, or a whole export, without a row: these are the ends of all rows.
+fn tell_no_row<E: Write>(ends: Option<(u64, u64)>, err: &mut E) -> std::io::Result<()> {
+    match ends {
+        Some((first, last)) => writeln!(
+            err,
+            "mdbimport: the part has no row: the rows have times from {first} to {last}"
+        ),
+        None => writeln!(err, "mdbimport: there is no row in the export"),
     }
 }
 

@@ -21,8 +21,10 @@ pub(crate) enum ValueFault {
     TimeOf,
     /// That of `--controller` or `--peripheral` is empty, M, S or B, or both have one name.
     Name,
+    /// That of `--invert-line` is neither M nor S, nor the name of a line.
+    Line,
     /// That of `--break` is no length in microseconds, below 1000000000.
     Length,
-    /// That of `--from` or `--until` isn't 1 to 15 digits, a time in microseconds.
+    /// That of `--from` or `--until` is no end of a part.
     Time,
 }

@@ -1,14 +1,13 @@
 //! The lines on a command line that is refused.
 
 use super::command_line::{
-    BREAK, COMMAND, CONTROLLER, FROM, PERIPHERAL, TIME_OF, UNIT, UNTIL, program,
+    BREAK, COMMAND, CONTROLLER, FROM, INVERT_LINE, PERIPHERAL, TIME_OF, UNIT, UNTIL, program,
 };
 use super::refusal::{Refusal, ValueFault};
 use super::task::is_line_name;
 use clap::error::ErrorKind;
 use command_words::{Line, Named, Program, line_on_refused, read, row_of};
-use mdb_exports::write_refusal;
-use mdb_words::Time;
+use mdb_import_shared::{read_end, write_refusal};
 use std::alloc::Global;
 use std::io::Write;
 
@@ -70,6 +69,9 @@ fn line_on_values(
             let reason = "\" isn't microseconds below 1000000000";
             add_value(&mut line, found, BREAK, reason);
         }
+        Refusal::Value(ValueFault::Line) => {
+            add_value(&mut line, found, INVERT_LINE, "\" names no line");
+        }
         Refusal::Value(ValueFault::Name) => add_name(&mut line, found),
         Refusal::Value(ValueFault::Time) => add_time(&mut line, found),
     }
@@ -90,7 +92,17 @@ fn add_value(line: &mut Line, found: &Named<'_>, option: &str, reason: &str) {
 
 /// Adds the first option that stands twice.
 fn add_option(line: &mut Line, kind: ErrorKind, found: &Named<'_>) {
-    for option in [UNIT, TIME_OF, CONTROLLER, PERIPHERAL, BREAK, FROM, UNTIL] {
+    let options = [
+        UNIT,
+        TIME_OF,
+        CONTROLLER,
+        PERIPHERAL,
+        INVERT_LINE,
+        BREAK,
+        FROM,
+        UNTIL,
+    ];
+    for option in options {
         if found.value(option).is_err() {
             line.add(&["--", option, " stands twice"]);
             return;
@@ -113,14 +125,14 @@ fn add_name(line: &mut Line, found: &Named<'_>) {
 /// Adds what is wrong with the times of the part.
 fn add_time(line: &mut Line, found: &Named<'_>) {
     let (option, time) = match value_of(found, FROM) {
-        Some(from) if Time::read(from.as_bytes()).is_none() => (FROM, from),
+        Some(from) if read_end(from.as_bytes()).is_none() => (FROM, from),
         _ => (UNTIL, value_of(found, UNTIL).unwrap_or("")),
     };
     let is_long = !time.is_empty() && time.as_bytes().iter().all(|byte| byte.is_ascii_digit());
     let reason = if is_long {
-        "\" has more than 15 digits"
+        "\" has more than 18 digits"
     } else {
-        "\" isn't whole microseconds"
+        "\" isn't a time or a date"
     };
     add_value(line, found, option, reason);
 }

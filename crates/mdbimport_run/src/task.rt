@@ -1,16 +1,16 @@
 //! The task that the words of a command line name.
 
 use super::command_line::{
-    BREAK, COMMAND, CONTROLLER, FROM, INVERT, PERIPHERAL, SKIP_DAMAGED, SWAP, TIME_OF, UNIT, UNTIL,
-    program,
+    BREAK, COMMAND, CONTROLLER, DECIMAL, FROM, INVERT, INVERT_LINE, PERIPHERAL, SKIP_DAMAGED, SWAP,
+    TIME_OF, UNIT, UNTIL, program,
 };
 use super::refusal::{Refusal, ValueFault};
 use clap::error::ErrorKind;
 use command_words::{Named, manual_asked, read};
-use mdb_exports::Unit;
-use mdb_import_levels::{EdgesOptions, VcdOptions};
+use mdb_import_levels::{EdgesOptions, Inverted, VcdOptions};
 use mdb_import_records::{MessagesOptions, RowsOptions, SaleaeOptions, TimeOf};
-use mdb_sigrok::SigrokOptions;
+use mdb_import_shared::{Unit, read_end};
+use mdb_import_sigrok::SigrokOptions;
 use mdb_words::{Span, Time};
 use std::alloc::Global;
 
@@ -72,6 +72,7 @@ fn rows_options(alloc: Global, found: &Named<'_>) -> Result<RowsOptions, Refusal
         unit,
         controller,
         peripheral,
+        decimal: found.is_used(DECIMAL),
         from,
         until,
     })
@@ -119,7 +120,7 @@ fn edges_options(alloc: Global, found: &Named<'_>) -> Result<EdgesOptions, Refus
         unit,
         controller,
         peripheral,
-        invert: found.is_used(INVERT),
+        inverted: inverted_in(found)?,
         skip_damaged: found.is_used(SKIP_DAMAGED),
         from,
         until,
@@ -137,7 +138,7 @@ fn vcd_options(alloc: Global, found: &Named<'_>) -> Result<VcdOptions, Refusal> 
     Ok(VcdOptions {
         controller,
         peripheral,
-        invert: found.is_used(INVERT),
+        inverted: inverted_in(found)?,
         skip_damaged: found.is_used(SKIP_DAMAGED),
         from,
         until,
@@ -158,6 +159,7 @@ fn messages_options(alloc: Global, found: &Named<'_>) -> Result<MessagesOptions,
         unit,
         controller,
         peripheral,
+        decimal: found.is_used(DECIMAL),
         time_of,
         from,
         until,
@@ -217,6 +219,24 @@ fn common_in(alloc: Global, found: &Named<'_>) -> Result<Common, Refusal> {
     })
 }
 
+/// Which lines are read upside down.
+fn inverted_in(found: &Named<'_>) -> Result<Inverted, Refusal> {
+    let are_both = found.is_used(INVERT);
+    let mut inverted = Inverted {
+        controller: are_both,
+        peripheral: are_both,
+    };
+    match value_of(found, INVERT_LINE)? {
+        None => {}
+        Some("M" | "m") => inverted.controller = true,
+        Some("S" | "s") => inverted.peripheral = true,
+        name if name == value_of(found, CONTROLLER)? => inverted.controller = true,
+        name if name == value_of(found, PERIPHERAL)? => inverted.peripheral = true,
+        Some(_) => return Err(Refusal::Value(ValueFault::Line)),
+    }
+    Ok(inverted)
+}
+
 /// The name of a line that an option tells, if it was used.
 fn name_in<'a>(found: &Named<'a>, option: &str) -> Result<Option<&'a str>, Refusal> {
     match value_of(found, option)? {
@@ -246,7 +266,7 @@ fn time_in(found: &Named<'_>, option: &str) -> Result<Option<u64>, Refusal> {
     let Some(word) = value_of(found, option)? else {
         return Ok(None);
     };
-    match Time::read(word.as_bytes()) {
+    match read_end(word.as_bytes()) {
         Some(time) => Ok(Some(time.value())),
         None => Err(Refusal::Value(ValueFault::Time)),
     }

@@ -15,9 +15,8 @@ use crate::gaps::{in_answer_time, word_row};
 use crate::judged::Judged;
 use crate::phase::Phase;
 use crate::scope::Profile;
-use mdb_blocks::Answer;
 use mdb_msgs::Command;
-use mdb_words::{Event, Line, Time, Word};
+use mdb_words::{Answer, Event, Line, Time, Word};
 
 /// A peripheral's first word in answer to a command.
 pub(crate) fn answer(

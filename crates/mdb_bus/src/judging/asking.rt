@@ -2,7 +2,7 @@
 
 ghost use Rattle.std.specs.Prelude.{◌≡◌, ◌&&◌, ◌↔◌, ◌+◌, ◌<◌, ◌≤◌, ◌^◌, ◌∷◌, [], ℕ, List, false, length, slice_index, IfOk, IsTrue};
 ghost use Rattle.mdb_words.specs.declared.event.Event.{Event};
-ghost use Rattle.mdb_blocks.specs.Block.{block_of};
+ghost use Rattle.mdb_words.specs.Block.{block_of};
 ghost use Rattle.mdb_msgs.specs.declared.command.Command.{Command};
 ghost use Rattle.mdb_msgs.specs.declared.need.Need.TheVariants.{Exactly};
 ghost use Rattle.mdb_msgs.specs.Commands.{EnablesMore, Spells};
@@ -23,9 +23,8 @@ use crate::gaps::{in_block_time, is_sooner_than, word_row};
 use crate::judged::Judged;
 use crate::phase::Phase;
 use crate::scope::{Profile, Scope};
-use mdb_blocks::sum_of;
 use mdb_msgs::{Need, begins_options, command_of, laws, need_of};
-use mdb_words::{Event, Line, Time, Word};
+use mdb_words::{Event, Line, Time, Word, sum_of};
 
 /// A word of the controller where a block may begin, at least so long after the row before it.
 #[inline(always)]

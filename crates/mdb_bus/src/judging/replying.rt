@@ -17,9 +17,8 @@ use crate::gaps::{in_block_time, is_later_than, word_row};
 use crate::judged::Judged;
 use crate::phase::Phase;
 use crate::scope::Profile;
-use mdb_blocks::sum_of;
 use mdb_msgs::{Command, laws};
-use mdb_words::{BLOCK_GAP_MAX, Event, Line, Time, Word};
+use mdb_words::{BLOCK_GAP_MAX, Event, Line, Time, Word, sum_of};
 
 /// A peripheral's word inside its reply.
 #[inline(always)]

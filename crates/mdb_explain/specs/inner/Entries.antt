@@ -6,8 +6,8 @@ use Rattle.mdb_words.specs.Digits.{IsDecimal}
 use Rattle.mdb_words.specs.Row.{IsRow}
 use Rattle.mdb_words.specs.Refusals.{IsRefusal}
 use Rattle.mdb_follow.specs.declared.offence.Offence.{Offence}
-use Rattle.mdb_explained_runs.specs.declared.replay.ReplayFault.{ReplayFault}
-use Rattle.mdb_explained_runs.specs.declared.replay.ReplayFault.TheVariants as faults
+use Rattle.mdb_run_search.specs.declared.replay.ReplayFault.{ReplayFault}
+use Rattle.mdb_run_search.specs.declared.replay.ReplayFault.TheVariants as faults
 use Rattle.mdb_explain.specs.declared.entry.Entry.{Entry}
 use Rattle.mdb_explain.specs.declared.entry.Entry.TheVariants as entries
 use Rattle.mdb_explain.specs.declared.fault.MarkedFault.{MarkedFault}

@@ -7,11 +7,11 @@ use Rattle.mdb_words.specs.declared.event.Event.{Event}
 use Rattle.mdb_words.specs.RowsWritten.{row_fields}
 use Rattle.mdb_bus.specs.declared.scope.Scope.{Scope}
 use Rattle.mdb_follow.specs.declared.goal.Goal.{Goal}
-use Rattle.mdb_explained_runs.specs.declared.mark.Mark.{Mark}
+use Rattle.mdb_run_search.specs.declared.mark.Mark.{Mark}
 use Rattle.mdb_follow.specs.declared.offence.Offence.{Offence}
 use Rattle.mdb_follow.specs.declared.report.Report.{Report}
-use Rattle.mdb_explained_runs.specs.Goals.{Explains}
-use Rattle.mdb_follow.specs.FirstOffences.{HasOffence}
+use Rattle.mdb_run_search.specs.Goals.{Explains}
+use Rattle.mdb_follow.specs.Offences.{IsOffence}
 use Rattle.mdb_explain.specs.declared.keeping.Keeping.{Keeping}
 use Rattle.mdb_text.specs.declared.outcome.Outcome.{Outcome}
 use Rattle.mdb_text.specs.declared.outcome.Outcome.TheVariants.{Yes, No}
@@ -27,14 +27,14 @@ pub record HasKept (scope : Scope) (keeping : Keeping) (rows : List Event) : Typ
   pub followed : HasFollowedRows scope keeping.follower rows
   pub kept : keeping.rows.items ≡ rows
 
--- one of the later rows was stopped at: it cannot be, or the rows can't be kept
-abbrev pub StopsKeeping : Scope → List Event → List Event → Result Offence RunFault → Type 0
-StopsKeeping scope earlier later (Ok offence) = HasOffence scope earlier later offence
-StopsKeeping scope earlier later (Err (BadRow row fault)) = ⊥
-StopsKeeping scope earlier later (Err TooLong) = ⊥
-StopsKeeping scope earlier later (Err Read) = ⊥
-StopsKeeping scope earlier later (Err Write) = ⊥
-StopsKeeping scope earlier later (Err Memory) = ⊤
+-- the row after these was stopped at: it cannot be, or can't be kept
+abbrev pub StopsKeeping : Scope → List Event → Event → Result Offence RunFault → Type 0
+StopsKeeping scope rows row (Ok offence) = IsOffence scope rows row offence
+StopsKeeping scope rows row (Err (BadRow number fault)) = ⊥
+StopsKeeping scope rows row (Err TooLong) = ⊥
+StopsKeeping scope rows row (Err Read) = ⊥
+StopsKeeping scope rows row (Err Write) = ⊥
+StopsKeeping scope rows row (Err Memory) = ⊤
 
 -- the lines of a mark and of a row, and those of all
 abbrev pub mark_line : ℕ × Mark → List ℕ

@@ -2,9 +2,9 @@
 use Rattle.std.specs.Prelude.{◌≡◌, ◌≢◌, ◌↔◌, ◌+◌, ◌<◌, ℕ, List, [], ◌∷◌, ◌++◌, length, map, Option, Some, None, Result, Ok, Err}
 use Rattle.mdb_bus.specs.declared.scope.Scope.{Scope}
 use Rattle.mdb_follow.specs.declared.follower.TheConstants.{ROWS_MAX}
-use Rattle.mdb_explained_runs.specs.declared.mark.Mark.{Mark}
+use Rattle.mdb_run_search.specs.declared.mark.Mark.{Mark}
 use Rattle.mdb_follow.specs.declared.offence.Offence.{Offence}
-use Rattle.mdb_explained_runs.specs.Replays.{IsReplayReport, StandsFor, rows_of, scope_of}
+use Rattle.mdb_run_search.specs.Replays.{IsReplayReport, StandsFor, rows_of, scope_of}
 use Rattle.mdb_follow.specs.declared.report.Report.{Report}
 use Rattle.mdb_text.specs.declared.outcome.Outcome.{Outcome}
 use Rattle.mdb_text.specs.declared.outcome.Outcome.TheVariants.{Yes, No}
@@ -49,22 +49,6 @@ pub record IsStoppedAt (scope : Scope) (taken : List Entry) (entry : Entry)
       → IsStopAt scope ROWS_MAX part fields stop
   pub no_write : stop ≢ Err (marked.Run run.Write)
   pub no_read : stop ≢ Err (marked.Run run.Read)
-
--- the next entry is taken, or stopped at
-abbrev pub HasTakenNext : Scope → Replaying → List Entry → Entry
-    → Option (Result Offence MarkedFault)
-    → Type 0
-HasTakenNext scope taker taken entry None = HasReplayed scope taker (taken ++ entry ∷ [])
-HasTakenNext scope taker taken entry (Some stop) = IsStoppedAt scope taken entry stop
-
--- One of some entries is stopped at, after earlier ones.
-pub record HasStopped (scope : Scope) (earlier later : List Entry)
-    (stop : Result Offence MarkedFault) : Type 0 where
-  pub front : List Entry
-  pub entry : Entry
-  pub rest : List Entry
-  pub parts : later ≡ front ++ entry ∷ rest
-  pub is : IsStoppedAt scope (earlier ++ front) entry stop
 
 -- All entries are taken, and no mark stands past the last row: what the rows tell.
 pub record FinishesWith (scope : Scope) (taken : List Entry) (report : Report) : Type 0 where

@@ -1,7 +1,8 @@
 //! Why a table of edges gives no rows.
 
-use crate::fault::{Failure, LevelsFault, LineFault, Wire};
+use crate::fault::{Failure, LineRefusal, Wire};
 use mdb_records::ReadFault;
+use std::alloc::AllocError;
 use std::fmt;
 use thiserror::Error;
 
@@ -37,18 +38,8 @@ pub enum EdgesFault {
         line: Wire,
     },
     /// Levels of a line that are no words and breaks.
-    #[error("record {number} at {micros} on {line}: {fault}")]
-    Line {
-        /// The number of the record that shows the fault, counted from 1. At the end of the table
-        /// it is that of the record that would come next.
-        number: u64,
-        /// When the faulty word or break began, in whole microseconds.
-        micros: u64,
-        /// On which line.
-        line: Wire,
-        /// What is wrong.
-        fault: LineFault,
-    },
+    #[error("record {0}")]
+    Line(LineRefusal),
     /// The reader failed.
     #[error("the input can't be read")]
     Read,
@@ -60,31 +51,18 @@ pub enum EdgesFault {
     Memory,
 }
 
-impl EdgesFault {
-    /// Why the lines take no more, where the record of this number shows it.
-    pub(super) fn of_levels(number: u64, fault: LevelsFault) -> EdgesFault {
-        match fault {
-            LevelsFault::Line {
-                line,
-                micros,
-                fault,
-            } => EdgesFault::Line {
-                number,
-                micros,
-                line: Wire::from(line),
-                fault,
-            },
-            LevelsFault::Memory => EdgesFault::Memory,
-        }
-    }
-}
-
 impl From<ReadFault> for EdgesFault {
     fn from(fault: ReadFault) -> EdgesFault {
         match fault {
             ReadFault::Read => EdgesFault::Read,
             ReadFault::Memory => EdgesFault::Memory,
         }
+    }
+}
+
+impl From<AllocError> for EdgesFault {
+    fn from(_refused: AllocError) -> EdgesFault {
+        EdgesFault::Memory
     }
 }
 
@@ -108,7 +86,7 @@ pub enum FormFault {
     FieldCount,
     /// Its first field is no time.
     BadTime,
-    /// The time has more than 15 digits of microseconds.
+    /// The time has more than 18 digits of microseconds.
     LongTime,
 }
 
@@ -121,8 +99,8 @@ impl FormFault {
                 "wanted one column of each line: as --controller and --peripheral say, or M and S"
             }
             FormFault::FieldCount => "wanted as many fields as the header has",
-            FormFault::BadTime => "wanted a time: up to 15 digits, perhaps with decimals",
-            FormFault::LongTime => "wanted a time of at most 15 digits of microseconds",
+            FormFault::BadTime => "wanted a time: up to 21 digits, perhaps with decimals",
+            FormFault::LongTime => "wanted a time of at most 18 digits of microseconds",
         }
     }
 }

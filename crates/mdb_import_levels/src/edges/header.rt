@@ -3,7 +3,7 @@
 use super::EdgesOptions;
 use super::fault::FormFault;
 use super::record::field_of;
-use mdb_exports::{is_letter, read_number};
+use mdb_import_shared::{is_letter, read_number};
 use mdb_records::Record;
 
 /// Which columns of a table tell what. The first one tells the times.

@@ -7,7 +7,7 @@ use super::fault::{EdgesFault, FormFault, OrderFault};
 use super::header::Columns;
 use crate::fault::Wire;
 use crate::instant::Instant;
-use mdb_exports::{Unit, bare, power, read_number};
+use mdb_import_shared::{Unit, bare, power, read_number};
 use mdb_records::Record;
 
 /// The levels of both lines from an instant on.
@@ -43,10 +43,16 @@ pub(super) fn read_record(
         Ok(at) => at,
         Err(fault) => return Err(EdgesFault::Form { number, fault }),
     };
-    let Some(controller) = level_of(options.invert, field_of(row, columns.controller)) else {
+    let Some(controller) = level_of(
+        options.inverted.controller,
+        field_of(row, columns.controller),
+    ) else {
         return Err(no_level(number, at, Wire::Controller));
     };
-    let Some(peripheral) = level_of(options.invert, field_of(row, columns.peripheral)) else {
+    let Some(peripheral) = level_of(
+        options.inverted.peripheral,
+        field_of(row, columns.peripheral),
+    ) else {
         return Err(no_level(number, at, Wire::Peripheral));
     };
     if at.parts() < earliest {

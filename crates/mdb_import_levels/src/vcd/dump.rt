@@ -27,6 +27,8 @@ enum Mode {
 /// A place in a dump, and both lines of the bus before the time there.
 #[derive(Drop)]
 pub(super) struct Dump<'a> {
+    /// The number of the line of the text, counted from 1.
+    pub(super) number: u64,
     alloc: Global,
     options: &'a VcdOptions,
     /// Among what it goes on.
@@ -49,6 +51,7 @@ impl<'a> Dump<'a> {
     /// Before the first word: it is time 0.
     pub(super) fn new(alloc: Global, options: &'a VcdOptions) -> Dump<'a> {
         Dump {
+            number: 1,
             alloc,
             options,
             mode: Mode::Outside,
@@ -57,7 +60,7 @@ impl<'a> Dump<'a> {
             at: Instant::zero(),
             controller: None,
             peripheral: None,
-            lines: Lines::new(alloc, options.skip_damaged),
+            lines: Lines::new(alloc, options.inverted, options.skip_damaged),
         }
     }
 
@@ -92,21 +95,30 @@ impl<'a> Dump<'a> {
         }
     }
 
-    /// Takes the end of the dump, and answers both lines.
-    pub(super) fn end(mut self) -> Result<Lines, Stop> {
+    /// Takes the end of the dump.
+    pub(super) fn end(&mut self) -> Result<(), Stop> {
         let Mode::Body = self.mode else {
             return Err(Stop::Form(DumpFault::Cut));
         };
         self.end_time()?;
-        self.lines.end()?;
-        Ok(self.lines)
+        self.lines.end(self.number)?;
+        Ok(())
     }
 
-    /// Takes the levels that both lines have at the time there. One that isn't known counts as low.
+    /// Both lines, as far as they were read.
+    pub(super) fn lines(&self) -> &Lines {
+        &self.lines
+    }
+
+    /// Both lines.
+    pub(super) fn into_lines(self) -> Lines {
+        self.lines
+    }
+
+    /// Takes the levels that both lines have at the time there, as far as they are known.
     fn end_time(&mut self) -> Result<(), Stop> {
-        let controller = self.controller == Some(true);
-        let peripheral = self.peripheral == Some(true);
-        self.lines.take(self.at, controller, peripheral)?;
+        self.lines
+            .take(self.number, self.at, self.controller, self.peripheral)?;
         Ok(())
     }
 
@@ -189,8 +201,8 @@ impl<'a> Dump<'a> {
     /// The level of a line by a value, after this one.
     fn level_by(&self, line: Line, value: Value, old: Option<bool>) -> Result<Option<bool>, Stop> {
         match value {
-            Value::Low => Ok(Some(self.options.invert)),
-            Value::High => Ok(Some(!self.options.invert)),
+            Value::Low => Ok(Some(self.options.inverted.has(line))),
+            Value::High => Ok(Some(!self.options.inverted.has(line))),
             Value::Open if old.is_none() => Ok(None),
             Value::Open => Err(Stop::Level(line, self.at.time().value(), LevelFault::Lost)),
             Value::Other => Err(Stop::Level(line, self.at.time().value(), LevelFault::NoLevel)),

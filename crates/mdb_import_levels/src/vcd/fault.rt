@@ -1,6 +1,6 @@
 //! Why a dump gives no rows.
 
-use crate::fault::{Failure, LevelsFault, LineFault, Wire};
+use crate::fault::{Failure, LineRefusal, Wire};
 use mdb_words::Line;
 use std::alloc::{AllocError, AllocFailed};
 use std::fmt;
@@ -38,19 +38,10 @@ pub enum VcdFault {
         /// What is wrong.
         fault: LevelFault,
     },
-    /// Levels of a line that are no words and breaks.
-    #[error("line {number} at {micros} on {line}: {fault}")]
-    Line {
-        /// The line of the text after the changes that show the fault, counted from 1: the next
-        /// time stands there. At the end of the dump it is that of the line that would come next.
-        number: u64,
-        /// When the faulty word or break began, in whole microseconds.
-        micros: u64,
-        /// On which line of the bus.
-        line: Wire,
-        /// What is wrong.
-        fault: LineFault,
-    },
+    /// Levels of a line that are no words and breaks. The number is that of the line of the text
+    /// after the changes that show it: the next time stands there.
+    #[error("line {0}")]
+    Line(LineRefusal),
     /// The reader failed.
     #[error("the input can't be read")]
     Read,
@@ -89,7 +80,7 @@ pub enum DumpFault {
     SameCode,
     /// A time that isn't digits.
     BadTime,
-    /// The time has more than 15 digits of microseconds.
+    /// The time has more than 18 digits of microseconds.
     LongTime,
     /// A word that is no time, no change and no command of the body.
     NoEntry,
@@ -117,7 +108,7 @@ impl DumpFault {
             }
             DumpFault::SameCode => "wanted another variable for each line, and it is the same",
             DumpFault::BadTime => "wanted a time: digits after #",
-            DumpFault::LongTime => "wanted a time of at most 15 digits of microseconds",
+            DumpFault::LongTime => "wanted a time of at most 18 digits of microseconds",
             DumpFault::NoEntry => "wanted a time, a change of a value, or a command of the dump",
             DumpFault::Cut => "wanted more of the dump: it is cut",
         }
@@ -167,8 +158,6 @@ pub(super) enum Stop {
     Early(u64),
     /// It is a value that is no level of a line, at a time in whole microseconds.
     Level(Line, u64, LevelFault),
-    /// It shows a fault of a line, in what began at a time in whole microseconds.
-    Line(Line, u64, LineFault),
     /// Memory was refused.
     Memory,
 }
@@ -176,19 +165,6 @@ pub(super) enum Stop {
 impl From<DumpFault> for Stop {
     fn from(fault: DumpFault) -> Stop {
         Stop::Form(fault)
-    }
-}
-
-impl From<LevelsFault> for Stop {
-    fn from(fault: LevelsFault) -> Stop {
-        match fault {
-            LevelsFault::Line {
-                line,
-                micros,
-                fault,
-            } => Stop::Line(line, micros, fault),
-            LevelsFault::Memory => Stop::Memory,
-        }
     }
 }
 
@@ -211,12 +187,6 @@ impl Stop {
             Stop::Form(fault) => VcdFault::Form { number, fault },
             Stop::Early(micros) => VcdFault::Early { number, micros },
             Stop::Level(line, micros, fault) => VcdFault::Level {
-                number,
-                micros,
-                line: Wire::from(line),
-                fault,
-            },
-            Stop::Line(line, micros, fault) => VcdFault::Line {
                 number,
                 micros,
                 line: Wire::from(line),

@@ -2,7 +2,7 @@
 
 use super::VcdOptions;
 use super::dump::Dump;
-use super::fault::VcdFault;
+use super::fault::{Stop, VcdFault};
 use crate::lines::Lines;
 use std::alloc::Global;
 use std::io::{ErrorKind, Read};
@@ -13,8 +13,6 @@ const READ_SIZE: usize = 65_536;
 /// The text of a dump so far.
 #[derive(Drop)]
 struct Text<'a> {
-    /// The number of the line, counted from 1.
-    number: u64,
     /// The beginning of a word whose end wasn't read yet.
     begun: Vec<u8>,
     /// The words before it.
@@ -31,7 +29,6 @@ pub(super) fn lines_of<R: Read + Drop>(
     let mut buffer = Vec::new(alloc);
     buffer.resize(READ_SIZE, 0)?;
     let mut text = Text {
-        number: 1,
         begun: Vec::new(alloc),
         dump: Dump::new(alloc, options),
     };
@@ -69,14 +66,14 @@ impl Text<'_> {
                 if self.begun.is_empty() {
                     match self.dump.take(word) {
                         Ok(()) => (),
-                        Err(stop) => return Err(stop.at(self.number)),
+                        Err(stop) => return Err(self.fault_of(stop)),
                     }
                 } else {
                     self.end_word(word)?;
                 }
                 start = index + 1;
                 if *c == b'\n' {
-                    self.number = self.number.saturating_add(1);
+                    self.dump.number = self.dump.number.saturating_add(1);
                 }
             }
         }
@@ -93,21 +90,30 @@ impl Text<'_> {
         self.begun.clear();
         match taken {
             Ok(()) => Ok(()),
-            Err(stop) => Err(stop.at(self.number)),
+            Err(stop) => Err(self.fault_of(stop)),
+        }
+    }
+
+    /// Why there are no rows, if the reading stops for this: the levels before it may be refused.
+    fn fault_of(&self, stop: Stop) -> VcdFault {
+        match (stop, self.dump.lines().refusal()) {
+            (Stop::Memory, _) | (_, None) => stop.at(self.dump.number),
+            (_, Some(refusal)) => VcdFault::Line(refusal),
         }
     }
 
     /// Takes the end of the text after its last byte.
     fn end(mut self, last: u8) -> Result<Lines, VcdFault> {
         self.end_word(&[])?;
-        let number = if last == b'\n' {
-            self.number
-        } else {
-            self.number.saturating_add(1)
-        };
-        match self.dump.end() {
-            Ok(lines) => Ok(lines),
-            Err(stop) => Err(stop.at(number)),
+        if last != b'\n' {
+            self.dump.number = self.dump.number.saturating_add(1);
         }
+        if let Err(stop) = self.dump.end() {
+            return Err(self.fault_of(stop));
+        }
+        if let Some(refusal) = self.dump.lines().refusal() {
+            return Err(VcdFault::Line(refusal));
+        }
+        Ok(self.dump.into_lines())
     }
 }

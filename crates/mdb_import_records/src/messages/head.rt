@@ -2,7 +2,7 @@
 
 use super::fault::MessageFault;
 use super::options::MessagesOptions;
-use mdb_exports::{RecordFault, read_time};
+use mdb_import_shared::{RecordFault, Times, time_length};
 use mdb_words::{Line, Time};
 
 /// How far a line is read.
@@ -35,14 +35,19 @@ impl<'a> Front<'a> {
         }
     }
 
-    /// Reads what stands before the words, and answers the time of the message and who spoke.
-    pub(crate) fn read(&mut self, options: &MessagesOptions) -> Result<(Time, Line), MessageFault> {
+    /// Reads what stands before the words, and answers the time of the message, the next of these,
+    /// and who spoke.
+    pub(crate) fn read(
+        &mut self,
+        options: &MessagesOptions,
+        times: &mut Times,
+    ) -> Result<(Time, Line), MessageFault> {
         for _ in 0..u64::MAX {
             if self.pass_name(options) || self.pass_mark() {
                 continue;
             }
             match (self.at, self.line) {
-                (None, _) => self.pass_time(options)?,
+                (None, _) => self.pass_time(times)?,
                 (Some(_), None) => break,
                 (Some(at), Some(line)) => return Ok((at, line)),
             }
@@ -79,33 +84,19 @@ impl<'a> Front<'a> {
         true
     }
 
-    /// Passes the time, which comes next.
-    fn pass_time(&mut self, options: &MessagesOptions) -> Result<(), MessageFault> {
-        let (time, rest) = self.rest.split_at(self.rest.len().min(self.time_length()));
+    /// Passes the time, which comes next. After who spoke and a comma, a comma ends it.
+    fn pass_time(&mut self, times: &mut Times) -> Result<(), MessageFault> {
+        let length = time_length(self.rest, !self.has_comma);
+        let (time, rest) = self.rest.split_at(self.rest.len().min(length));
         if !ends_at(rest) {
             return Err(MessageFault::Time(RecordFault::BadTime));
         }
-        match read_time(options.unit, time) {
+        match times.read(time) {
             Ok(at) => self.at = Some(at),
             Err(fault) => return Err(MessageFault::Time(fault)),
         }
         self.rest = rest;
         Ok(())
-    }
-
-    /// How many bytes come next that may be those of a time: up to the last digit of a run of
-    /// digits, points, colons and commas. After who spoke and a comma, a comma ends the run.
-    fn time_length(&self) -> usize {
-        let mut length = 0;
-        for place in 0..self.rest.len() {
-            match self.rest[place] {
-                b'0'..=b'9' => length = place + 1,
-                b'.' | b':' => {}
-                b',' if !self.has_comma => {}
-                _ => break,
-            }
-        }
-        length
     }
 }
 

@@ -4,10 +4,10 @@ use super::fault::{Found, MessageFault, MessagesFault};
 use super::head::Front;
 use super::log::Log;
 use super::options::{MessagesOptions, TimeOf};
-use super::words::Words;
+use super::words::{Words, are_likely_decimal};
 use crate::frame::{Format, Rows, import};
-use crate::named::has_no_digit;
-use mdb_exports::{Imported, Part, RecordFault};
+use crate::named::can_be_titles;
+use mdb_import_shared::{Imported, Part, RecordFault, Times};
 use mdb_words::{Event, Line, Time, Word};
 use std::alloc::Global;
 use std::io::{Read, Write};
@@ -52,15 +52,17 @@ pub fn import_messages<R: Read + Drop, W: Write>(
     };
     let mut reading = Reading {
         options,
+        times: Times::new(options.unit),
         has_begun: false,
-        words: Words::new(),
+        words: Words::new(options.decimal),
         free: 0,
         moved: 0,
         most: 0,
         messages: 0,
     };
     let mut log = Log::new(alloc, reader);
-    let imported = import(part, &mut log, &mut reading, writer)?;
+    let mut imported = import(part, &mut log, &mut reading, writer)?;
+    imported.midnights = reading.times.midnights();
     Ok(MessagesImported {
         imported,
         moved: reading.moved,
@@ -73,6 +75,8 @@ pub fn import_messages<R: Read + Drop, W: Write>(
 #[derive(Drop)]
 struct Reading<'a> {
     options: &'a MessagesOptions,
+    // The times of all messages.
+    times: Times,
     // Whether a line stood there that isn't passed over.
     has_begun: bool,
     // The words of the line that was read last.
@@ -88,9 +92,14 @@ impl Reading<'_> {
     /// Reads a message, and answers when it begins and who spoke.
     fn read(&mut self, text: &[u8]) -> Result<(u64, Line), MessageFault> {
         let mut front = Front::of(text);
-        let (at, line) = front.read(self.options)?;
-        self.words.read(front.rest)?;
-        self.words.mark(line);
+        let (at, line) = front.read(self.options, &mut self.times)?;
+        match self.words.read(front.rest) {
+            Err(MessageFault::BadWords) if are_likely_decimal(front.rest) => {
+                return Err(MessageFault::DecimalWords);
+            }
+            read => read?,
+        }
+        self.words.mark(line)?;
         let others = (self.words.as_slice().len() as u64).saturating_sub(1);
         Ok((self.placed(at.value(), others.saturating_mul(WORD))?, line))
     }
@@ -140,11 +149,15 @@ impl Reading<'_> {
     }
 }
 
-/// Whether a line is blank, or a comment.
-fn is_passed_over(text: &[u8]) -> bool {
-    for byte in text {
-        if *byte != b' ' && *byte != b'\t' {
-            return *byte == b'#';
+/// Whether a line is blank, or a comment. One that begins with `;` is a comment only above all
+/// others, and if it has no other `;`.
+fn is_passed_over(text: &[u8], is_above: bool) -> bool {
+    for place in 0..text.len() {
+        match text[place] {
+            b' ' | b'\t' => {}
+            b'#' => return true,
+            b';' => return is_above && !text[place + 1..].contains(&b';'),
+            _ => return false,
         }
     }
     true
@@ -161,12 +174,12 @@ impl<R: Read> Format<Log<R>> for Reading<'_> {
         writer: &mut W,
     ) -> Result<(), MessagesFault> {
         let text = log.line();
-        if is_passed_over(text) {
+        if is_passed_over(text, !self.has_begun) {
             return Ok(());
         }
         if !self.has_begun {
             self.has_begun = true;
-            if has_no_digit(text) {
+            if can_be_titles(text) {
                 rows.tally.header = true;
                 return Ok(());
             }
@@ -177,6 +190,7 @@ impl<R: Read> Format<Log<R>> for Reading<'_> {
                 number,
                 fault,
                 found: Found::of(text),
+                is_first: self.messages == 0,
             }),
         }
     }

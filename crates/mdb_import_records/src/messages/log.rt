@@ -3,7 +3,7 @@
 ghost use Rattle.std.specs.Prelude.{◌<◌, ◌≤◌, IfSome, length};
 
 use crate::frame::Source;
-use mdb_exports::Decoded;
+use mdb_import_shared::Decoded;
 use mdb_records::ReadFault;
 use std::alloc::{AllocError, Global};
 use std::io::{ErrorKind, Read};

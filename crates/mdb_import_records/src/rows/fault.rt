@@ -1,6 +1,6 @@
 //! Why an import of rows fails.
 
-use mdb_exports::RecordFault;
+use mdb_import_shared::RecordFault;
 use mdb_records::ReadFault;
 use mdb_writing::WriteFailed;
 use thiserror::Error;

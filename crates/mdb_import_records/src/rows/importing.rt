@@ -2,17 +2,17 @@
 
 use super::fault::ImportFault;
 use super::options::RowsOptions;
-use super::record::{event_in, is_header, join, time_in};
+use super::record::{event_in, is_header, join, time_field};
 use crate::frame::{Format, Rows, import};
-use mdb_exports::{Imported, Part, RecordFault, Side, expect_after};
+use mdb_import_shared::{Imported, Part, RecordFault, Side, Times, expect_after, is_comment};
 use mdb_records::Records;
-use mdb_words::Event;
+use mdb_words::{Event, Time};
 use std::alloc::Global;
 use std::io::{Read, Write};
 
 /// Imports the records that are still to come, and writes their rows as it reads.
 ///
-/// Those of an export are what [`mdb_exports::records_of`] answers for its reader.
+/// Those of an export are what [`mdb_import_shared::records_of`] answers for its reader.
 ///
 /// # Errors
 ///
@@ -34,16 +34,27 @@ pub fn import_records<R: Read + Drop, W: Write>(
     };
     let mut reading = Reading {
         options,
+        comments: 0,
+        has_begun: false,
+        times: Times::new(options.unit),
         last: None,
         line: Vec::new(alloc),
     };
-    import(part, records, &mut reading, writer)
+    let mut imported = import(part, records, &mut reading, writer)?;
+    imported.midnights = reading.times.midnights();
+    Ok(imported)
 }
 
 /// How far the records are read.
 #[derive(Drop)]
 struct Reading<'a> {
     options: &'a RowsOptions,
+    // How many comments stand at the beginning.
+    comments: u64,
+    // Whether there was a record after them.
+    has_begun: bool,
+    // The times of all records.
+    times: Times,
     // When the last row started that isn't after the part.
     last: Option<u64>,
     // The text of a record, whose memory the next one uses again.
@@ -51,23 +62,33 @@ struct Reading<'a> {
 }
 
 impl Reading<'_> {
-    /// The event of the record of a number, nothing where it is a header, or what is wrong with it.
-    fn event(&self, number: u64) -> Result<Option<Event>, RecordFault> {
+    /// The event of a record whose time this is, nothing where it is a header, or what is wrong
+    /// with it. Only the first record after comments may be a header.
+    fn event(
+        &self,
+        is_first: bool,
+        time: Result<Time, RecordFault>,
+    ) -> Result<Option<Event>, RecordFault> {
         let line = self.line.as_slice();
-        match event_in(self.options, line) {
+        match event_in(self.options, time, line) {
             Ok(event) => {
                 expect_after(self.last, &event)?;
                 Ok(Some(event))
             }
-            Err(_) if number == 1 && is_header(self.options, line) => Ok(None),
+            Err(_) if is_first && is_header(self.options, line) => Ok(None),
             Err(fault) => Err(fault),
         }
     }
 
     /// Passes over the record of a number, if its own time is outside the part, else refuses it for
     /// this.
-    fn pass(&self, number: u64, fault: RecordFault, rows: &mut Rows) -> Result<(), ImportFault> {
-        let own = time_in(self.options, self.line.as_slice());
+    fn pass(
+        &self,
+        number: u64,
+        own: Option<u64>,
+        fault: RecordFault,
+        rows: &mut Rows,
+    ) -> Result<(), ImportFault> {
         if own.is_some_and(|at| rows.part.side_of(at) != Side::Within) {
             rows.tally.passed = rows.tally.passed.saturating_add(1);
             return Ok(());
@@ -91,10 +112,22 @@ impl<R: Read + Drop> Format<Records<R>> for Reading<'_> {
         rows: &mut Rows,
         writer: &mut W,
     ) -> Result<(), ImportFault> {
-        if join(&records.row(), &mut self.line).is_err() {
+        let record = records.row();
+        if !self.has_begun && is_comment(&record, false) {
+            self.comments = number;
+            return Ok(());
+        }
+        if join(&record, &mut self.line).is_err() {
             return Err(ImportFault::Memory);
         }
-        match self.event(number) {
+        let is_first = !self.has_begun;
+        self.has_begun = true;
+        let time = self.times.read(time_field(self.line.as_slice()));
+        let own = match &time {
+            Ok(at) => Some(at.value()),
+            Err(_) => None,
+        };
+        match self.event(is_first, time) {
             Ok(Some(event)) => {
                 let at = event.start().value();
                 if rows.part.side_of(at) != Side::After {
@@ -107,11 +140,19 @@ impl<R: Read + Drop> Format<Records<R>> for Reading<'_> {
                 rows.tally.header = true;
                 Ok(())
             }
-            Err(fault) => self.pass(number, fault, rows),
+            Err(fault) => self.pass(number, own, fault, rows),
         }
     }
 
     fn end(&self) -> Result<(), ImportFault> {
-        Ok(())
+        if self.has_begun || self.comments == 0 {
+            return Ok(());
+        }
+        Err(ImportFault::BadRecord {
+            number: self.comments.saturating_add(1),
+            own: None,
+            last: None,
+            fault: RecordFault::CommentsAlone,
+        })
     }
 }

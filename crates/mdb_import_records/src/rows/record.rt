@@ -1,13 +1,13 @@
 //! One record: its text, and what its fields say.
 
 use super::options::RowsOptions;
-use crate::named::{has_no_digit, line_named};
-use mdb_exports::{
-    RecordFault, bare, behind_prefix, is_letter, is_time_form, parted, read_hex, read_length,
-    read_time,
+use crate::named::{can_be_titles, line_named};
+use mdb_import_shared::{
+    RecordFault, bare, is_letter, is_time_form, parted, read_length, read_word, separator_of,
+    three_of,
 };
 use mdb_records::Record;
-use mdb_words::{Event, Word};
+use mdb_words::{Event, Time};
 use std::alloc::AllocError;
 
 /// Writes the fields of a record, with commas between them, into a line.
@@ -22,56 +22,36 @@ pub(crate) fn join(fields: &Record<'_>, line: &mut Vec<u8>) -> Result<(), AllocE
     Ok(())
 }
 
-/// What separates the fields of a line.
-fn separator_of(line: &[u8]) -> u8 {
-    if line.contains(&b'\t') {
-        b'\t'
-    } else if line.contains(&b';') {
-        b';'
-    } else {
-        b','
-    }
-}
-
-/// The three parts of a line between separators; `None` where there are more or fewer.
-fn three_parts(line: &[u8], separator: u8) -> Option<(&[u8], &[u8], &[u8])> {
-    let (first, after) = parted(line, separator)?;
-    let (second, third) = parted(after, separator)?;
-    match parted(third, separator) {
-        Some(_) => None,
-        None => Some((bare(first), bare(second), bare(third))),
-    }
-}
-
-/// The first part of a line.
-fn first_part(line: &[u8], separator: u8) -> &[u8] {
-    match parted(line, separator) {
+/// The time field of a line: its first part.
+pub(crate) fn time_field(line: &[u8]) -> &[u8] {
+    match parted(line, separator_of(line)) {
         Some((first, _)) => bare(first),
         None => bare(line),
     }
 }
 
-/// The event of a line, or what is wrong with it.
-pub(crate) fn event_in(options: &RowsOptions, line: &[u8]) -> Result<Event, RecordFault> {
-    match three_parts(line, separator_of(line)) {
-        Some((time, name, value)) => event_of(options, time, name, value),
-        None => Err(RecordFault::FieldCount),
+/// The event of a line whose time this is, or what is wrong with it.
+pub(crate) fn event_in(
+    options: &RowsOptions,
+    time: Result<Time, RecordFault>,
+    line: &[u8],
+) -> Result<Event, RecordFault> {
+    match three_of(line) {
+        Some((_, name, value, false)) => event_of(options, time?, name, value),
+        _ => Err(RecordFault::FieldCount),
     }
 }
 
-/// The event of three fields, or what is wrong with them.
+/// The event at a time of two fields, or what is wrong with them.
 fn event_of(
     options: &RowsOptions,
-    time: &[u8],
+    at: Time,
     name: &[u8],
     value: &[u8],
 ) -> Result<Event, RecordFault> {
-    let at = read_time(options.unit, time)?;
     if let Some(line) = line_named(&options.controller, &options.peripheral, name) {
-        return match read_word(value) {
-            Some(word) => Ok(Event::Word { at, line, word }),
-            None => Err(RecordFault::BadWord),
-        };
+        let word = read_word(options.decimal, value)?;
+        return Ok(Event::Word { at, line, word });
     }
     if !is_break(name) {
         return Err(RecordFault::BadLine);
@@ -87,37 +67,17 @@ fn is_break(field: &[u8]) -> bool {
     is_letter(field, b'B', b'b')
 }
 
-/// The word that a field tells, perhaps with a `0x` before its digits or an `h` after them; `None`
-/// where it tells none.
-fn read_word(field: &[u8]) -> Option<Word> {
-    let digits = match (behind_prefix(field), field) {
-        (Some(digits), _) => digits,
-        (None, [digits @ .., b'h' | b'H']) => digits,
-        _ => field,
-    };
-    Word::new(read_hex(digits)?)
-}
-
-/// The microsecond that the first field of a line tells, if it tells one.
-pub(crate) fn time_in(options: &RowsOptions, line: &[u8]) -> Option<u64> {
-    match read_time(options.unit, first_part(line, separator_of(line))) {
-        Ok(time) => Some(time.value()),
-        Err(_) => None,
-    }
-}
-
 /// Whether a line is that of a header: it has three fields or more, none of them empty or with the
 /// form of a time, no digit in the first and in the last, and of three the second names neither a
 /// line nor a break.
 pub(crate) fn is_header(options: &RowsOptions, line: &[u8]) -> bool {
-    let separator = separator_of(line);
-    if let Some((_, name, _)) = three_parts(line, separator) {
+    if let Some((_, name, _, false)) = three_of(line) {
         let named = line_named(&options.controller, &options.peripheral, name);
         if named.is_some() || is_break(name) {
             return false;
         }
     }
-    has_no_digit(first_part(line, separator)) && are_titles(line, separator)
+    can_be_titles(time_field(line)) && are_titles(line, separator_of(line))
 }
 
 /// Whether a line has three fields or more that can be titles, and the last has no digit.
@@ -134,7 +94,7 @@ fn are_titles(line: &[u8], separator: u8) -> bool {
         rest = after;
         others = place;
     }
-    others >= 2 && is_title(bare(rest)) && has_no_digit(bare(rest))
+    others >= 2 && is_title(bare(rest)) && can_be_titles(bare(rest))
 }
 
 /// Whether a field can be a title.

@@ -2,7 +2,7 @@
 
 use super::fault::{HeaderFault, RowFault};
 use super::seconds::read_seconds;
-use mdb_exports::bare;
+use mdb_import_shared::bare;
 use mdb_records::Record;
 use mdb_words::Time;
 use std::fmt;

@@ -1,11 +1,14 @@
 //! Why a table isn't imported.
 
 use super::columns::Column;
-use mdb_exports::RecordFault;
+use mdb_import_shared::RecordFault;
 use mdb_records::ReadFault;
 use mdb_writing::WriteFailed;
 use std::fmt;
 use thiserror::Error;
+
+/// What is told of a table without a header.
+const EMPTY: &str = "wanted a header with the names of the columns, and the table is empty";
 
 /// What is wrong with a header.
 #[derive(Clone, Copy, PartialEq, Eq, Debug, Error)]
@@ -33,7 +36,7 @@ pub enum RowFault {
     NegativeTime,
     /// Its time is no number.
     BadTime,
-    /// Its time has more than 15 digits of microseconds.
+    /// Its time has more than 18 digits of microseconds.
     LongTime,
     /// It is of another kind than `data`.
     BadKind,
@@ -70,9 +73,9 @@ impl RowFault {
                 "wanted no negative time: set the time zero to the start of the capture"
             }
             RowFault::BadTime => {
-                "wanted a time in seconds: up to 15 digits, perhaps with decimals after a point"
+                "wanted a time in seconds: up to 21 digits, perhaps with decimals after a point"
             }
-            RowFault::LongTime => "wanted a time of at most 15 digits of microseconds",
+            RowFault::LongTime => "wanted a time of at most 18 digits of microseconds",
             RowFault::BadKind => "wanted the type data, which a word has",
             RowFault::BadName => {
                 "wanted M or S as the analyser, or a name given by --controller or --peripheral"
@@ -131,12 +134,17 @@ impl From<RecordFault> for RowFault {
 /// Why there is no import, or only that of the rows before.
 #[derive(Clone, Copy, PartialEq, Eq, Debug, Error)]
 pub enum SaleaeFault {
-    /// There is no record at all.
-    #[error("record 1: wanted a header with the names of the columns, and the table is empty")]
-    NoHeader,
-    /// The first record isn't a header of the expected form.
-    #[error("record 1: {fault}")]
+    /// There is no record, or none after comments.
+    #[error("record {number}: {empty}", empty = EMPTY)]
+    NoHeader {
+        /// The number of the record that would come next.
+        number: u64,
+    },
+    /// The first record that is no comment isn't a header of the expected form.
+    #[error("record {number}: {fault}")]
     BadHeader {
+        /// The record's number, from 1.
+        number: u64,
         /// What is wrong with it.
         fault: HeaderFault,
     },

@@ -7,14 +7,14 @@ use super::seconds::read_seconds;
 use super::values::{is_framed, is_word_kind, read_value};
 use crate::frame::{Format, Rows, import};
 use crate::named::line_named;
-use mdb_exports::{Imported, Part, Place, expect_after};
+use mdb_import_shared::{Imported, Part, Place, expect_after, is_comment};
 use mdb_records::{Record, Records};
 use mdb_words::{Event, Line, Time, Word};
 use std::io::{Read, Write};
 
 /// Imports the records that are still to come, the header first, and writes their rows as it reads.
 ///
-/// Those of a table are what [`mdb_exports::records_of`] answers for its reader.
+/// Those of a table are what [`mdb_import_shared::records_of`] answers for its reader.
 ///
 /// # Errors
 ///
@@ -36,6 +36,7 @@ pub fn import_table<R: Read + Drop, W: Write>(
     };
     let mut reading = Reading {
         options,
+        comments: 0,
         columns: None,
         last: None,
     };
@@ -46,6 +47,8 @@ pub fn import_table<R: Read + Drop, W: Write>(
 #[derive(Drop)]
 struct Reading<'a> {
     options: &'a SaleaeOptions,
+    // How many comments stand before the header.
+    comments: u64,
     // Where the columns are, once the header was read.
     columns: Option<Columns>,
     // When the last row started.
@@ -62,6 +65,22 @@ enum Found {
 }
 
 impl Reading<'_> {
+    /// Takes the record of a number before the first row: a comment, or the header.
+    fn take_header(&mut self, number: u64, record: &Record<'_>) -> Result<(), SaleaeFault> {
+        let columns = read_columns(record);
+        if is_comment(record, columns.is_ok()) {
+            self.comments = number;
+            return Ok(());
+        }
+        match columns {
+            Ok(columns) => {
+                self.columns = Some(columns);
+                Ok(())
+            }
+            Err(fault) => Err(SaleaeFault::BadHeader { number, fault }),
+        }
+    }
+
     /// What the record of a number stands for.
     fn found_in(
         &self,
@@ -141,14 +160,7 @@ impl<R: Read + Drop> Format<Records<R>> for Reading<'_> {
     ) -> Result<(), SaleaeFault> {
         let fields = records.row();
         let Some(columns) = self.columns else {
-            rows.tally.header = true;
-            return match read_columns(&fields) {
-                Ok(columns) => {
-                    self.columns = Some(columns);
-                    Ok(())
-                }
-                Err(fault) => Err(SaleaeFault::BadHeader { fault }),
-            };
+            return self.take_header(number, &fields);
         };
         match self.found_in(&columns, number, &fields)? {
             Found::Row(event) => {
@@ -163,7 +175,9 @@ impl<R: Read + Drop> Format<Records<R>> for Reading<'_> {
     fn end(&self) -> Result<(), SaleaeFault> {
         match self.columns {
             Some(_) => Ok(()),
-            None => Err(SaleaeFault::NoHeader),
+            None => Err(SaleaeFault::NoHeader {
+                number: self.comments.saturating_add(1),
+            }),
         }
     }
 }

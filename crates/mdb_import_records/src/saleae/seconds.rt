@@ -1,7 +1,7 @@
 //! The times of a table.
 
 use super::fault::RowFault;
-use mdb_exports::{Unit, parted, read_time};
+use mdb_import_shared::{Unit, parted, read_number, time_of};
 use mdb_words::Time;
 
 /// So many decimals of a time are read. No later one moves the nearest microsecond.
@@ -12,14 +12,15 @@ pub(crate) fn read_seconds(field: &[u8]) -> Result<Time, RowFault> {
     if matches!(field, [b'-', ..]) {
         return Err(RowFault::NegativeTime);
     }
-    if field.contains(&b',') || field.contains(&b':') {
+    if field.contains(&b',') {
         return Err(RowFault::BadTime);
     }
     let (short, rest) = shortened(field);
     if !are_digits(rest) {
         return Err(RowFault::BadTime);
     }
-    Ok(read_time(Some(Unit::Seconds), short)?)
+    let number = read_number(short).ok_or(RowFault::BadTime)?;
+    Ok(time_of(number, Unit::Seconds)?)
 }
 
 /// A number up to its fifteenth decimal, and its decimals after that.

@@ -2,7 +2,7 @@
 
 use super::columns::{Columns, cell};
 use super::fault::RowFault;
-use mdb_exports::{behind_prefix, read_hex};
+use mdb_import_shared::{behind_prefix, read_hex};
 use mdb_records::Record;
 use mdb_words::Word;
 

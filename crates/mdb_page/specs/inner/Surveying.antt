@@ -4,12 +4,12 @@ use Rattle.std.specs.Prelude.{◌≡◌, ◌≢◌, ◌+◌, ◌<◌, ◌≤◌,
 use Rattle.mdb_words.specs.declared.event.Event.{Event}
 use Rattle.mdb_bus.specs.declared.scope.Scope.{Scope}
 use Rattle.mdb_follow.specs.declared.follower.TheConstants.{ROWS_MAX}
-use Rattle.mdb_stretches.specs.declared.stretch.Ended.{Ended}
-use Rattle.mdb_stretches.specs.declared.stretch.Stretch.{Stretch}
-use Rattle.mdb_stretches.specs.declared.summary.Summary.{Summary}
-use Rattle.mdb_stretches.specs.declared.surveyor.Surveyor.{Surveyor}
-use Rattle.mdb_stretches.specs.Surveyor.{StandsFor, rows_of}
-use Rattle.mdb_survey_text.specs.SurveyText.{stretch_text, summary_text}
+use Rattle.mdb_surveyor.specs.declared.stretch.Ended.{Ended}
+use Rattle.mdb_surveyor.specs.declared.stretch.Stretch.{Stretch}
+use Rattle.mdb_surveyor.specs.declared.summary.Summary.{Summary}
+use Rattle.mdb_surveyor.specs.declared.surveyor.Surveyor.{Surveyor}
+use Rattle.mdb_surveyor.specs.Surveyor.{StandsFor, rows_of}
+use Rattle.mdb_surveyor.specs.SurveyText.{stretch_text, summary_text}
 use Rattle.mdb_page.specs.Answers.{number_of}
 use Rattle.mdb_page.specs.Lines.{HasRead, IsNoRow, IsUnread}
 use Rattle.mdb_page.specs.Surveys.{AreListed, HasLine, HasNoRoom}

@@ -3,7 +3,7 @@
 use Rattle.std.specs.Prelude.{ℕ, List, ◌++◌, codes}
 use Rattle.std.specs.Fmt.{decimal}
 use Rattle.json.specs.Print.{quoted}
-use Rattle.mdb_blocks.specs.Block.{block_of}
+use Rattle.mdb_words.specs.Block.{block_of}
 use Rattle.mdb_msgs.specs.declared.command.Command.{Command}
 use Rattle.mdb_msgs.specs.Commands.{command_bytes, device_of}
 use Rattle.mdb_msgs.specs.Devices.{device_word}

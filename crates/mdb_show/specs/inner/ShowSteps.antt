@@ -6,7 +6,7 @@ use Rattle.mdb_bus.specs.declared.act.Act.{Act}
 use Rattle.mdb_bus.specs.declared.act.Act.TheVariants as acts
 use Rattle.mdb_bus.specs.declared.bus.Bus.{Bus}
 use Rattle.mdb_bus.specs.declared.fault.LinkFault.{LinkFault}
-use Rattle.mdb_bus.specs.ActLists.{ArePieces, Piece, events_of}
+use Rattle.mdb_bus.specs.ActLists.{IsActList, Piece, events_of}
 use Rattle.mdb_bus.specs.Bus.{StandsFor, scope_of}
 use Rattle.mdb_bus.specs.LinkFaults.{IsLinkFault}
 use Rattle.mdb_verdict.specs.declared.fault.RunFault.{RunFault}
@@ -47,62 +47,49 @@ pub record HasShown (form : LineForm) (scope : Scope) (lines : Lines)
   pub few : lines.shown ≤ lines.rows
   pub written : Puts before after (lines_of form (closed_pieces pieces))
 
--- pieces of earlier rows and of the first of some rows
-pub record LeadInto (scope : Scope) (earlier rows : List Event) (pieces : List Piece) : Type 0 where
-  pub front : List Event
-  pub rest : List Event
-  pub parts : rows ≡ front ++ rest
-  pub are : events_of pieces ≡ earlier ++ front
-  pub in_order : ArePieces scope pieces
-
--- The text is the lines of the closed pieces of earlier rows and of the first of some rows.
-pub record IsAddedInPart (form : LineForm) (scope : Scope) (earlier rows : List Event)
-    (text : List ℕ) : Type 0 where
+-- These rows have an act list, and the text is the lines of its closed pieces.
+pub record HasLines (form : LineForm) (scope : Scope) (rows : List Event) (text : List ℕ)
+    : Type 0 where
   pub pieces : List Piece
-  pub lead : LeadInto scope earlier rows pieces
+  pub list : IsActList scope pieces rows
   pub lines : text ≡ lines_of form (closed_pieces pieces)
 
--- One of some rows breaks a rule of the link. The text is the lines of the closed pieces before it,
--- and its own.
-pub record IsAddedToFault (form : LineForm) (scope : Scope) (earlier rows : List Event)
+-- The row after these breaks a rule of the link. The text is the lines of the closed pieces before
+-- it, and its own.
+pub record HasFaultLine (form : LineForm) (scope : Scope) (rows : List Event) (row : Event)
     (fault : LinkFault) (text : List ℕ) : Type 0 where
   pub pieces : List Piece
-  pub row : Event
-  pub after : List Event
-  pub lead : LeadInto scope earlier rows pieces
-  pub next : lead.rest ≡ row ∷ after
+  pub list : IsActList scope pieces rows
   pub is : IsLinkFault scope pieces row fault.rule fault.blame
-  pub lines : text ≡ lines_of form (closed_pieces pieces)
-      ++ form.fault (length (events_of pieces) + 1) fault
+  pub lines : text ≡ lines_of form (closed_pieces pieces) ++ form.fault (length rows + 1) fault
 
--- a text that the adding of the lines of some rows may come to
-abbrev pub IsAdded : LineForm → Scope → List Event → List Event → List ℕ → Type 0
-IsAdded form scope earlier rows text =
-    IsAddedInPart form scope earlier rows text
-    ⊎ ((fault : LinkFault) × IsAddedToFault form scope earlier rows fault text)
+-- a text that the adding of the lines of a row may come to
+abbrev pub IsAdded : LineForm → Scope → List Event → Event → List ℕ → Type 0
+IsAdded form scope rows row text = HasLines form scope (rows ++ row ∷ []) text
+    ⊎ ((fault : LinkFault) × HasFaultLine form scope rows row fault text)
 
--- what the adding of the lines of some rows after earlier ones comes to
-abbrev pub HasAdded : LineForm → Scope → Lines → Output → Output → List Event → List Event
+-- what the adding of the lines of a row after earlier ones comes to
+abbrev pub HasAdded : LineForm → Scope → Lines → Output → Output → List Event → Event
     → Result (Option LinkFault) RunFault → Type 0
-HasAdded form scope lines before after earlier rows (Ok None) =
-    HasShown form scope lines before after (earlier ++ rows)
-HasAdded form scope lines before after earlier rows (Ok (Some fault)) =
-    (text : List ℕ) × IsAddedToFault form scope earlier rows fault text × Puts before after text
-HasAdded form scope lines before after earlier rows (Err (BadRow row fault)) = ⊥
-HasAdded form scope lines before after earlier rows (Err TooLong) = ⊥
-HasAdded form scope lines before after earlier rows (Err Read) = ⊥
-HasAdded form scope lines before after earlier rows (Err Write) =
-    (text : List ℕ) × IsAdded form scope earlier rows text × Breaks before after text
-HasAdded form scope lines before after earlier rows (Err Memory) =
-    (text : List ℕ) × IsAddedInPart form scope earlier rows text × Puts before after text
+HasAdded form scope lines before after rows row (Ok None) =
+    HasShown form scope lines before after (rows ++ row ∷ [])
+HasAdded form scope lines before after rows row (Ok (Some fault)) =
+    (text : List ℕ) × HasFaultLine form scope rows row fault text × Puts before after text
+HasAdded form scope lines before after rows row (Err (BadRow number fault)) = ⊥
+HasAdded form scope lines before after rows row (Err TooLong) = ⊥
+HasAdded form scope lines before after rows row (Err Read) = ⊥
+HasAdded form scope lines before after rows row (Err Write) =
+    (text : List ℕ) × IsAdded form scope rows row text × Breaks before after text
+HasAdded form scope lines before after rows row (Err Memory) =
+    (text : List ℕ) × HasLines form scope rows text × Puts before after text
 
--- the same where one of the rows was stopped at
-abbrev pub HasStopped : LineForm → Scope → Lines → Output → Output → List Event → List Event
+-- the same where the row was stopped at
+abbrev pub HasStopped : LineForm → Scope → Lines → Output → Output → List Event → Event
     → Result LinkFault RunFault → Type 0
-HasStopped form scope lines before after earlier rows (Ok fault) =
-    HasAdded form scope lines before after earlier rows (Ok (Some fault))
-HasStopped form scope lines before after earlier rows (Err fault) =
-    HasAdded form scope lines before after earlier rows (Err fault)
+HasStopped form scope lines before after rows row (Ok fault) =
+    HasAdded form scope lines before after rows row (Ok (Some fault))
+HasStopped form scope lines before after rows row (Err fault) =
+    HasAdded form scope lines before after rows row (Err fault)
 
 -- what `ShowsIn` says, where some of the text may still be on its way
 abbrev pub PutsShowing : LineForm → Scope → List (List (List ℕ)) → Output → Output

@@ -1,21 +1,21 @@
 -- How the lines of a survey come about, row by row, in whatever form. This file serves private
 -- functions and proofs: no public clause cites it.
-use Rattle.std.specs.Prelude.{◌≡◌, ℕ, List, ◌++◌, length, Result, IfErr, IfOk, OnOk}
+use Rattle.std.specs.Prelude.{◌≡◌, ℕ, List, [], ◌∷◌, ◌++◌, length, Result, IfErr, IfOk, OnOk}
 use Rattle.mdb_words.specs.declared.event.Event.{Event}
 use Rattle.mdb_bus.specs.declared.scope.Scope.{Scope}
-use Rattle.mdb_stretches.specs.declared.stretch.Ended.{Ended}
-use Rattle.mdb_stretches.specs.declared.stretch.Stretch.{Stretch}
-use Rattle.mdb_stretches.specs.declared.surveyor.Surveyor.{Surveyor}
-use Rattle.mdb_stretches.specs.Stretches.{IsSurvey}
-use Rattle.mdb_stretches.specs.Summaries.{summary_of}
-use Rattle.mdb_stretches.specs.Surveyor.{StandsFor, rows_of}
+use Rattle.mdb_surveyor.specs.declared.stretch.Ended.{Ended}
+use Rattle.mdb_surveyor.specs.declared.stretch.Stretch.{Stretch}
+use Rattle.mdb_surveyor.specs.declared.surveyor.Surveyor.{Surveyor}
+use Rattle.mdb_surveyor.specs.Stretches.{IsSurvey}
+use Rattle.mdb_surveyor.specs.Summaries.{summary_of}
+use Rattle.mdb_surveyor.specs.Surveyor.{StandsFor, rows_of}
 use Rattle.mdb_verdict.specs.declared.fault.RunFault.{RunFault}
 use Rattle.mdb_verdict.specs.declared.fault.RunFault.TheVariants.{BadRow, TooLong, Read, Write, Memory}
 use Rattle.mdb_verdict.specs.Telling.{IsNotTaken}
 use Rattle.mdb_writing.specs.Answers.{IsSent}
 use Rattle.mdb_writing.specs.Output.{Breaks, Output, Puts}
-use Rattle.mdb_stretches.specs.declared.summary.Summary.{Summary}
-use Rattle.mdb_survey_text.specs.Lines.{LineForm, lines_of}
+use Rattle.mdb_surveyor.specs.declared.summary.Summary.{Summary}
+use Rattle.mdb_surveyor.specs.Lines.{LineForm, lines_of}
 use Rattle.mdb_survey.specs.Survey.{IsSurveying}
 
 -- A surveyor stands for the rows so far, and the lines of their faults, each with the stretch that
@@ -35,16 +35,16 @@ pub record LeadInto (scope : Scope) (rows : List Event) (ended : List Ended) : T
   pub last : Stretch
   pub survey : IsSurvey scope front ended last
 
--- One of these rows ended a stretch, and the lines of that and of the fault weren't taken: with
+-- The row after these ended a stretch, and the lines of that and of the fault weren't taken: with
 -- want of memory those before them are on their way, and where the writer failed it took a front of
 -- all.
-abbrev pub HasStopped : LineForm → Scope → Output → Output → List Event → RunFault → Type 0
-HasStopped form scope before after rows (BadRow row fault) = ⊥
-HasStopped form scope before after rows TooLong = ⊥
-HasStopped form scope before after rows Read = ⊥
-HasStopped form scope before after rows Write =
-    (ended : List Ended) × LeadInto scope rows ended × Breaks before after (lines_of form ended)
-HasStopped form scope before after rows Memory =
+abbrev pub HasStopped : LineForm → Scope → Output → Output → List Event → Event → RunFault → Type 0
+HasStopped form scope before after rows row (BadRow number fault) = ⊥
+HasStopped form scope before after rows row TooLong = ⊥
+HasStopped form scope before after rows row Read = ⊥
+HasStopped form scope before after rows row Write = (ended : List Ended)
+    × LeadInto scope (rows ++ row ∷ []) ended × Breaks before after (lines_of form ended)
+HasStopped form scope before after rows row Memory =
     (ended : List Ended) × LeadInto scope rows ended × Puts before after (lines_of form ended)
 
 -- The lines of the stretch that runs are on their way, or weren't taken.

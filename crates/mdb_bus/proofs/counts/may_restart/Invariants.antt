@@ -1,3 +1,4 @@
+-- No message so far decides whether there was a restart, so the rest decides it.
 use Rattle.mdb_bus.proofs.Words.{may_restart, ◌≡◌}
 use Rattle.mdb_bus.proofs.counts.may_restart.Given as goal
 

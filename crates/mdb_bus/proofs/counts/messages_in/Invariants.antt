@@ -1,3 +1,4 @@
+-- The list has the messages seen that count, so it is no longer than what was seen.
 use Rattle.mdb_bus.proofs.Words.{counts, filter, length, ◌++◌, ◌≡◌, ◌≤◌}
 use Rattle.arrayvec.specs.ArrayVec.{array_vec_len}
 use Rattle.mdb_bus.proofs.counts.messages_in.Given as goal

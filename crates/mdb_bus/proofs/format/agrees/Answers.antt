@@ -1,3 +1,4 @@
+-- A reply that isn't a reader's is the same in each reading.
 use Rattle.mdb_bus.proofs.Words.{ap, what_counts}
 use Rattle.mdb_bus.proofs.FormatLaws.{same_plain}
 use Rattle.mdb_bus.proofs.Promises.{one_reply}

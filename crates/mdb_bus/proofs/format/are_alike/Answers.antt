@@ -1,3 +1,4 @@
+-- Bytes that agree with the reply in each of the four readings are alike.
 use Rattle.mdb_bus.proofs.Words.{refl}
 use Rattle.mdb_bus.proofs.FormatLaws.{alike_each}
 use Rattle.mdb_bus.proofs.format.are_alike.Goals as goal

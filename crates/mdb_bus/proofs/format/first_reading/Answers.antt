@@ -1,3 +1,4 @@
+-- A reading is the first where those before it have faults. Four faults make a joint one.
 use Rattle.mdb_bus.proofs.Words.{HasFault, inl, inr, refl, subst, sym}
 use Rattle.mdb_bus.specs.declared.format.Format.TheVariants.{Open}
 use Rattle.mdb_bus.proofs.FormatLaws.{in_this, joint}

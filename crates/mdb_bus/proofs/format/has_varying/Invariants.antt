@@ -1,3 +1,4 @@
+-- No message so far varies, so one of the list does where one of the rest does.
 use Rattle.mdb_bus.proofs.Words.{list_any, varies, ◌≡◌}
 use Rattle.mdb_bus.proofs.format.has_varying.Given as goal
 

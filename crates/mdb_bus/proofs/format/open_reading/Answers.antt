@@ -1,3 +1,4 @@
+-- The first reading gives a reply, so there is one to compare the others with.
 use Rattle.mdb_bus.proofs.FormatLaws.{some_of}
 use Rattle.mdb_bus.proofs.format.open_reading.Goals as goal
 

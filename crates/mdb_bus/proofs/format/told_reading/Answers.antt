@@ -1,3 +1,5 @@
+-- A plain list is the same in each reading. Other bytes are read openly, or as the first of the two
+-- levels that gives a reply.
 use Rattle.mdb_bus.proofs.Words.{inl, inr, IsReadFault, subst}
 use Rattle.mdb_bus.proofs.FormatLaws.{plain_open, told_in}
 use Rattle.mdb_bus.proofs.Promises.{one_reply}

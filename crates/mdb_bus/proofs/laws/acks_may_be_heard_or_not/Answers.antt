@@ -1,3 +1,4 @@
+-- An ACK is a free act, so a loss that hears each free act as wished hears each ACK so.
 use Rattle.mdb_bus.proofs.Words.{nothing_told}
 use Rattle.mdb_bus.proofs.Fitting.{acks_wished}
 use Rattle.mdb_bus.proofs.laws.acks_may_be_heard_or_not.Goals as goal

@@ -1,3 +1,4 @@
+-- Without further devices, pieces stay in order and keep their rows.
 use Rattle.mdb_bus.proofs.Words.{◌∙◌}
 use Rattle.mdb_bus.proofs.laws.act_lists_stay_without_further_devices.Goals as goal
 

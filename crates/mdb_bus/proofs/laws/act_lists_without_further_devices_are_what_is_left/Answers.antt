@@ -1,3 +1,4 @@
+-- What is left is an act list of the rows, and these have no other.
 use Rattle.mdb_bus.specs.LeavingOut.{leave_out}
 use Rattle.mdb_bus.proofs.laws.act_lists_without_further_devices_are_what_is_left.Goals as goal
 

@@ -1,3 +1,4 @@
+-- The rows without the last one have an act list, and so does each front.
 use Rattle.mdb_bus.proofs.OneActList.{fronts}
 use Rattle.mdb_bus.proofs.laws.fronts_of_act_lists_have_act_lists.Goals as goal
 

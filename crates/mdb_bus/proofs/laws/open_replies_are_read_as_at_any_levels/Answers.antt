@@ -1,3 +1,4 @@
+-- A reply is read openly only where all readings say the same, and else it is left out.
 use Rattle.mdb_bus.proofs.FormatLaws.{agree, leave_out}
 use Rattle.mdb_bus.proofs.Promises.{one_reply}
 use Rattle.mdb_bus.proofs.laws.open_replies_are_read_as_at_any_levels.Goals as goal

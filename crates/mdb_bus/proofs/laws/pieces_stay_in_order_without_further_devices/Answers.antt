@@ -1,3 +1,5 @@
+-- What is of a device that is left out becomes foreign acts of the same rows, which may stand
+-- there.
 use Rattle.mdb_bus.proofs.LeftOutOrder.{in_order, same_rows, where_without}
 use Rattle.mdb_bus.proofs.laws.pieces_stay_in_order_without_further_devices.Goals as goal
 

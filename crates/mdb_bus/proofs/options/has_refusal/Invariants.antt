@@ -1,3 +1,4 @@
+-- No message so far is a refusal, so the list has one where the rest does.
 use Rattle.mdb_bus.proofs.Words.{is_refusal, list_any, ◌≡◌}
 use Rattle.mdb_bus.proofs.options.has_refusal.Given as goal
 

@@ -1,3 +1,4 @@
+-- The extended profile enables each type that the base profile does, however a recording begins.
 use Rattle.mdb_cash.specs.Bill as bill
 use Rattle.mdb_cash.specs.BillFacts as bill_facts
 use Rattle.mdb_cash.specs.Changer as changer

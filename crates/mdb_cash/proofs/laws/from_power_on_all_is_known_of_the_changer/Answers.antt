@@ -1,3 +1,4 @@
+-- Each fact of the changer is known from power-on, so its steps are those by these facts.
 use Rattle.mdb_cash.proofs.Words.{power_on_known, power_on_steps}
 use Rattle.mdb_cash.specs.Changer.{conduct}
 use Rattle.mdb_cash.specs.ChangerFacts.{tables}

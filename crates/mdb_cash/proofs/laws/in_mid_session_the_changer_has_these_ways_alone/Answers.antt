@@ -1,3 +1,4 @@
+-- Each guess of what the changer held before the recording leads to one of these ways.
 use Rattle.mdb_cash.proofs.Words.{refl, Changer, CashBox, held_ways, no_way, settled_steps, silent_way}
 use Rattle.mdb_msgs.specs.declared.command.ChangerCommand.TheVariants.{Poll}
 use Rattle.mdb_cash.specs.Changer.{conduct}

@@ -1,3 +1,4 @@
+-- Each guess of what the validator held before the recording leads to one of these ways.
 use Rattle.mdb_cash.proofs.Words.{◌≡◌, ap, refl, Bill, Stacked, held_ways, no_way, settled_steps, silent_way}
 use Rattle.mdb_msgs.specs.declared.command.BillCommand.TheVariants.{Poll}
 use Rattle.mdb_cash.specs.declared.bill.state.BillState.{BillState}

@@ -1,3 +1,4 @@
+-- Each step goes over with its code raised, in order, until all have.
 use Rattle.mdb_cashless.proofs.Words.{◌≡◌, ◌+◌, [], ◌∙◌, ap, arith, length, subst, take-length, take_more, Contains-get_or, READER_STATES, AreCoded, coded_more, take}
 use Rattle.mdb_cashless.proofs.by_profile.raised.Goals as goal
 

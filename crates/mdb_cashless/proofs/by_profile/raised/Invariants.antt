@@ -1,3 +1,4 @@
+-- The list has the steps so far, with their codes raised.
 use Rattle.mdb_cashless.proofs.Words.{◌+◌, ◌≤◌, array_vec_len, READER_STATES, AreCoded, take}
 use Rattle.mdb_cashless.proofs.by_profile.raised.Given as goal
 

@@ -1,3 +1,4 @@
+-- A VEND SUCCESS needs an approved sale, and where one is approved it has a step.
 use Rattle.mdb_cashless.proofs.Words.{[], ◌∷◌, refl, controller_gains, in_slots, ReaderCommand}
 use Rattle.mdb_cashless.proofs.ApprovedSales.{is_told, may_be_told}
 use Rattle.mdb_cashless.proofs.Sales.{own_of_unit}

@@ -1,3 +1,4 @@
+-- A break brings no config message, and reports no amount.
 use Rattle.mdb_cashless.proofs.ByProfileKnown.{no_config, none_told}
 use Rattle.mdb_cashless.proofs.laws.breaks_tell_nothing_of_a_reader.Goals as goal
 

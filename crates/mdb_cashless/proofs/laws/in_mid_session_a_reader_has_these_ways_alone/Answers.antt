@@ -1,3 +1,4 @@
+-- A few guesses of what isn't known are enough, and each leads to one of these ways.
 use Rattle.mdb_cashless.proofs.MidSession.{acked, replied, sent, settled_way}
 use Rattle.mdb_cashless.proofs.laws.in_mid_session_a_reader_has_these_ways_alone.Goals as goal
 

@@ -1,3 +1,4 @@
+-- Each sale that the extended profile approves is one by the base profile's law, one after another.
 use Rattle.mdb_cashless.proofs.Words.{inl, inr}
 use Rattle.mdb_cashless.proofs.ApprovedSales.{approved}
 use Rattle.mdb_cashless.proofs.laws.sales_of_the_extended_profile_are_approved.Goals as goal

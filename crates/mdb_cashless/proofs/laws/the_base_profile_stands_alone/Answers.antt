@@ -1,3 +1,4 @@
+-- By the base profile, each definition for either profile is the one for the base profile.
 use Rattle.mdb_cashless.proofs.Words.{refl}
 use Rattle.mdb_cashless.proofs.laws.the_base_profile_stands_alone.Goals as goal
 

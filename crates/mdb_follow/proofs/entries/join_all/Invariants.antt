@@ -1,3 +1,4 @@
+-- The join so far is that of the cells before this place.
 use Rattle.mdb_follow.proofs.Words.{◌≡◌, take, joined_cells}
 use Rattle.mdb_follow.proofs.entries.join_all.Given as goal
 

@@ -1,3 +1,4 @@
+-- Before an offence the rows are reached, so only one row offends, and it does so once.
 use Rattle.mdb_follow.proofs.Cuts.{one-of-rows}
 use Rattle.mdb_follow.proofs.laws.lists_have_one_offence.Goals as goal
 

@@ -1,3 +1,4 @@
+-- Without further devices, rows still have an act list and runs, so they have a report.
 use Rattle.mdb_follow.proofs.ReportsWithout.{report_without}
 use Rattle.mdb_follow.proofs.laws.reports_go_on_without_further_devices.Goals as goal
 

@@ -1,3 +1,4 @@
+-- The rows have one act list, and that tells nothing of a device that is left out.
 use Rattle.mdb_follow.proofs.ReportsWithout.{nothing_left}
 use Rattle.mdb_follow.proofs.laws.reports_have_nothing_of_devices_left_out.Goals as goal
 

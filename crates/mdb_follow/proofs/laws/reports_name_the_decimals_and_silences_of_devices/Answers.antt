@@ -1,3 +1,4 @@
+-- The rows have one act list, so the report has of each device what this list tells.
 use Rattle.mdb_follow.proofs.Words.{ap}
 use Rattle.mdb_follow.proofs.Told.{device-told}
 use Rattle.mdb_follow.proofs.laws.reports_name_the_decimals_and_silences_of_devices.Goals as goal

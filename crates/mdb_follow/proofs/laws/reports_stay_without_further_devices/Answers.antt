@@ -1,3 +1,4 @@
+-- What is left of the act list tells the same of each device that is still followed.
 use Rattle.mdb_follow.proofs.ReportsWithout.{same_followed}
 use Rattle.mdb_follow.proofs.laws.reports_stay_without_further_devices.Goals as goal
 

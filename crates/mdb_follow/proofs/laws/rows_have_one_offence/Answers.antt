@@ -1,3 +1,4 @@
+-- A row ends an act of the one act list or breaks one rule of the link, and not both.
 use Rattle.mdb_follow.proofs.OneAnswer.{one-offence}
 use Rattle.mdb_follow.proofs.laws.rows_have_one_offence.Goals as goal
 

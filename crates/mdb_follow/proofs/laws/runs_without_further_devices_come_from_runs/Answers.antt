@@ -1,3 +1,4 @@
+-- What is left is the smaller act list, and devices left out go the ways of the reached rows.
 use Rattle.mdb_follow.proofs.LeavingOut.{run_with}
 use Rattle.mdb_follow.proofs.laws.runs_without_further_devices_come_from_runs.Goals as goal
 

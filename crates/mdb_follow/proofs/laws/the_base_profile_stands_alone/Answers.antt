@@ -1,3 +1,4 @@
+-- By the base profile no haste excuses a row, and no row counts as out of its time.
 use Rattle.mdb_follow.proofs.Words.{sender_of}
 use Rattle.mdb_follow.proofs.laws.the_base_profile_stands_alone.Goals as goal
 

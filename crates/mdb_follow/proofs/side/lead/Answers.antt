@@ -1,3 +1,4 @@
+-- Where the table has no step, its device has none. Else table, facts and count go on by the act.
 use Rattle.mdb_follow.proofs.Words.{arith, refl, added}
 use Rattle.mdb_follow.proofs.side.lead.Goals as goal
 

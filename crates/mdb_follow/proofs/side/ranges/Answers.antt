@@ -1,3 +1,4 @@
+-- The ranges of a side are those of its table.
 use Rattle.mdb_follow.proofs.side.ranges.Goals as goal
 
 pub returns-clause-exact : goal.returns-clause-exact

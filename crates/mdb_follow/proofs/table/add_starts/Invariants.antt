@@ -1,3 +1,4 @@
+-- The entries are those of the states below this code in which a pair may start.
 use Rattle.mdb_follow.proofs.Starts.{AreStarts}
 use Rattle.mdb_follow.proofs.table.add_starts.Given as goal
 

@@ -1,3 +1,4 @@
+-- The act leaves each entry before this place as it is.
 use Rattle.mdb_follow.proofs.Words.{take, Beginning, AllRest}
 use Rattle.mdb_follow.proofs.table.all_rest.Given as goal
 

@@ -1,3 +1,4 @@
+-- An account that the device keeps adds its member, and any other adds none.
 use Rattle.mdb_json.proofs.Words.{ALL, account_member, keeps, sym, ◌∙◌}
 use Rattle.mdb_json.proofs.Objects.{one_passed_over, one_taken}
 use Rattle.mdb_json.proofs.account.accounts_of.Goals as goal

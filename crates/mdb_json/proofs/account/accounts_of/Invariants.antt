@@ -1,3 +1,4 @@
+-- Each round adds at most one member, so they stand in the order of all accounts.
 use Rattle.mdb_json.proofs.Words.{account_member, filter, keeps, map, members, members_view, take, ◌≡◌}
 use Rattle.mdb_json.proofs.account.accounts_of.Given as goal
 

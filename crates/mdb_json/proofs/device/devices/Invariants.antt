@@ -1,3 +1,4 @@
+-- Each round adds the member of one device, so they stand in the order of all devices.
 use Rattle.mdb_json.proofs.Words.{device_member, map, members, members_view, take, ◌≡◌}
 use Rattle.mdb_json.proofs.device.devices.Given as goal
 

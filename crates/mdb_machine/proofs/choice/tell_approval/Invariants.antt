@@ -1,3 +1,4 @@
+-- No message so far approves a sale, so one does where one of the rest does.
 use Rattle.mdb_machine.proofs.Words.{◌≡◌, list_any, is_approval}
 use Rattle.mdb_machine.proofs.choice.tell_approval.Given as goal
 

@@ -1,3 +1,4 @@
+-- An ACK of anything but POLL steps as the device's own conduct says.
 use Rattle.mdb_machine.proofs.Words.{Bool, Some, sym, subst, ◌∙◌, AckStep, facts_in, IsOnlyStep}
 use Rattle.mdb_machine.proofs.conduct.ack.Goals as goal
 

@@ -1,3 +1,4 @@
+-- A step that is added stands in the list beside those that were there.
 use Rattle.mdb_machine.proofs.Knowing.{with_one}
 use Rattle.mdb_machine.proofs.conduct.add_step.Goals as goal
 

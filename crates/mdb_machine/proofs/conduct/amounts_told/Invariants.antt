@@ -1,3 +1,4 @@
+-- The count is that of the messages so far that report money, at most one for each.
 use Rattle.mdb_machine.proofs.Words.{◌≡◌, ◌≤◌, sum_by, take, one_if}
 use Rattle.mdb_machine.proofs.conduct.amounts_told.Given as goal
 

@@ -1,3 +1,4 @@
+-- Where an act is settled, the known facts suffice, so this step is the only one.
 use Rattle.mdb_machine.proofs.Knowing.{settled_only}
 use Rattle.mdb_machine.proofs.conduct.step_settled.Goals as goal
 

@@ -1,3 +1,4 @@
+-- A settled act has the one step. An act that is open is an ask or a reply.
 use Rattle.mdb_machine.proofs.Words.{sym, ◌∙◌}
 use Rattle.mdb_machine.proofs.Knowing.{only_open, settled_steps, small_more, small_none}
 use Rattle.mdb_machine.proofs.conduct.steps.Goals as goal

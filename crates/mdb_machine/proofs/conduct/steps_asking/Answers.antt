@@ -1,3 +1,4 @@
+-- An open ask repeats the command asked last or not, and both cases give all its steps.
 use Rattle.mdb_machine.proofs.Words.{facts_in}
 use Rattle.mdb_machine.proofs.Knowing.{asked_steps, small_more, small_none}
 use Rattle.mdb_machine.proofs.conduct.steps_asking.Goals as goal

@@ -1,3 +1,4 @@
+-- Each front of the kept messages is tried in turn, so all steps are found, and all are small.
 use Rattle.mdb_machine.proofs.Words.{◌≡◌, ◌+◌, ap, arith, refl, length, take, facts_in}
 use Rattle.mdb_machine.proofs.Knowing.{as_facts, replying_steps, small_more, small_none, tried_first, tried_more}
 use Rattle.mdb_machine.proofs.conduct.steps_replying.Goals as goal

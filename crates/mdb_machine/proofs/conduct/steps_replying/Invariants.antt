@@ -1,3 +1,4 @@
+-- The steps so far are those of the fronts tried and of another list, at most one for each.
 use Rattle.mdb_machine.proofs.Words.{◌≤◌, ◌+◌, Contains, array_vec_len, Gains, IsSmall}
 use Rattle.mdb_machine.proofs.Knowing.{TriedTo}
 use Rattle.mdb_machine.proofs.conduct.steps_replying.Given as goal

@@ -1,3 +1,4 @@
+-- Without a setup, each amount that an act tells has no value.
 use Rattle.mdb_machine.proofs.Words.{ap, sym, ◌∙◌}
 use Rattle.mdb_machine.proofs.Knowing.{all_unvalued}
 use Rattle.mdb_machine.proofs.conduct.unvalued_by.Goals as goal

@@ -1,3 +1,4 @@
+-- The ACK of a reply that isn't to POLL changes what the device holds, and no sum.
 use Rattle.mdb_machine.proofs.Words.{sym, ◌∙◌, refl}
 use Rattle.mdb_machine.proofs.KeeperSteps.{acknowledged}
 use Rattle.mdb_machine.proofs.Sizes.{summary_fits}

@@ -1,3 +1,4 @@
+-- One message more adds its gain to each account, and all sums stay small.
 use Rattle.mdb_machine.proofs.Words.{◌≡◌, ◌+◌, ◌*◌, ◌≤◌, ℕ, List, take, arith, ap, sym, ◌∙◌, subst, AllByRecursion, worth, facts_in}
 use Rattle.std.proofs.lemmas.List.Sums.{sum_by_more}
 use Rattle.mdb_machine.proofs.Slots.{two_by_slot}

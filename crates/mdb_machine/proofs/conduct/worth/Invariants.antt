@@ -1,3 +1,4 @@
+-- Each account has the gains of the messages so far, with a bound for each message.
 use Rattle.mdb_machine.proofs.Words.{◌≡◌, ◌*◌, ◌≤◌, take, AllByRecursion, by_slot, worth, facts_in}
 use Rattle.mdb_machine.proofs.conduct.worth.Given as goal
 

@@ -1,3 +1,4 @@
+-- If all amounts are small, that of each slot is.
 use Rattle.mdb_machine.proofs.Words.{◌<◌, ◌^◌, subst, sym}
 use Rattle.mdb_machine.proofs.Slots.{small_at}
 use Rattle.mdb_machine.proofs.gains.by_slot.Goals as goal

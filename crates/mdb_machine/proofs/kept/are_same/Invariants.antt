@@ -1,3 +1,4 @@
+-- Both lists are the same up to this place.
 use Rattle.mdb_machine.proofs.Words.{◌≡◌, take}
 use Rattle.mdb_machine.proofs.kept.are_same.Given as goal
 

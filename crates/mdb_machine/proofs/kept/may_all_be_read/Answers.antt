@@ -1,3 +1,4 @@
+-- Messages without a reset message can't be read as a restart.
 use Rattle.mdb_machine.proofs.KeptLists.{no_restart}
 use Rattle.mdb_machine.proofs.kept.may_all_be_read.Goals as goal
 

@@ -1,3 +1,4 @@
+-- The summary of one message more is that of the messages before, with this one added.
 use Rattle.mdb_machine.proofs.Words.{◌≡◌, ◌+◌, ◌++◌, [], ◌∷◌, ◌∙◌, List, ap, sym, subst, map, take, arith, map_more, Part, IsSummary}
 use Rattle.mdb_machine.proofs.kept.summary_of.Goals as goal
 

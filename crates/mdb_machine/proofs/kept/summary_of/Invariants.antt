@@ -1,3 +1,4 @@
+-- The summary is that of the messages so far, and keeps at most as many.
 use Rattle.mdb_machine.proofs.Words.{◌≤◌, map, take, array_vec_len, IsSummary}
 use Rattle.mdb_machine.proofs.kept.summary_of.Given as goal
 

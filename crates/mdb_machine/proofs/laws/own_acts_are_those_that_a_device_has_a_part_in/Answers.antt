@@ -1,3 +1,4 @@
+-- Each act is picked or left by the test, which says whether the device has a part in it.
 use Rattle.mdb_machine.specs.shared.OwnWays.{decides, with_other, with_own}
 use Rattle.mdb_machine.proofs.laws.own_acts_are_those_that_a_device_has_a_part_in.Goals as goal
 

@@ -1,3 +1,4 @@
+-- Each step goes over with the code of its state, in order, until all have.
 use Rattle.mdb_machine.proofs.Words.{◌≡◌, ◌++◌, ◌∷◌, [], ◌∙◌, ap, arith, length, subst, sym, take, take-length, take_more}
 use Rattle.mdb_machine.proofs.StepCodes.{AreCoded, coded_more}
 use Rattle.mdb_machine.proofs.pair.coded.Goals as goal

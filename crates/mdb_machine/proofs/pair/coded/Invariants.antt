@@ -1,3 +1,4 @@
+-- The list has the steps so far, each with the code of its state.
 use Rattle.mdb_machine.proofs.Words.{◌≤◌, take, array_vec_len}
 use Rattle.mdb_machine.proofs.StepCodes.{AreCoded}
 use Rattle.mdb_machine.proofs.pair.coded.Given as goal

@@ -1,3 +1,4 @@
+-- No message so far reports a command out of sequence, so one does where one of the rest does.
 use Rattle.mdb_machine.proofs.Words.{◌≡◌, list_any, is_out_of_sequence}
 use Rattle.mdb_machine.proofs.past.tell_out_of_sequence.Given as goal
 

@@ -1,3 +1,4 @@
+-- At the addresses of both readers, the need is what the second byte tells, if it is there.
 use Rattle.mdb_msgs.proofs.Words.{◌≡◌, common_steps, need, slice_index, slice_get, sym, ap, ◌∙◌, arith}
 use Rattle.mdb_msgs.proofs.Addresses.{at_first, at_second, need_at}
 use Rattle.mdb_msgs.proofs.needs.need_by_second.Goals as goal

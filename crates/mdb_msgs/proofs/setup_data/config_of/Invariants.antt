@@ -1,3 +1,4 @@
+-- The last config message is in the rest, or else it is the last one seen.
 use Rattle.mdb_msgs.proofs.Words.{◌≡◌, last_config, or_else}
 use Rattle.mdb_msgs.proofs.setup_data.config_of.Given as goal
 

@@ -1,3 +1,4 @@
+-- The last level reported is in the rest, or else it is the last one seen.
 use Rattle.mdb_msgs.proofs.Words.{◌≡◌, last_level, option_or}
 use Rattle.mdb_msgs.proofs.setup_data.last_level.Given as goal
 

@@ -1,6 +1,6 @@
 -- The lines so far are surveyed.
 use Rattle.mdb_page.proofs.Words.{LINES_ROOM, ROWS_MAX, length, ◌≡◌, ◌≤◌}
-use Rattle.mdb_stretches.specs.Surveyor.{rows_of}
+use Rattle.mdb_surveyor.specs.Surveyor.{rows_of}
 use Rattle.mdb_page.proofs.Surveys.{Reads}
 use Rattle.mdb_page.proofs.survey.survey_lines.Given as goal
 

@@ -1,3 +1,4 @@
+-- What is left of the text gets shorter with each line, so the reading ends.
 use Rattle.std.proofs.Common.{length, ◌≤◌}
 use Rattle.mdb_page.proofs.weights.next_act.Given as goal
 

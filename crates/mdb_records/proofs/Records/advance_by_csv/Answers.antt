@@ -1,3 +1,4 @@
+-- csv reads the next record to come. A text over the limit always has a next one.
 use Rattle.mdb_records.proofs.Records.advance_by_csv.Goals as goal
 use Rattle.mdb_records.proofs.ReadingFacts.{AreBytes-fields, goes-on, over-goes-on}
 

@@ -1,3 +1,4 @@
+-- csv takes over the source that was there, and then no field stands in a line.
 use Rattle.mdb_records.proofs.PartFacts.{csv-within}
 use Rattle.mdb_records.proofs.Records.hand_over.Goals as goal
 

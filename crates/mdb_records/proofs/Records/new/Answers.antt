@@ -1,3 +1,4 @@
+-- The reader of lines is given all of the text up to the limit, so all records are to come.
 use Rattle.mdb_records.proofs.Words.{◌≡◌, None, refl, option_map, strip_bom, lines_given, given_of}
 use Rattle.mdb_records.proofs.LineFacts.{gives-below}
 use Rattle.mdb_records.proofs.ReadingFacts.{new-over, new-to-come, new-within}

@@ -1,3 +1,4 @@
+-- The last record stands in a line as its parts, and elsewhere as csv read it.
 use Rattle.mdb_records.proofs.Words.{refl}
 use Rattle.mdb_records.proofs.ReadingFacts.{fields-by-csv}
 use Rattle.mdb_records.proofs.Records.row.Goals as goal

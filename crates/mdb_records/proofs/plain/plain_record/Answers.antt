@@ -1,3 +1,4 @@
+-- A byte that means itself goes on, a comma ends a field, and a line's end ends the record.
 use Rattle.mdb_records.proofs.Words.{◌≡◌, ◌<◌, ◌+◌, refl, length, arith, parted}
 use Rattle.mdb_records.proofs.PartFacts.{next-after, next_start, none_within, parted-more, within-more, within-push}
 use Rattle.mdb_records.proofs.PlainFacts.{none-own, own-front, own-more, reads-field, reads-line}

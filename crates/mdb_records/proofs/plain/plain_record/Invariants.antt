@@ -1,3 +1,4 @@
+-- The fields found so far are csv's, and each round comes nearer to the end of the text.
 use Rattle.mdb_records.proofs.Words.{parted, ◌≤◌, ◌-◌, All, length, AreWithin}
 use Rattle.mdb_records.proofs.PartFacts.{next_start}
 use Rattle.mdb_records.proofs.PlainFacts.{ReadsOnAt, IsOwn, part}

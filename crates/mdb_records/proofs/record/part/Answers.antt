@@ -1,3 +1,4 @@
+-- A field starts after the comma of the one before, and the first one at the start of the line.
 use Rattle.mdb_records.proofs.Words.{◌≡◌, ◌<◌, refl, arith, start_at}
 use Rattle.mdb_records.proofs.PartFacts.{none-at, part-at, start-after}
 use Rattle.mdb_records.proofs.record.part.Goals as goal

@@ -60,12 +60,12 @@ returns-in-Ok-None-clause-reads g c =
 pub returns-in-Ok-Some-clause-reads : goal.returns-in-Ok-Some-clause-reads
 returns-in-Ok-Some-clause-reads g c =
     let taker = c.read_rows.new.taker in
-    let stopped = rw c.in-Ok-Some.field-0-is at c.in-Ok-Some.ensures.stopped in
     reads_output IsErr g.R.Read.remaining c.args.records.now c.read_rows.new.records
     (Err c.in-Ok-Some.fault) refl (surveyings.stop_of_output
     (survey_lines_in taker.form (profile_of taker.scope.begins)) _
     (begun (g.W.Write.contents c.args.writer.now))
-    (output (g.W.Write.contents c.read_rows.new.out) taker.printer.page) _ _ stopped.2)
+    (output (g.W.Write.contents c.read_rows.new.out) taker.printer.page) _
+    (rw c.in-Ok-Some.field-0-is at c.in-Ok-Some.ensures.stopped))
 
 pub returns-in_ok-stop-in-Err-clause-reads : goal.returns-in_ok-stop-in-Err-clause-reads
 returns-in_ok-stop-in-Err-clause-reads g c =

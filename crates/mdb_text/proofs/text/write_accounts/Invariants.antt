@@ -1,3 +1,4 @@
+-- Each round appends the line of one account to what was written.
 use Rattle.mdb_text.proofs.Words.{Appends, account_line, account_of, flat_map, take}
 use Rattle.mdb_text.proofs.text.write_accounts.Given as goal
 

@@ -1,3 +1,4 @@
+-- Each round appends the count of one device after the word.
 use Rattle.mdb_text.proofs.Words.{Appends, count_text, device_place, flat_map, get_or, take, ◌++◌}
 use Rattle.mdb_text.proofs.text.write_counts.Given as goal
 

@@ -1,3 +1,4 @@
+-- Each round appends the decimal places of one device after the word.
 use Rattle.mdb_text.proofs.Words.{Appends, codes, device_decimals, flat_map, places_text, take, ◌++◌}
 use Rattle.mdb_text.proofs.text.write_decimals.Given as goal
 

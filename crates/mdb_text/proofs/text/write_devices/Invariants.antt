@@ -1,3 +1,4 @@
+-- Each round appends the word of one device, if the device is in the set.
 use Rattle.mdb_text.proofs.Words.{Appends, flat_map, take, word_in, ◌++◌}
 use Rattle.mdb_text.proofs.text.write_devices.Given as goal
 

@@ -1,6 +1,6 @@
 -- The rows of each batch are taken up to the first that is stopped at, to a record that is none, to
 -- the limit or to the end of the text.
-use Rattle.mdb_verdict.proofs.Words.{arith, fault_of, found_by, refl, sym, ◌+◌, ◌-◌, ◌∙◌}
+use Rattle.mdb_verdict.proofs.Words.{arith, fault_of, found_by, refl, sym, ◌++◌, ◌+◌, ◌-◌, ◌∙◌}
 use Rattle.mdb_verdict.specs.declared.batch.Next.TheVariants as next
 use Rattle.mdb_verdict.proofs.Batches.{fits}
 use Rattle.mdb_verdict.proofs.Endings as endings
@@ -27,6 +27,8 @@ returns-in-Some g c =
     let taken = c.rows_taken.ensures in
     let room = c.rows_taken-in-loop-batch.ensures in
     let few = fits _ _ _ c.refill-next.ensures.fits in
+    let at = rw c.in-Some.is at
+    (c.take_all.ensures.taken c.args.out.now progress.rows progress.has) in
     record {
       ended = λ all to_come. endings.stopped progress c.refill-next.ensures.read
           c.as_slice.ensures.rows to_come
@@ -35,11 +37,7 @@ returns-in-Some g c =
       whole = λ over is. absurd (cc);
       few = λ is. absurd (cc);
       taken = λ is. absurd (cc);
-      stopped = (
-        progress.rows,
-        c.as_slice.result.now,
-        rw c.in-Some.is at (c.take_all.ensures.taken c.args.out.now progress.rows progress.has),
-      );
+      stopped = (progress.rows ++ at.front, at.row, at.stops);
       heard = tt;
       met = λ none. endings.met_stopped (fault_of c.refill-next.new.records) c.in-Some.stop;
       keeps = c.take_all.ensures.keeps ∙ c.loop-batch.invariant.keeps;

@@ -1,3 +1,4 @@
+-- The digits of a tenth come first and the last digit after them, and all have room.
 use Rattle.mdb_words.proofs.Words.{ap, ◌∙◌, arith}
 use Rattle.mdb_words.proofs.Numerals.{decimal_append, decimal_append_digit, decimal_append_digit_room, decimal_append_room, decimal_longer}
 use Rattle.mdb_words.proofs.digits.+push_decimal.Goals as goal

@@ -1,3 +1,4 @@
+-- An entry of the table is what the byte counts as a digit at that place, and within its bound.
 use Rattle.mdb_words.proofs.Words.{arith}
 use Rattle.mdb_words.proofs.Entries.{decimal_at, decimal_most}
 use Rattle.mdb_words.proofs.digits.decimal.Goals as goal

@@ -1,3 +1,4 @@
+-- A count of 100,000,000 or more has a byte that is no digit, so there is no number.
 use Rattle.mdb_words.proofs.Numerals.{few_none}
 use Rattle.mdb_words.proofs.digits.number_of_few.Goals as goal
 

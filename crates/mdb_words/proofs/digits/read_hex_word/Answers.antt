@@ -1,3 +1,4 @@
+-- A count below 512 is the word of three hexadecimal digits, and from 512 on there is none.
 use Rattle.mdb_words.proofs.Words.{arith}
 use Rattle.mdb_words.proofs.Numerals.{hex_none, hex_some}
 use Rattle.mdb_words.proofs.digits.read_hex_word.Goals as goal

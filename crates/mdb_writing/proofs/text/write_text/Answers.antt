@@ -1,3 +1,4 @@
+-- What a write takes leaves the rest and joins what was taken. An interrupted one takes nothing.
 use Rattle.std.proofs.Common.{ap, sym, ◌∙◌, ◌≡◌, ◌++◌, ◌-◌, drop, length, take}
 use Rattle.std.proofs.KnownBytes.{Appends-kept, Appends-trans}
 use Rattle.mdb_writing.proofs.Outputs.{taken_more}

@@ -1,3 +1,4 @@
+-- The writer has a front of the text, and nothing else was written.
 use Rattle.std.proofs.Common.{◌≡◌, ℕ, List, ◌++◌}
 use Rattle.std.specs.Io.KnownBytes.{Appends}
 use Rattle.mdb_writing.proofs.text.write_text.Given as goal

@@ -1,6 +1,6 @@
 -- The bus goes a step as its place advances.
 use Rattle.mdb_bus.proofs.Words.{ended_act, refl}
-use Rattle.mdb_bus.proofs.Feed.{gone_ack, gone_ask, gone_break, gone_foreign, gone_on}
+use Rattle.mdb_bus.proofs.Feed.{gone_ack, gone_ask, gone_break, gone_on}
 use Rattle.mdb_bus.proofs.bus.Bus.go.Goals as goal
 
 pub returns-in-Ask-clause-gone : goal.returns-in-Ask-clause-gone
@@ -16,12 +16,6 @@ returns-in-Ack-clause-gone c =
     c.advance-ended.result c.advance-ended.new.act c.in-Ack.is c.note.ensures refl
     c.advance-ended.ensures.advanced
 
-pub returns-in-Foreign-clause-gone : goal.returns-in-Foreign-clause-gone
-returns-in-Foreign-clause-gone c =
-    gone_foreign c.args.self.now _ c.args.event.now refl refl refl refl c.args.judged
-    (ended_act c.advance-ended.result c.advance-ended.new.act) c.in-Foreign.is refl
-    c.advance-ended.ensures.advanced
-
 pub returns-in-Break-clause-gone : goal.returns-in-Break-clause-gone
 returns-in-Break-clause-gone c =
     gone_break c.args.self.now _ c.args.event.now refl refl refl c.args.judged
@@ -32,5 +26,5 @@ pub returns-in_default-clause-gone : goal.returns-in_default-clause-gone
 returns-in_default-clause-gone c =
     gone_on c.args.self.now _ c.args.event.now refl refl refl refl c.args.judged
     (ended_act c.advance-ended.result c.advance-ended.new.act) c.in_default.not-Ask
-    c.in_default.not-Ack c.in_default.not-Foreign c.in_default.not-Break refl
+    c.in_default.not-Ack c.requires.foreign c.in_default.not-Break refl
     c.advance-ended.ensures.advanced

@@ -1,6 +1,7 @@
 -- A row is judged, and the bus goes on, or the row breaks a rule.
 use Rattle.mdb_bus.proofs.Words.{ended_act}
-use Rattle.mdb_bus.proofs.Feed.{on_ok, read_breaks, read_goes_on, sound_at, stands_on}
+use Rattle.mdb_bus.proofs.Feed.{on_ok, read_breaks, read_goes_on, sound_at, stands_by, stands_on}
+use Rattle.mdb_bus.specs.shared.Step as step
 use Rattle.mdb_bus.proofs.Verdicts.{covers_same}
 use Rattle.mdb_bus.proofs.bus.Bus.step.Goals as goal
 
@@ -28,6 +29,18 @@ returns-in-Reply-clause-breaks c pieces stands same =
     (sound_at c.args.self.now pieces stands) in
     read_breaks c.args.self.now c.args.event.now c.take_reply.result
     (rw c.in-Reply.is at (by.judged (covers_same _ _ same))) c.take_reply.ensures.rule
+
+pub returns-in-Foreign-clause-goes_on : goal.returns-in-Foreign-clause-goes_on
+returns-in-Foreign-clause-goes_on c pieces haste stands covers hastens =
+    let by = c.in-Ok.ensures.judged c.args.self.now.levels
+    (sound_at c.args.self.now pieces stands) in
+    stands_by c.args.self.now c.take_foreign.new.self haste pieces c.args.event.now stands hastens
+    step.Foreign (ended_act c.take_foreign.result c.take_foreign.new.act)
+    (rw c.in-Foreign.is at (by.judged covers)) (λ at. c.take_foreign.ensures.gone)
+
+pub returns-in-Foreign-clause-timely : goal.returns-in-Foreign-clause-timely
+returns-in-Foreign-clause-timely c pieces stands =
+    (c.in-Ok.ensures.judged c.args.self.now.levels (sound_at c.args.self.now pieces stands)).timely
 
 pub returns-in_default-clause-goes_on : goal.returns-in_default-clause-goes_on
 returns-in_default-clause-goes_on c pieces haste stands covers hastens =

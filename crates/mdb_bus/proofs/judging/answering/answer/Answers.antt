@@ -1,3 +1,4 @@
+-- A marked word that is no answer breaks the rule of answers, by any scope and levels.
 use Rattle.mdb_bus.proofs.Words.{rules}
 use Rattle.mdb_bus.proofs.Verdicts.{no_answer}
 use Rattle.mdb_bus.proofs.judging.answering.answer.Goals as goal

@@ -1,3 +1,4 @@
+-- A whole command is an ask, unless it enables more options than are followed.
 use Rattle.mdb_bus.proofs.Words.{rules}
 use Rattle.mdb_bus.proofs.Verdicts.{ask_ends, ask_more}
 use Rattle.mdb_bus.proofs.judging.asking.judge_end_of_ask.Goals as goal

@@ -1,3 +1,4 @@
+-- A word equal to the first one of the last reply begins its repeat.
 use Rattle.mdb_bus.proofs.Words.{arith, length, refl, rules}
 use Rattle.mdb_bus.proofs.Verdicts.{repeats}
 use Rattle.mdb_bus.proofs.judging.repeating.begin_repeat.Goals as goal

@@ -1,3 +1,4 @@
+-- A row that is judged a break goes its step, with its start and length.
 use Rattle.mdb_bus.proofs.EachSteps.{each_break}
 use Rattle.mdb_bus.proofs.place.Place.advance.Goals as goal
 

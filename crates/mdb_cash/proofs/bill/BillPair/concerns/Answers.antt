@@ -1,3 +1,4 @@
+-- By any facts, so by those known, the act changes nothing of the validator.
 use Rattle.mdb_cash.proofs.Words.{Stacked, still_knowing}
 use Rattle.mdb_cash.specs.Bill.{conduct}
 use Rattle.mdb_cash.specs.BillFacts.{tables}

@@ -1,3 +1,4 @@
+-- By any facts, so by those known, the choice changes nothing of the validator's step.
 use Rattle.mdb_cash.proofs.Words.{unheeded_knowing}
 use Rattle.mdb_cash.specs.Bill.{conduct}
 use Rattle.mdb_cash.specs.BillFacts.{tables}

@@ -1,3 +1,4 @@
+-- By any facts, so by those known, the act leaves the validator's state.
 use Rattle.mdb_cash.proofs.Words.{Stacked, rests_knowing}
 use Rattle.mdb_cash.specs.Bill.{conduct}
 use Rattle.mdb_cash.specs.BillFacts.{tables}

@@ -1,3 +1,4 @@
+-- A bill goes into an empty escrow if its type is enabled, and is returned only from there.
 use Rattle.mdb_cash.proofs.Words.{refl, sym, ◌∙◌, inl, inr, facts_in}
 use Rattle.mdb_cash.proofs.Escrows.{puts, returns, returns_not}
 use Rattle.mdb_cash.proofs.bill.conduct.move_bill.Goals as goal

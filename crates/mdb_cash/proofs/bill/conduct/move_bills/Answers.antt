@@ -1,3 +1,4 @@
+-- Each message moves the escrow on, and after an impossible one there is none.
 use Rattle.mdb_cash.proofs.Words.{◌≡◌, drop, length, arith, ap, ◌∙◌, Stacked}
 use Rattle.std.proofs.Math.Seq.{drop-length}
 use Rattle.std.proofs.lemmas.List.{drop_more}

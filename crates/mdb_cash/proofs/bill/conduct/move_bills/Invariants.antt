@@ -1,3 +1,4 @@
+-- From this escrow the rest leaves what all messages leave from the first one.
 use Rattle.mdb_cash.proofs.Words.{drop, facts_in}
 use Rattle.mdb_cash.proofs.Escrows.{Leaves}
 use Rattle.mdb_cash.proofs.bill.conduct.move_bills.Given as goal

@@ -1,3 +1,4 @@
+-- A bill is stacked if its type is enabled and the escrow allows it, and can't be otherwise.
 use Rattle.mdb_cash.proofs.Words.{refl, sym, ◌∙◌, facts_in}
 use Rattle.mdb_cash.proofs.Escrows.{stacks, stacks_not}
 use Rattle.mdb_cash.proofs.bill.conduct.stack_bill.Goals as goal

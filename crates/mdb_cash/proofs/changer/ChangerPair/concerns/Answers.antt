@@ -1,3 +1,4 @@
+-- By any facts, so by those known, the act changes nothing of the changer.
 use Rattle.mdb_cash.proofs.Words.{CashBox, still_knowing}
 use Rattle.mdb_cash.specs.Changer.{conduct}
 use Rattle.mdb_cash.specs.ChangerFacts.{tables}

@@ -1,3 +1,4 @@
+-- By any facts, so by those known, the act leaves the changer's state.
 use Rattle.mdb_cash.proofs.Words.{CashBox, rests_knowing}
 use Rattle.mdb_cash.specs.Changer.{conduct}
 use Rattle.mdb_cash.specs.ChangerFacts.{tables}

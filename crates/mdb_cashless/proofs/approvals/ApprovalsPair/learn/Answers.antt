@@ -1,3 +1,4 @@
+-- The facts after one act more come from those before, for the pair's unit.
 use Rattle.mdb_cashless.proofs.Words.{◌∙◌, ap, facts_after, unit_of}
 use Rattle.mdb_cashless.proofs.approvals.ApprovalsPair.learn.Goals as goal
 

@@ -1,3 +1,4 @@
+-- The steps of the pair's unit are those by the facts that stand for its acts.
 use Rattle.mdb_cashless.proofs.Words.{sym}
 use Rattle.mdb_cashless.proofs.approvals.ApprovalsPair.step_from.Goals as goal
 

@@ -1,3 +1,4 @@
+-- The list has the approvals among the messages seen, so it is no longer than what was seen.
 use Rattle.mdb_cashless.proofs.Words.{◌≡◌, ◌≤◌, ◌++◌, length, array_vec_len, approvals_in}
 use Rattle.mdb_cashless.proofs.approvals.facts.approvals.Given as goal
 

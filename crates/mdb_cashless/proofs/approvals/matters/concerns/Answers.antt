@@ -1,3 +1,4 @@
+-- An ask that changes nothing, or an ACK by which nothing is taken, leaves the reader as it is.
 use Rattle.mdb_cashless.proofs.Words.{◌∙◌, sym}
 use Rattle.mdb_cashless.proofs.ApprovalSteps.{ack_stays, ask_stays}
 use Rattle.mdb_cashless.proofs.Steps.{denied}

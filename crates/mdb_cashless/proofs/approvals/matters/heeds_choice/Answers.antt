@@ -1,3 +1,4 @@
+-- Where nothing may be either new or told again, nor a reset, each choice goes as the plain one.
 use Rattle.mdb_cashless.proofs.Words.{◌∙◌, false, sym, Plain, messages_of, part_of, no_restart}
 use Rattle.mdb_cashless.specs.ExtendedReader.{ReplyStep, VmcAckStep}
 use Rattle.mdb_cashless.specs.shared.ApprovalWays.{own_as}

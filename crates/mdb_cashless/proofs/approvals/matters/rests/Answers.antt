@@ -1,3 +1,4 @@
+-- An ACK to POLL changes nothing of a reader that has nothing to tell again.
 use Rattle.mdb_cashless.proofs.Words.{◌≡◌, ◌∙◌, Some, ap, rules, sym, ReaderCommand}
 use Rattle.mdb_cashless.proofs.ApprovalSteps.{poll_stays}
 use Rattle.mdb_cashless.proofs.Steps.{where_not}

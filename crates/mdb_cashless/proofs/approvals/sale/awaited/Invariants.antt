@@ -1,3 +1,4 @@
+-- No message so far ended the wait, so the rest adds what all messages add.
 use Rattle.mdb_cashless.proofs.Words.{◌≡◌, Awaited, approved_to}
 use Rattle.mdb_cashless.proofs.approvals.sale.awaited.Given as goal
 

@@ -1,3 +1,4 @@
+-- An ask, an ACK, a reply and the controller's ACK each step by their kind.
 use Rattle.mdb_cashless.proofs.Words.{◌∙◌, sym}
 use Rattle.mdb_cashless.proofs.approvals.steps.step.Goals as goal
 

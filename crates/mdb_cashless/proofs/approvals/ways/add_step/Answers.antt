@@ -1,3 +1,4 @@
+-- A list of steps with small gains stays so with one small step more.
 use Rattle.mdb_cashless.proofs.Words.{inl, inr, subst, Contains-push_cases, Gains, IsSmall, ApprovalState, Contains}
 use Rattle.mdb_cashless.proofs.approvals.ways.add_step.Goals as goal
 

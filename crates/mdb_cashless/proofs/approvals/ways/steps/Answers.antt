@@ -1,3 +1,4 @@
+-- A settled act has the one step. Of an open act, three guesses give all steps.
 use Rattle.mdb_cashless.proofs.Words.{◌∙◌, ap, length, refl, sym}
 use Rattle.mdb_cashless.specs.ExtendedReader.{ReaderStep}
 use Rattle.mdb_cashless.specs.inner.Approvals.{facts_in}

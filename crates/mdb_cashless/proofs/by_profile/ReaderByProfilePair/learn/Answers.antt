@@ -1,3 +1,4 @@
+-- Facts by the extended profile go on as those of the profile's own reader.
 use Rattle.mdb_cashless.proofs.Words.{ap, by_extended}
 use Rattle.mdb_cashless.proofs.ByProfile.{is_extended}
 use Rattle.mdb_cashless.proofs.by_profile.ReaderByProfilePair.learn.Goals as goal

@@ -1,3 +1,4 @@
+-- By either profile, the only state at power-on is that of the profile's own reader.
 use Rattle.mdb_cashless.proofs.Words.{base_state, base_part, extended_state, extended_part}
 use Rattle.mdb_cashless.proofs.ByProfile.{alone}
 use Rattle.mdb_cashless.proofs.by_profile.ReaderByProfilePair.power_on.Goals as goal

@@ -1,3 +1,4 @@
+-- By either profile, an act adds the amounts that the profile's own reader counts.
 use Rattle.mdb_cashless.proofs.ByProfile.{is_base, is_extended}
 use Rattle.mdb_cashless.proofs.by_profile.ReaderByProfilePair.unvalued_by.Goals as goal
 

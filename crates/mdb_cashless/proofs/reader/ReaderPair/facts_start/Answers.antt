@@ -1,3 +1,4 @@
+-- The facts at the start are those of the pair's unit after no act.
 use Rattle.mdb_cashless.proofs.Words.{◌∙◌, [], ap, known_of}
 use Rattle.mdb_cashless.proofs.reader.ReaderPair.facts_start.Goals as goal
 

@@ -1,3 +1,4 @@
+-- One act more leads on what is known of the pair's unit.
 use Rattle.mdb_cashless.proofs.Words.{◌≡◌, List, ◌∷◌, subst, ReaderUnit, Act, Beginning, known_of, known_in}
 use Rattle.mdb_cashless.proofs.reader.ReaderPair.learn.Goals as goal
 

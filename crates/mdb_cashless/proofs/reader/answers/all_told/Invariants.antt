@@ -1,3 +1,4 @@
+-- From here, the rest makes of the reader what all new messages make of it from the start.
 use Rattle.mdb_cashless.proofs.Words.{◌≡◌, drop, all_told}
 use Rattle.mdb_cashless.proofs.reader.answers.all_told.Given as goal
 

@@ -1,3 +1,4 @@
+-- Hearing the rest from here leads to the same view and sum as hearing all. The sum is small.
 use Rattle.mdb_cashless.proofs.Words.{◌≡◌, ◌+◌, ◌*◌, ◌≤◌, ◌++◌, ◌||◌, length, all_heard, keeps_some, all_approved_to}
 use Rattle.mdb_cashless.proofs.reader.answers.hear.Given as goal
 

@@ -1,3 +1,4 @@
+-- By the plain choice, a reader that holds goes on to do so only if no message is kept.
 use Rattle.mdb_cashless.proofs.Words.{◌&&◌, ◌∙◌, ap, not}
 use Rattle.mdb_cashless.proofs.KeptAcked.{heard_is}
 use Rattle.mdb_cashless.proofs.reader.answers.holds_on.Goals as goal

@@ -1,3 +1,4 @@
+-- A reply without a reset message can't be read as a restart.
 use Rattle.mdb_cashless.proofs.Words.{messages_of, part_of, no_restart}
 use Rattle.mdb_cashless.proofs.reader.answers.may_be_read.Goals as goal
 

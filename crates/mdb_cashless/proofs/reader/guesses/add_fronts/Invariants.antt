@@ -1,3 +1,4 @@
+-- The steps of the fronts so far are added, at most one for each, and all are small.
 use Rattle.mdb_cashless.proofs.Words.{◌+◌, ◌≤◌, array_vec_len, facts_in}
 use Rattle.mdb_cashless.proofs.Knowing.{OfFront}
 use Rattle.mdb_cashless.proofs.Listed.{Adds, AreSmall}

@@ -1,3 +1,4 @@
+-- A reply to the reader's own command tells what was taken where its answer does.
 use Rattle.mdb_cashless.proofs.Words.{◌∙◌, sym}
 use Rattle.mdb_cashless.proofs.KnownAfter.{answered_told}
 use Rattle.mdb_cashless.proofs.reader.known.tells_taken.Goals as goal

@@ -1,3 +1,4 @@
+-- No message so far is a reset message, so one is where one of the rest is.
 use Rattle.mdb_cashless.proofs.Words.{◌≡◌, list_any, is_reset, messages_of, part_of}
 use Rattle.mdb_cashless.proofs.reader.messages.tells_of_reset.Given as goal
 

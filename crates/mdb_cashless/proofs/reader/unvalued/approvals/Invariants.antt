@@ -1,3 +1,4 @@
+-- The count and the approvals in the rest together are those of all messages.
 use Rattle.mdb_cashless.proofs.Words.{◌≡◌, ◌+◌, ◌≤◌, ◌++◌, length, sum_by, is_approval}
 use Rattle.mdb_machine.specs.Unvalued.{one_if}
 use Rattle.mdb_cashless.proofs.reader.unvalued.approvals.Given as goal

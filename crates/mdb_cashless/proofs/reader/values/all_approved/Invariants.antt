@@ -1,3 +1,4 @@
+-- The total is that of the messages so far, with a bound for each message.
 use Rattle.mdb_cashless.proofs.Words.{◌≡◌, ◌*◌, ◌≤◌, sum_by, take, approved}
 use Rattle.mdb_cashless.proofs.reader.values.all_approved.Given as goal
 

@@ -1,3 +1,4 @@
+-- One cell within the front is written, so the entries change at that place alone.
 use Rattle.mdb_follow.proofs.Words.{◌≡◌, ◌<◌, ◌≤◌, ◌∙◌, ℕ, List, ap, arith, length, take, slice_set, length-take-le, take-set-lt}
 use Rattle.mdb_follow.proofs.entries.Entries.set.Goals as goal
 

@@ -1,3 +1,4 @@
+-- Each step adds its cell to the entries that the steps before it led to.
 use Rattle.mdb_follow.proofs.Led.{moves-read}
 use Rattle.mdb_follow.proofs.entries.steps.add_all.Goals as goal
 

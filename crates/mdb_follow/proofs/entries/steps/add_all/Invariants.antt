@@ -1,3 +1,4 @@
+-- The entries are those that the steps so far lead to, and each has its place.
 use Rattle.mdb_follow.proofs.Words.{◌≡◌, take, IsKeyed, IsPlaced, with_moves}
 use Rattle.mdb_follow.proofs.entries.steps.add_all.Given as goal
 

@@ -1,3 +1,4 @@
+-- Before the first row, the sides stand for no act.
 use Rattle.mdb_follow.proofs.Words.{[]}
 use Rattle.mdb_follow.proofs.follower.Follower.scoped.Goals as goal
 

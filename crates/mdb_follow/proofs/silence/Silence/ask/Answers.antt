@@ -1,3 +1,4 @@
+-- An ask past the time to answer counts a silence. One in time, or after that silence, counts none.
 use Rattle.mdb_follow.proofs.Words.{refl}
 use Rattle.mdb_follow.proofs.Silent.{counted-more, in-time, too-late}
 use Rattle.mdb_follow.proofs.silence.Silence.ask.Goals as goal

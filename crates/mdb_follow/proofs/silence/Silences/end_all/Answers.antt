@@ -1,3 +1,4 @@
+-- A break ends the asks of one device after the other, until those of all have ended.
 use Rattle.mdb_follow.proofs.Words.{Silence, silence_in, SilenceGoesOn, ended}
 use Rattle.mdb_follow.proofs.ByDevice.{front-all, front-more}
 use Rattle.mdb_follow.proofs.silence.Silences.end_all.Goals as goal

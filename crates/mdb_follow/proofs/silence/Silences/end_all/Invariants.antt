@@ -1,3 +1,4 @@
+-- The asks of the devices so far have ended, and the others are as before.
 use Rattle.mdb_follow.proofs.Words.{Silence, silence_in, SilenceGoesOn, ended}
 use Rattle.mdb_follow.proofs.ByDevice.{Front}
 use Rattle.mdb_follow.proofs.silence.Silences.end_all.Given as goal

@@ -1,3 +1,4 @@
+-- An act that doesn't concern the pair, or by which all entries rest, leaves the table as it is.
 use Rattle.mdb_follow.proofs.Words.{◌+◌, ◌^◌, arith}
 use Rattle.mdb_follow.proofs.Limits.{table-within-weaker}
 use Rattle.mdb_follow.proofs.Ways.{table-rests, table-same}

@@ -1,3 +1,4 @@
+-- A reply has few enough messages for what is kept of them to fit.
 use Rattle.mdb_machine.proofs.Sizes.{summary_fits}
 use Rattle.mdb_machine.proofs.keeper.Keeper.summary_of.Goals as goal
 

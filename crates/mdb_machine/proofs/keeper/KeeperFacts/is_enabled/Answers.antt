@@ -1,3 +1,4 @@
+-- A mask has 16 bits, so no type from 16 on is enabled.
 use Rattle.mdb_machine.proofs.Words.{◌≡◌, ◌==◌, ◌<◌, ◌≤◌, false, sym, ap, ◌∙◌, arith, le-ltb, bit_at}
 use Rattle.mdb_machine.proofs.Masks.{past_mask}
 use Rattle.mdb_machine.proofs.keeper.KeeperFacts.is_enabled.Goals as goal

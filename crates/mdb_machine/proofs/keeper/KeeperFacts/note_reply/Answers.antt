@@ -1,3 +1,4 @@
+-- Setup, effect and kept messages of a reply, noted one after the other, are the facts after it.
 use Rattle.mdb_machine.proofs.Words.{ap, facts_in, past_in}
 use Rattle.mdb_machine.proofs.KeeperFacts.{replied}
 use Rattle.mdb_machine.proofs.keeper.KeeperFacts.note_reply.Goals as goal

@@ -1,3 +1,4 @@
+-- In a joined recording each type counts as enabled, which is the mask of 16 ones.
 use Rattle.mdb_machine.proofs.Words.{◌≡◌, [], subst, sym, Beginning, known_enabled, effect_of}
 use Rattle.mdb_machine.proofs.Masks.{all_types, in_mask}
 use Rattle.mdb_machine.proofs.keeper.KeeperFacts.start.Goals as goal

@@ -1,3 +1,4 @@
+-- A command that enables more types adds its mask to that of the enabled ones.
 use Rattle.mdb_machine.proofs.Words.{refl, bit_or}
 use Rattle.mdb_machine.proofs.KeeperFacts.{took_mask}
 use Rattle.mdb_machine.proofs.keeper.KeeperFacts.take.Goals as goal

@@ -1,3 +1,4 @@
+-- What is known after one act more is what was known, with that act noted.
 use Rattle.mdb_machine.proofs.Words.{ap, ◌∙◌, known_with, known_more_of}
 use Rattle.mdb_machine.proofs.keeper.KeeperKnown.learn.Goals as goal
 

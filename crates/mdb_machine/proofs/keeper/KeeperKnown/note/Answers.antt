@@ -1,3 +1,4 @@
+-- An act changes the facts, and what is known of them, as it tells.
 use Rattle.mdb_machine.proofs.Words.{refl}
 use Rattle.mdb_machine.proofs.Knowing.{noted}
 use Rattle.mdb_machine.proofs.keeper.KeeperKnown.note.Goals as goal

@@ -1,3 +1,4 @@
+-- At first the facts are those of no act, and all are known where a recording begins at power-on.
 use Rattle.mdb_machine.proofs.Knowing.{known_at_first}
 use Rattle.mdb_machine.proofs.keeper.KeeperKnown.start.Goals as goal
 

@@ -1,3 +1,4 @@
+-- One message more adds what is kept of it, and shows whether a reset came before it.
 use Rattle.mdb_machine.proofs.KeptLists.{has_reset-more, keeps_early-more, kept_of-more}
 use Rattle.mdb_machine.proofs.kept.Summary.add.Goals as goal
 

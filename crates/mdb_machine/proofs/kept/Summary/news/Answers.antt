@@ -1,3 +1,4 @@
+-- A reply whose kept list doesn't begin with what is held can't be told.
 use Rattle.mdb_machine.proofs.KeptLists.{untold}
 use Rattle.mdb_machine.proofs.kept.Summary.news.Goals as goal
 

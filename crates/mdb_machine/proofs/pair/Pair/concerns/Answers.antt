@@ -1,3 +1,4 @@
+-- An act that isn't the device's own leaves its state and sums as they are.
 use Rattle.mdb_machine.proofs.Ways.{still_elsewhere}
 use Rattle.mdb_machine.proofs.pair.Pair.concerns.Goals as goal
 

@@ -1,3 +1,4 @@
+-- The moves are the plain step and the step by the other choice, both within their bounds.
 use Rattle.mdb_machine.proofs.Words.{◌<◌, IsSmall}
 use Rattle.mdb_machine.proofs.Ways.{both_moves, small_moves}
 use Rattle.mdb_machine.proofs.pair.Pair.moves.Goals as goal

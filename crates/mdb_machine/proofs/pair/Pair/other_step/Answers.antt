@@ -1,3 +1,4 @@
+-- An act has at most one other choice that counts, so the step by it is the only other move.
 use Rattle.mdb_machine.proofs.Ways.{by_other, by_second}
 use Rattle.mdb_machine.proofs.pair.Pair.other_step.Goals as goal
 

@@ -1,3 +1,4 @@
+-- A step by codes is that of their states. An act of another device leaves the code as it is.
 use Rattle.mdb_machine.proofs.Words.{IsTrue, ◌↔◌, refl, subst, CanStandFor, no_gains}
 use Rattle.mdb_machine.proofs.Ways.{chosen_some, not_its_own}
 use Rattle.mdb_machine.proofs.pair.Pair.step.Goals as goal

@@ -1,3 +1,4 @@
+-- The bytes so far are those of the messages so far, at most one for each.
 use Rattle.mdb_msgs.proofs.Words.{◌≡◌, ◌≤◌, length, take, flat_map, bill_msg_bytes}
 use Rattle.mdb_msgs.proofs.reply.bill.bytes_of.Given as goal
 

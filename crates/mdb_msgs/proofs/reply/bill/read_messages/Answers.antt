@@ -1,3 +1,4 @@
+-- A byte that is no message of the profile stops the reading after the messages so far.
 use Rattle.mdb_msgs.proofs.Words.{arith, suc, drop, err_from_is_err_and, NoBillMsg}
 use Rattle.mdb_msgs.proofs.ListReading.{stops_at}
 use Rattle.mdb_msgs.proofs.reply.bill.read_messages.Goals as goal

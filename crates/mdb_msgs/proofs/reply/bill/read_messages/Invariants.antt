@@ -1,3 +1,4 @@
+-- The messages so far are those that the bytes before this place are read as.
 use Rattle.mdb_msgs.proofs.Words.{drop, bill_msg_bytes, IsBillMsg}
 use Rattle.mdb_msgs.proofs.ListReading.{Going}
 use Rattle.mdb_msgs.proofs.reply.bill.read_messages.Given as goal

@@ -1,3 +1,4 @@
+-- The bytes so far are those of the messages so far, at most two for each.
 use Rattle.mdb_msgs.proofs.Words.{◌≡◌, ◌*◌, ◌≤◌, length, take, flat_map, changer_msg_bytes}
 use Rattle.mdb_msgs.proofs.reply.changer.bytes_of.Given as goal
 

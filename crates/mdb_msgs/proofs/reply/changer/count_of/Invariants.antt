@@ -1,3 +1,4 @@
+-- The count is that of the bytes of the messages so far, at most two for each.
 use Rattle.mdb_msgs.proofs.Words.{◌≡◌, ◌*◌, ◌≤◌, length, take, flat_map, changer_msg_bytes}
 use Rattle.mdb_msgs.proofs.reply.changer.count_of.Given as goal
 

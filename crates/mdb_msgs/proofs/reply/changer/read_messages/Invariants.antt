@@ -1,3 +1,4 @@
+-- The messages so far are read from the bytes before the rest, which gets shorter.
 use Rattle.mdb_msgs.proofs.Words.{length, changer_msg_bytes, IsChangerMsg}
 use Rattle.mdb_msgs.proofs.ListReading.{Going}
 use Rattle.mdb_msgs.proofs.reply.changer.read_messages.Given as goal

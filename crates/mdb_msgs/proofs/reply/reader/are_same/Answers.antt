@@ -1,3 +1,4 @@
+-- The test of two messages decides whether they are the same, so it decides that of lists.
 use Rattle.std.proofs.lemmas.Slice.Eq.{slice_eq-Decides}
 use Rattle.mdb_msgs.proofs.ReaderWriting.{same_again, told_same}
 use Rattle.mdb_msgs.proofs.reply.reader.are_same.Goals as goal

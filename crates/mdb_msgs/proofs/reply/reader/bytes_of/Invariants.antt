@@ -1,3 +1,4 @@
+-- The bytes so far are those of the messages so far, and they fit a reply.
 use Rattle.mdb_msgs.proofs.Words.{◌≡◌, ◌≤◌, length, take, flat_map, reader_msg_bytes}
 use Rattle.mdb_msgs.proofs.reply.reader.bytes_of.Given as goal
 

@@ -1,3 +1,4 @@
+-- So far, identifications are read as the messages seen ask for at least.
 use Rattle.mdb_msgs.proofs.Words.{◌≡◌, take, own_ids}
 use Rattle.mdb_msgs.proofs.reply.reader.own_ids.Given as goal
 

@@ -1,3 +1,4 @@
+-- Bytes that are refused, or read as another list, aren't those of this list.
 use Rattle.mdb_msgs.proofs.Words.{IsSome, sym, subst, ◌∙◌}
 use Rattle.mdb_msgs.proofs.ReaderWriting.{never_refused, read_back}
 use Rattle.mdb_msgs.proofs.reply.reader.read_as.Goals as goal

@@ -1,3 +1,4 @@
+-- The four bytes of options, put together from two halves, are those of the identification.
 use Rattle.mdb_msgs.proofs.Words.{ap₂, sym, ◌∙◌, ◌*◌, ◌+◌}
 use Rattle.mdb_msgs.proofs.ReaderBytes.{read_options}
 use Rattle.mdb_msgs.proofs.reply.reader.read_id.Goals as goal

@@ -1,3 +1,4 @@
+-- The messages so far are read from the bytes before the rest, and it is noted which are long.
 use Rattle.mdb_msgs.proofs.Words.{◌≡◌, length, list_any, own_ids, ReaderMessages, has_long}
 use Rattle.mdb_msgs.proofs.ReaderReading.{Taken}
 use Rattle.mdb_msgs.proofs.reply.reader.read_messages.Given as goal

@@ -1,3 +1,4 @@
+-- If a block reports a setup, its only reading reports it, so the block is an answer.
 use Rattle.mdb_msgs.proofs.SetupData.{learns, learns_none}
 use Rattle.mdb_msgs.proofs.setups.Setups.learn.Goals as goal
 

@@ -1,3 +1,4 @@
+-- Up to the limit bytes are given. There the text ends, or a byte past it is held.
 use Rattle.mdb_records.proofs.Words.{◌≡◌, ◌<◌, ℕ, length, sym, ◌∙◌, arith, length-append, length-drop, nat_tests}
 use Rattle.mdb_records.proofs.limited.LimitedRead.read.Goals as goal
 use Rattle.mdb_records.proofs.MarkFacts.{end-at-limit, past-limit, under-limit}

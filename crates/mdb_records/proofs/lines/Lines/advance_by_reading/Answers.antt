@@ -1,3 +1,4 @@
+-- If a read gives nothing and nothing is unread, the text has ended.
 use Rattle.mdb_records.proofs.Words.{◌≡◌, ◌-◌, ◌∙◌, sym, limited_remaining}
 use Rattle.csv.proofs.ReadFacts.{keeps-trans}
 use Rattle.mdb_records.proofs.LineFacts.{ends-text}

@@ -1,3 +1,4 @@
+-- Further reads change nothing of what is given, so a line may still be found in it.
 use Rattle.mdb_records.proofs.Words.{Keeps, lines_given, ◌≡◌, []}
 use Rattle.mdb_records.proofs.lines.Lines.advance_by_reading.Given as goal
 

@@ -1,3 +1,4 @@
+-- What is read stands after what was unread, so the text that is given stays the same.
 use Rattle.mdb_records.proofs.Words.{◌≡◌, ◌+◌, ◌-◌, take, arith, limited_remaining, unread}
 use borrow.Rule.Slice.PartMut.{post_of}
 use Rattle.mdb_records.proofs.LineFacts.{filled-keeps, filled-unread}

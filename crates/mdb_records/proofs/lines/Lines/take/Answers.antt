@@ -1,3 +1,4 @@
+-- A line that is taken leaves the front of what is unread, and its fields end within it.
 use Rattle.mdb_records.proofs.Words.{◌≡◌, ◌≤◌, ◌-◌, false, arith, drop, length-take, Ok, ap, limited_remaining, unread, BeginsLow}
 use Rattle.mdb_records.proofs.LineFacts.{takes-line, unread-dropped}
 use Rattle.mdb_records.proofs.PartFacts.{within-more}

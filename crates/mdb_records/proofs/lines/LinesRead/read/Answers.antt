@@ -1,3 +1,4 @@
+-- The end of a taken line comes first, then what is unread, then what the source has.
 use Rattle.mdb_records.proofs.Words.{◌≡◌, ◌<◌, ◌≤◌, ◌-◌, length, arith, rules, nat_tests, limited_remaining, unread}
 use Rattle.mdb_records.proofs.LineFacts.{copied-front, gives-below, gives-end, gives-unread, unread-dropped}
 use Rattle.mdb_records.proofs.lines.LinesRead.read.Goals as goal

@@ -1,3 +1,4 @@
+-- A line has as many fields as places where they end.
 use Rattle.mdb_records.proofs.Words.{sym}
 use Rattle.mdb_records.proofs.PartFacts.{length-parted}
 use Rattle.mdb_records.proofs.record.Record.len.Goals as goal

@@ -1,3 +1,4 @@
+-- csv trims nothing and is ready, so what it reads is the next record of its text.
 use Rattle.mdb_records.proofs.Words.{ap, fields_of, reader_in}
 use Rattle.mdb_records.proofs.ReadingFacts.{csv-reads, set-up-ready}
 use Rattle.mdb_records.proofs.stage.Stage.read_by_csv.Goals as goal

@@ -1,3 +1,4 @@
+-- After its time, a row is read as its letter and value are. Without a time it is refused.
 use Rattle.std.proofs.lemmas.Result.{err_from_is_err_and}
 use Rattle.mdb_words.proofs.Rows.{err_from, only_from, refuses_time, tells_fields}
 use Rattle.mdb_words.proofs.event.Event.read.Goals as goal

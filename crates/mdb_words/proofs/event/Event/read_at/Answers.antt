@@ -1,3 +1,4 @@
+-- A letter that is neither a line's nor a break's is refused.
 use Rattle.mdb_words.proofs.Rows.{refuses_letter}
 use Rattle.mdb_words.proofs.event.Event.read_at.Goals as goal
 

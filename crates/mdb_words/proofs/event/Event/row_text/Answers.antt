@@ -7,7 +7,7 @@ use Rattle.mdb_words.proofs.event.Event.row_text.Goals.{Joined-line, in-Controll
 
 -- before the word a row has its time and three bytes
 before : (c : Joined-line)
-    → (length c.push_decimal.new.text.bytes ≤ 15) × (length c.match-line.push_str.now ≡ 3)
+    → (length c.push_decimal.new.text.bytes ≤ 18) × (length c.match-line.push_str.now ≡ 3)
 before c = (
   length_start c.value.result _ _ c.new-text.ensures c.push_decimal.ensures (omega arith),
   elim c.match-line.branch [
@@ -21,7 +21,7 @@ push_decimal-requires c =
     omega (
       arith,
       ap length c.new-text.ensures,
-      length-decimal-le 15 c.value.result (omega arith) (omega arith) (omega arith),
+      length-decimal-le 18 c.value.result (omega arith) (omega arith) (omega arith),
     )
 
 pub push_str-requires : goal.push_str-requires

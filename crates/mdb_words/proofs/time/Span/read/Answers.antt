@@ -1,3 +1,4 @@
+-- A length of up to 9 digits is below 10 ^ 9.
 use Rattle.mdb_words.proofs.Numerals.{IsDecimal-lt}
 use Rattle.mdb_words.proofs.time.Span.read.Goals as goal
 

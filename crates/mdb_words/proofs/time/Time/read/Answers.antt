@@ -1,6 +1,7 @@
+-- A time of up to 18 digits is below 10 ^ 18.
 use Rattle.mdb_words.proofs.Numerals.{IsDecimal-lt}
 use Rattle.mdb_words.proofs.time.Time.read.Goals as goal
 
 pub invariant_of-result : goal.invariant_of-result
 invariant_of-result c =
-    IsDecimal-lt 15 c.args.field.now c.in_ok-micros.micros c.in_ok-micros.ensures.some
+    IsDecimal-lt 18 c.args.field.now c.in_ok-micros.micros c.in_ok-micros.ensures.some

@@ -1,3 +1,4 @@
+-- A long text follows what waited. A writer that fails has what waited and a front of the text.
 use Rattle.mdb_writing.specs.Output.{output}
 use Rattle.mdb_writing.proofs.Outputs.{at_error, if_ok, put_written, taken_after}
 use Rattle.mdb_writing.proofs.page.Page.add.Goals as goal

@@ -1,3 +1,4 @@
+-- A stacked bill has a small value, and no slot after it gains anything.
 use Rattle.mdb_cash.proofs.Words.{arith, subst, sym, ◌<◌, ◌^◌, [], ◌∷◌, below_at}
 use Rattle.mdb_cash.proofs.bill.conduct.BillConduct.gain.Goals as goal
 

@@ -1,3 +1,4 @@
+-- Two types are the same where their numbers are.
 use Rattle.mdb_cash.proofs.Words.{ap, sym, ◌∙◌, eq-eqb, eqb-true, BillType, same_type}
 use Rattle.mdb_cash.proofs.bill.state.BillType.is.Goals as goal
 

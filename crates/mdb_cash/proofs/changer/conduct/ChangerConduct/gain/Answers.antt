@@ -1,3 +1,4 @@
+-- Coins deposited and coins paid out by hand have small values, one for each slot.
 use Rattle.mdb_cash.proofs.Words.{arith, subst, sym, ◌<◌, ◌^◌, [], ◌∷◌, below_at}
 use Rattle.mdb_cash.proofs.changer.conduct.ChangerConduct.gain.Goals as goal
 

@@ -1,3 +1,4 @@
+-- Hearing the rest from here leads to the same sale as hearing all messages from the start.
 use Rattle.mdb_cashless.proofs.Words.{◌≡◌, sale_all_heard}
 use Rattle.mdb_cashless.proofs.approvals.sale.Sale.all_heard.Given as goal
 

@@ -1,3 +1,4 @@
+-- A reply to the reader's own command tells of it what its answer tells.
 use Rattle.mdb_cashless.proofs.Words.{◌∙◌, sym, told_in}
 use Rattle.mdb_cashless.proofs.FactsTold.{replied}
 use Rattle.mdb_cashless.proofs.reader.facts.ReaderFacts.reply.Goals as goal

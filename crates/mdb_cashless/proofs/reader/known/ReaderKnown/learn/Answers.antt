@@ -1,3 +1,4 @@
+-- What is known of a reader after one act more is what was known, with that act noted.
 use Rattle.mdb_cashless.proofs.Words.{◌∙◌, ap, known_with, goes_on}
 use Rattle.mdb_cashless.proofs.reader.known.ReaderKnown.learn.Goals as goal
 

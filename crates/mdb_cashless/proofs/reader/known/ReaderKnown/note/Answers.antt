@@ -1,3 +1,4 @@
+-- An act changes a reader's facts, and what is known of them, as it tells.
 use Rattle.mdb_cashless.proofs.Words.{◌∙◌, ap, told_in, told_with}
 use Rattle.mdb_cashless.proofs.KnownAfter.{known_after}
 use Rattle.mdb_cashless.proofs.reader.known.ReaderKnown.note.Goals as goal

@@ -1,3 +1,4 @@
+-- At first a reader's facts are those of no act. A recording from power-on knows them all.
 use Rattle.mdb_cashless.proofs.KnownAfter.{known_first}
 use Rattle.mdb_cashless.proofs.reader.known.ReaderKnown.start.Goals as goal
 

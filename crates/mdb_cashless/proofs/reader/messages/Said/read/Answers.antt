@@ -1,3 +1,4 @@
+-- One message more adds what it says to what the messages before it said.
 use Rattle.mdb_cashless.proofs.Words.{[], ◌∷◌, ◌++◌, ◌∙◌, ap, append_assoc, arith, sym, length-append}
 use Rattle.mdb_cashless.proofs.Said.{said_more}
 use Rattle.mdb_cashless.proofs.reader.messages.Said.read.Goals as goal

@@ -1,3 +1,4 @@
+-- What was said is what the messages seen say, so no more is kept than was seen.
 use Rattle.mdb_cashless.proofs.Words.{◌≡◌, ◌≤◌, ◌++◌, length, array_vec_len, IsSaid}
 use Rattle.mdb_cashless.proofs.reader.messages.Said.read.Given as goal
 

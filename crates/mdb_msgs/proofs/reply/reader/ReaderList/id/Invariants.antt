@@ -1,3 +1,4 @@
+-- No identification came so far, so that of the list is that of the rest.
 use Rattle.mdb_msgs.proofs.Words.{◌≡◌, length, replicate, messages_of, StandAsMessages}
 use Rattle.mdb_msgs.proofs.reply.reader.ReaderList.id.Given as goal
 

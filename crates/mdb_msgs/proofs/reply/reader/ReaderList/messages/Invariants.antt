@@ -1,3 +1,4 @@
+-- The list has the messages taken so far and those of the rest, and there is room for all.
 use Rattle.mdb_msgs.proofs.Words.{◌≡◌, ◌≤◌, length, messages_of, StandAsMessages, ◌+◌, ◌++◌}
 use Rattle.mdb_msgs.proofs.reply.reader.ReaderList.messages.Given as goal
 

@@ -1,3 +1,4 @@
+-- No message so far reports the level, so the list does where the rest does.
 use Rattle.mdb_msgs.proofs.Words.{◌≡◌, length, list_any, tells_level, messages_of, StandAsMessages}
 use Rattle.mdb_msgs.proofs.reply.reader.ReaderList.tells_level.Given as goal
 

@@ -1,3 +1,4 @@
+-- No message so far tells of a session or sale, so the list does where the rest does.
 use Rattle.mdb_msgs.proofs.Words.{◌≡◌, length, list_any, is_kept, messages_of, StandAsMessages}
 use Rattle.mdb_msgs.proofs.reply.reader.ReaderList.tells_of_sales.Given as goal
 

@@ -1,3 +1,4 @@
+-- No text to display came so far, so that of the list is that of the rest.
 use Rattle.mdb_msgs.proofs.Words.{◌≡◌, length, messages_of, StandAsMessages}
 use Rattle.mdb_msgs.proofs.reply.reader.ReaderList.text.Given as goal
 

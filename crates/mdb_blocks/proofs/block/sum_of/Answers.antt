@@ -1,8 +1,0 @@
-use Rattle.std.proofs.Common.{rules, ◌≡◌, ◌+◌, ◌%◌, ◌∙◌, fold, arith}
-use Rattle.mdb_blocks.proofs.Sums.{fold_wrapping}
-use Rattle.mdb_blocks.proofs.block.sum_of.Goals as goal
-
-pub returns : goal.returns
-returns c =
-    let steps : c.fold.result ≡ fold (λ s b. (s + b) % 256) 0 c.args.bytes.now = search rules in
-    omega (arith, steps ∙ fold_wrapping 0 c.args.bytes.now (omega arith))

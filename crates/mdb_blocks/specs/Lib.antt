@@ -1,3 +1,0 @@
-pub mod Block
-pub mod Answer
-pub mod BlockFaults

@@ -1,8 +1,0 @@
-use Rattle.mdb_explained_runs.proofs.Words.{take, PowerOn, Profile, AllRest}
-use Rattle.mdb_explained_runs.proofs.explain.paths.all_rest.Given as goal
-
-abbrev pub invariant-loop-code : goal.invariant-loop-code
-invariant-loop-code g l =
-    let p = g.P.Pair in
-    (profile : Profile) → AllRest p.code_of (p.machine (PowerOn profile)) l.act
-    (take l.code-index l.entries)

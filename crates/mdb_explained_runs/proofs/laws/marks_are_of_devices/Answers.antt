@@ -1,8 +1,0 @@
-use Rattle.mdb_explained_runs.proofs.OwnMarks.{own_apart, own_in}
-use Rattle.mdb_explained_runs.proofs.laws.marks_are_of_devices.Goals as goal
-
-pub returns-clause-own : goal.returns-clause-own
-returns-clause-own c = own_in
-
-pub returns-clause-apart : goal.returns-clause-apart
-returns-clause-apart c = own_apart

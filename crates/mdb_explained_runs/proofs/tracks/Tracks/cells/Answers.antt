@@ -1,9 +1,0 @@
-use Rattle.mdb_explained_runs.proofs.Words.{refl, ◌≡◌, [], ◌∷◌, cell_in, track_in, each}
-use Rattle.mdb_explained_runs.proofs.tracks.Tracks.cells.Goals as goal
-
-pub returns : goal.returns
-returns c =
-    let tracks = c.args.self.now in
-    each (λ device. cell_in (tracks.changer.cell ∷ tracks.bill.cell ∷ tracks.first_reader.cell
-    ∷ tracks.second_reader.cell ∷ []) device ≡ (track_in tracks device).cell)
-    refl refl refl refl

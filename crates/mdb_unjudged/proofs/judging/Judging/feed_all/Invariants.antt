@@ -1,7 +1,0 @@
-use Rattle.std.proofs.Common.{take}
-use Rattle.mdb_unjudged.proofs.Following.{HasFed}
-use Rattle.mdb_unjudged.proofs.judging.Judging.feed_all.Given as goal
-
--- the rows so far are followed
-abbrev pub invariant-loop-event : goal.invariant-loop-event
-invariant-loop-event l = HasFed l.fn.self (take l.event-index l.rows) l.event-index l.self
