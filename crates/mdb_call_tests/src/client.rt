@@ -6,7 +6,7 @@ use mdb_examples::{
     Unread, Untaken, command_in, difference_of, explained, log_row, next_command, printed,
     sent_again, shown, take_word, tidied,
 };
-use mdb_follow::{AccountName, AccountSide, Bound, Follower, Goal};
+use mdb_follow::{AccountName, AccountSide, Bound, Follower, Goal, ROWS_MAX};
 use mdb_msgs::{ChangerCommand, Command, MsgFault};
 use mdb_surveyor::Surveyor;
 use mdb_words::{BlockFault, Event, Line, RowFault};
@@ -108,6 +108,7 @@ fn an_impossible_row_is_logged_and_the_survey_goes_on(rt: HostRuntime) {
     ];
     for fields in &rows {
         let row = Event::read(fields).expect(&rt, "it is a row");
+        assert!(rt; surveyor.rows() < ROWS_MAX);
         log_row(&mut surveyor, row, &mut log).expect(&rt, "the log is in memory");
     }
     assert_eq!(rt; surveyor.rows(), 3);
