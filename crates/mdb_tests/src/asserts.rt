@@ -4,10 +4,8 @@
 //! test.
 
 use super::streams::{Pieces, words_of};
-use mdb_bus::LinkFault;
-use mdb_show::show;
-use mdb_text::Outcome;
 use mdb_check::check;
+use mdb_text::Outcome;
 use mdb_verdict::RunFault;
 use mdbcheck_run::run_words;
 use std::alloc::Global;
@@ -39,19 +37,6 @@ pub(crate) fn check_gives(
 ) {
     let mut out = Vec::new(alloc);
     let answer = check(alloc, reader, &mut out);
-    same_at(rt, case, (answer, out.as_slice()), wanted);
-}
-
-/// Ends the test where `show` has another answer, or writes something else.
-pub(crate) fn show_gives(
-    rt: &impl Abort,
-    alloc: Global,
-    case: &str,
-    reader: &mut Pieces,
-    wanted: (Result<Option<LinkFault>, RunFault>, &[u8]),
-) {
-    let mut out = Vec::new(alloc);
-    let answer = show(alloc, reader, &mut out);
     same_at(rt, case, (answer, out.as_slice()), wanted);
 }
 

@@ -1,15 +1,14 @@
 //! Readers that never end: how much is taken of them.
 
 use super::asserts::{check_gives, same, same_at};
-use super::recordings::{Recording, coin_not_told_again};
 use super::records::count_rows;
-use super::streams::{Pieces, Polling};
+use super::streams::{Pieces, Polling, WRONG_SUM};
 use mdb_bus::{Blame, LinkFault, Rule};
+use mdb_check::check_within;
 use mdb_follow::{Offence, ROWS_MAX};
 use mdb_records::{ReadFault, Records};
 use mdb_show::show;
 use mdb_text::Outcome;
-use mdb_check::check_within;
 use mdb_verdict::{BYTES_MAX, RunFault};
 use std::alloc::Global;
 use std::io::Read;
@@ -66,41 +65,41 @@ fn a_limit_ends_an_endless_text(rt: HostRuntime) {
     }
 }
 
-/// The offence of the recording whose coin isn't told again.
-const NOT_TOLD_AGAIN: Offence = Offence {
-    row: 38,
-    rule: Rule::Changer,
+/// The fault of a wrong sum, the offence, and the report on it.
+const FAULT: LinkFault = LinkFault {
+    rule: Rule::Sum,
     blame: Blame::Changer,
 };
 
-/// What may come after that recording without an end.
+const OFFENCE: Offence = Offence {
+    row: 7,
+    rule: Rule::Sum,
+    blame: Blame::Changer,
+};
+
+const REPORT: &[u8] = b"verdict no\nrow 7\nrule Sum\nblame changer\n";
+
+/// What may come after it without an end.
 static AGAIN: [&[u8]; 3] = [b"1,M,108\n", b"1", b"\n"];
 
 /// A row that can't be ends the reading of a text without an end, and none of what comes after it
 /// is taken.
 #[test]
 fn a_row_that_cannot_be_ends_an_endless_text(rt: HostRuntime) {
-    let Recording { rows, report, .. } = coin_not_told_again();
     for again in &AGAIN {
-        let mut reader = Pieces::endless(rows, *again);
-        let wanted = (Ok(Outcome::No(NOT_TOLD_AGAIN)), report);
+        let mut reader = Pieces::endless(WRONG_SUM, *again);
+        let wanted = (Ok(Outcome::No(OFFENCE)), REPORT);
         check_gives(&rt, rt.alloc(), "endless", &mut reader, wanted);
-        same(&rt, reader.given, rows.len() as u64);
+        same(&rt, reader.given, WRONG_SUM.len() as u64);
     }
 }
 
-/// The fault of rows without an end after that recording.
-const OUT_OF_ORDER: LinkFault = LinkFault {
-    rule: Rule::Order,
-    blame: Blame::Controller,
-};
-
-/// A link fault does so too, and little of what comes after it is taken.
+/// So does it for `show`, and little of what comes after it is taken.
 #[test]
 fn a_link_fault_ends_an_endless_text(rt: HostRuntime) {
-    let mut reader = Pieces::endless(coin_not_told_again().rows, b"1,M,108\n");
+    let mut reader = Pieces::endless(WRONG_SUM, b"1,M,108\n");
     let answer = show(rt.alloc(), &mut reader, &mut Vec::new(rt.alloc()));
-    same(&rt, answer, Ok(Some(OUT_OF_ORDER)));
+    same(&rt, answer, Ok(Some(FAULT)));
     assert!(rt; reader.given < 1_000_000, "{}", reader.given);
 }
 

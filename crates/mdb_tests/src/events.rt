@@ -1,7 +1,7 @@
-//! Rows, events and the gaps between them.
+//! Rows, as events and as texts again.
 
 use super::asserts::{same, same_at};
-use mdb_words::{Event, Line, RowFault, Span, Time, Word, gap_of, is_at_least, is_at_most};
+use mdb_words::{Event, Line, RowFault, Span, Time, Word};
 use std::process::Abort;
 
 /// The fields of a row: time, line and value.
@@ -25,33 +25,6 @@ fn break_at(rt: &impl Abort, at: u64, length: u64) -> Event {
         at: Time::new(at).expect(rt, "a time"),
         length: Span::new(length).expect(rt, "a span"),
     }
-}
-
-/// Rows that are refused, and for what.
-static REFUSED: [(Fields, RowFault); 14] = [
-    (["12", "M", "200"], RowFault::BadValue),
-    (["", "M", "108"], RowFault::BadTime),
-    ([" 1", "M", "108"], RowFault::BadTime),
-    (["+1", "M", "108"], RowFault::BadTime),
-    (["1234567890123456789", "M", "108"], RowFault::BadTime),
-    (["x", "m", "2"], RowFault::BadTime),
-    (["1", "m", "108"], RowFault::BadLine),
-    (["1", "MS", "2"], RowFault::BadLine),
-    (["1", "", "108"], RowFault::BadLine),
-    (["1", "M", "10"], RowFault::BadValue),
-    (["1", "S", "0108"], RowFault::BadValue),
-    (["1", "M", "10G"], RowFault::BadValue),
-    (["1", "B", ""], RowFault::BadValue),
-    (["1", "B", "1000000000"], RowFault::BadValue),
-];
-
-#[test]
-fn rows_are_refused_for_their_first_fault(rt: HostRuntime) {
-    for (fields, fault) in &REFUSED {
-        same_at(&rt, fields, read(fields), Err(*fault));
-    }
-    let found = Event::read(&[b"1", b"M"]);
-    same(&rt, found, Err(RowFault::FieldCount));
 }
 
 /// Rows of words, each with its time, line and value, and its text.
@@ -112,27 +85,4 @@ fn rows_are_read_and_written(rt: HostRuntime) {
     for (fields, at, length, text) in &BREAKS {
         is_read(&rt, fields, break_at(&rt, *at, *length), text);
     }
-}
-
-#[test]
-fn gaps_count_from_the_start_of_a_word_and_the_end_of_a_break(rt: HostRuntime) {
-    let ask = word_at(&rt, 1000, Line::Controller, 0x108);
-    let next = word_at(&rt, 2146, Line::Controller, 0x008);
-    same(&rt, gap_of(&ask, &next), Some(1146));
-    let pause = break_at(&rt, 0, 100_000);
-    let after = word_at(&rt, 300_000, Line::Controller, 0x108);
-    same(&rt, gap_of(&pause, &after), Some(200_000));
-    same(&rt, gap_of(&pause, &break_at(&rt, 99_999, 100_000)), None);
-}
-
-#[test]
-fn limits_hold_to_the_microsecond(rt: HostRuntime) {
-    let pause = break_at(&rt, 0, 100_000);
-    let word = word_at(&rt, 300_000, Line::Controller, 0x108);
-    assert!(rt; is_at_least(&pause, &word, 200_000));
-    assert!(rt; !is_at_least(&pause, &word, 200_001));
-    assert!(rt; is_at_most(&pause, &word, 200_000));
-    assert!(rt; !is_at_most(&pause, &word, 199_999));
-    assert!(rt; !is_at_least(&word, &pause, 0));
-    assert!(rt; is_at_most(&word, &pause, 0));
 }

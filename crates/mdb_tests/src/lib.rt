@@ -16,18 +16,12 @@ mod events;
 #[cfg(test)]
 mod explaining;
 #[cfg(test)]
-mod faults;
-#[cfg(test)]
 mod limits;
 #[cfg(test)]
 mod program;
 #[cfg(test)]
-mod recordings;
-#[cfg(test)]
 mod records;
 #[cfg(test)]
 mod replies;
-#[cfg(test)]
-mod showing;
 #[cfg(test)]
 mod streams;

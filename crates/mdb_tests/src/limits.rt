@@ -1,18 +1,15 @@
 //! Limits that a caller sets on rows and bytes.
 
 use super::asserts::{same, same_at};
-use super::checking::{Counted, counted, ended};
-use super::streams::{ROWS, WRONG_SUM, polls};
+use super::checking::{counted, ended};
+use super::streams::{ROWS, WRONG_SUM};
 use mdb_bus::{Blame, Rule};
+use mdb_check::{check, check_within};
 use mdb_follow::{Offence, ROWS_MAX};
 use mdb_text::Outcome;
-use mdb_check::{check, check_within};
 use mdb_verdict::{BYTES_MAX, RunFault};
 use mdb_words::RowFault;
 use std::alloc::Global;
-
-/// The polls of a recording of several batches, each acknowledged: three rows.
-const LIMITED_POLLS: u64 = 100;
 
 /// `ROWS` has so many bytes.
 const ROWS_BYTES: u64 = 93;
@@ -113,39 +110,5 @@ fn what_comes_first_ends_the_reading(rt: HostRuntime) {
     for (text, rows, bytes, end) in &ENDS {
         let answer = within(rt.alloc(), *text, *rows, *bytes);
         same_at(&rt, (*text, *rows, *bytes), answer, ended(end));
-    }
-}
-
-/// Limits on the rows of these polls, and what is answered within each: rows are read by batches,
-/// and a limit may fall anywhere in one.
-static BATCHES: [(u64, Counted); 12] = [
-    (1, Err(RunFault::TooLong)),
-    (127, Err(RunFault::TooLong)),
-    (128, Err(RunFault::TooLong)),
-    (129, Err(RunFault::TooLong)),
-    (255, Err(RunFault::TooLong)),
-    (256, Err(RunFault::TooLong)),
-    (257, Err(RunFault::TooLong)),
-    (298, Err(RunFault::TooLong)),
-    (299, Err(RunFault::TooLong)),
-    (300, Ok(Some(300))),
-    (301, Ok(Some(300))),
-    (ROWS_MAX, Ok(Some(300))),
-];
-
-#[test]
-fn limits_of_many_rows(rt: HostRuntime) {
-    let text = polls(rt.alloc(), LIMITED_POLLS).expect(&rt, "memory");
-    for (rows, wanted) in &BATCHES {
-        let answer = within(rt.alloc(), text.as_slice(), *rows, BYTES_MAX);
-        same_at(&rt, *rows, counted(answer), *wanted);
-    }
-}
-
-#[test]
-fn each_byte_too_many_is_told(rt: HostRuntime) {
-    for bytes in 0..ROWS_BYTES {
-        let answer = within(rt.alloc(), ROWS, ROWS_MAX, bytes);
-        same_at(&rt, bytes, answer, Err(RunFault::Read));
     }
 }

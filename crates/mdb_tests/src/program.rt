@@ -28,77 +28,38 @@ fn a_line_without_a_command_is_refused(rt: HostRuntime) {
     }
 }
 
-/// What is told of a read that failed.
-static FAILED_READS: [(ErrorKind, &[u8]); 2] = [
-    (
-        ErrorKind::BrokenPipe,
-        b"mdbcheck: the input can't be read\n",
-    ),
-    (
-        ErrorKind::WouldBlock,
-        b"mdbcheck: the input can't be read: it would have to be waited for\n",
-    ),
-];
-
-#[test]
-fn failed_reads_are_told_on_one_line(rt: HostRuntime) {
-    for (kind, line) in &FAILED_READS {
-        let mut reader = Pieces::failing(ROWS, 7, 2, *kind);
-        run_gives(&rt, rt.alloc(), CHECK, &mut reader, (2, b"", *line));
-    }
-}
-
-/// What is told where standard output isn't written.
-const NOT_WRITTEN: &[u8] = b"mdbcheck: the output can't be written\n";
-
 /// A text whose row can't be read.
 const BAD_ROW: &[u8] = b"12,M,200\n";
 
-/// Command lines and texts, whether the first write to standard output fails, or that to standard
-/// error, and what is told.
-static FAILED_WRITES: [(&str, &[u8], bool, &[u8]); 4] = [
-    (CHECK, ROWS, true, NOT_WRITTEN),
-    ("mdbcheck show", ROWS, true, NOT_WRITTEN),
-    (CHECK, BAD_ROW, false, b""),
-    ("mdbcheck frobnicate", BAD_ROW, false, b""),
-];
+/// Command lines, and texts, that write a line to standard error alone.
+static REFUSED: [(&str, &[u8]); 2] = [(CHECK, BAD_ROW), ("mdbcheck frobnicate", BAD_ROW)];
 
-/// Ends the test where a run whose output, or whose line, isn't taken has another status than 2, or
-/// tells something else.
-fn fails_to_write(
+/// Ends the test where a run whose line isn't taken has another status, or writes anything else than
+/// this to standard output.
+fn keeps_its_status(
     rt: &impl Abort,
     alloc: Global,
-    words: &str,
-    text: &[u8],
-    (is_output, told): (bool, &[u8]),
+    (words, text): (&str, &[u8]),
+    (status, report): (u8, &[u8]),
 ) {
     let list = words_of(alloc, words).expect(rt, "memory");
-    let mut out = Sheet::failing(alloc, u64::from(is_output), ErrorKind::BrokenPipe);
-    let mut err = Sheet::failing(alloc, u64::from(!is_output), ErrorKind::BrokenPipe);
-    let status = run_words(alloc, list.as_slice(), text, &mut out, &mut err);
-    let failed = (out.has_failed(), err.has_failed());
-    same_at(rt, words, (status, failed), (2, (is_output, !is_output)));
-    let nothing: &[u8] = b"";
-    let written = (out.text.as_slice(), err.text.as_slice());
-    same_at(rt, words, written, (nothing, told));
-}
-
-#[test]
-fn refused_output_is_told_and_a_refused_line_changes_no_status(rt: HostRuntime) {
-    for (words, text, is_output, told) in &FAILED_WRITES {
-        fails_to_write(&rt, rt.alloc(), *words, *text, (*is_output, *told));
-    }
-}
-
-#[test]
-fn a_refused_line_beside_a_no_changes_nothing_else(rt: HostRuntime) {
-    let alloc = rt.alloc();
-    let list = words_of(alloc, CHECK).expect(&rt, "memory");
-    let mut out = Sheet::failing(alloc, 0, ErrorKind::BrokenPipe);
+    let mut out = Vec::new(alloc);
     let mut err = Sheet::failing(alloc, 1, ErrorKind::BrokenPipe);
-    let status = run_words(alloc, list.as_slice(), REVALUE, &mut out, &mut err);
-    same_at(&rt, CHECK, (status, err.has_failed()), (1, true));
+    let ended = run_words(alloc, list.as_slice(), text, &mut out, &mut err);
+    same_at(rt, words, (ended, err.has_failed()), (status, true));
     let nothing: &[u8] = b"";
-    let written = (out.text.as_slice(), err.text.as_slice());
-    same_at(&rt, CHECK, written, (REVALUE_REPORT, nothing));
+    same_at(
+        rt,
+        words,
+        (out.as_slice(), err.text.as_slice()),
+        (report, nothing),
+    );
+}
+
+#[test]
+fn a_refused_line_changes_no_status(rt: HostRuntime) {
+    for case in &REFUSED {
+        keeps_its_status(&rt, rt.alloc(), *case, (2, b""));
+    }
+    keeps_its_status(&rt, rt.alloc(), (CHECK, REVALUE), (1, REVALUE_REPORT));
 }

@@ -2,9 +2,8 @@
 
 use super::asserts::same;
 use super::streams::Pieces;
-use csv::{ByteRecord, ReaderBuilder};
-use mdb_records::{ReadCause, ReadFault, Record, Records};
-use std::alloc::{AllocError, Global};
+use mdb_records::{ReadCause, ReadFault, Records};
+use std::alloc::Global;
 use std::io::{ErrorKind, Read};
 use std::process::Abort;
 
@@ -129,117 +128,4 @@ fn a_text_of_as_many_bytes_as_its_limit_ends(rt: HostRuntime) {
     let reader = Pieces::new(EIGHT_BYTES, 3);
     let (_, end) = count_rows(&mut Records::new(rt.alloc(), reader, 8), ROWS);
     same(&rt, end, Ok(false));
-}
-
-/// Two records, and the fields of the second, with none after them.
-const TWO_RECORDS: &[u8] = b"1,M,108\n\"2\"\"\",,S;\r\n";
-
-static FIELDS: [Option<&[u8]>; 4] = [Some(b"2\""), Some(b""), Some(b"S;"), None];
-
-fn gives_fields(rt: &impl Abort, records: &mut Records<&[u8]>) {
-    same(rt, records.advance(), Ok(true));
-    same(rt, records.advance(), Ok(true));
-    for (place, field) in FIELDS.iter().enumerate() {
-        same(rt, records.row().get(place), *field);
-    }
-}
-
-#[test]
-fn gives_the_record_field_by_field(rt: HostRuntime) {
-    gives_fields(&rt, &mut Records::new(rt.alloc(), TWO_RECORDS, 99));
-}
-
-/// So many lines of 1,024 bytes.
-fn long_lines(alloc: Global, lines: u64) -> Result<Vec<u8>, AllocError> {
-    let mut text = Vec::new(alloc);
-    for _ in 0..lines {
-        text.extend_from_slice(&[b'7'; 1_023])?;
-        text.push(b'\n')?;
-    }
-    Ok(text)
-}
-
-/// The bytes of 1,500 long lines.
-const LONG_BYTES: u64 = 1_500 * 1_024;
-
-/// Ends the test where other than so many records of a text are given under a limit on its bytes,
-/// or not all bytes of 1,500 long lines are taken. Answers why the reading ended.
-fn is_counted(
-    rt: &impl Abort,
-    alloc: Global,
-    (text, limit): (&[u8], u64),
-    wanted: (u64, Result<bool, ReadFault>),
-) -> ReadCause {
-    let mut records = Records::new(alloc, text, limit);
-    same(rt, count_rows(&mut records, 2_000), wanted);
-    same(rt, records.taken(), LONG_BYTES);
-    records.cause()
-}
-
-#[test]
-fn a_long_text_is_read_to_its_end(rt: HostRuntime) {
-    let text = long_lines(rt.alloc(), 1_500).expect(&rt, "memory");
-    let text = text.as_slice();
-    is_counted(&rt, rt.alloc(), (text, LONG_BYTES), (1_500, Ok(false)));
-    let end = (1_499, Err(ReadFault::Read));
-    let cause = is_counted(&rt, rt.alloc(), (text, LONG_BYTES - 1), end);
-    same(&rt, cause, ReadCause::OverLimit);
-}
-
-/// What short texts are put together of: all that means something to csv, and other bytes.
-static PARTS: [&[u8]; 8] = [
-    b"",
-    b"a",
-    b",",
-    b"\"",
-    b"\r",
-    b"\n",
-    b"\xef\xbb\xbf",
-    b"1,M,8\n",
-];
-
-/// The text of five parts, by the digits of a number of the base 8.
-fn text_of_parts(alloc: Global, number: usize) -> Result<Vec<u8>, AllocError> {
-    let mut text = Vec::new(alloc);
-    let mut rest = number;
-    for _ in 0..5 {
-        text.extend_from_slice(PARTS[rest % 8])?;
-        rest /= 8;
-    }
-    Ok(text)
-}
-
-/// Ends the test where a record has other fields than csv's.
-fn same_fields(rt: &impl Abort, record: &Record<'_>, wanted: &ByteRecord) {
-    same(rt, record.len(), wanted.len());
-    for place in 0..wanted.len() {
-        same(rt, record.get(place), wanted.get(place));
-    }
-}
-
-/// Ends the test where other records are given of a text than csv gives. The text is read in pieces
-/// of three bytes.
-fn same_records(rt: &impl Abort, alloc: Global, text: &[u8]) {
-    let mut records = Records::new(alloc, Pieces::new(text, 3), 99);
-    let mut reader = ReaderBuilder::new()
-        .has_headers(false)
-        .flexible(true)
-        .from_reader(alloc, text);
-    let mut row = ByteRecord::new(alloc);
-    for _ in 0..ROWS {
-        let wanted = reader.read_byte_record(&mut row).ok();
-        same(rt, records.advance().ok(), wanted);
-        if wanted != Some(true) {
-            return;
-        }
-        same_fields(rt, &records.row(), &row);
-    }
-}
-
-#[test]
-fn gives_the_records_of_csv(rt: HostRuntime) {
-    for number in 0..32_768 {
-        let text = text_of_parts(rt.alloc(), number).expect(&rt, "memory");
-        same_records(&rt, rt.alloc(), text.as_slice());
-    }
 }

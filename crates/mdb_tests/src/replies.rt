@@ -3,8 +3,8 @@
 use super::asserts::{same, same_at};
 use arrayvec::ArrayVec;
 use mdb_msgs::{
-    BillCommand, ChangerCommand, ChangerSetup, Command, MsgFault, ReaderCommand, ReaderList,
-    ReaderMsg, ReaderUnit, Reading, Reply, read_reply, write_reply,
+    BillCommand, ChangerCommand, ChangerSetup, Command, ReaderCommand, ReaderUnit, Reading, Reply,
+    read_reply, write_reply,
 };
 use mdb_words::seal;
 use std::process::Abort;
@@ -122,112 +122,4 @@ fn a_shortened_setup_is_another_reply(rt: HostRuntime) {
     is_setup(&rt, &SHORT, &[]);
     is_setup(&rt, &FULL, &[0; 16]);
     assert!(rt; setup_with(&[]) != setup_with(&[0; 16]));
-}
-
-/// A reader's answer of these messages, with a text, if there is one.
-fn list_with(messages: &[ReaderMsg], text: &[u8]) -> Result<ReaderList, MsgFault> {
-    ReaderList::new(messages, &[0; 29], text)
-}
-
-const SHOWN: ReaderMsg = ReaderMsg::Display { time: 5 };
-
-const RESET: ReaderMsg = ReaderMsg::JustReset;
-
-const ID: ReaderMsg = ReaderMsg::PeripheralId;
-
-const BROKEN: ReaderMsg = ReaderMsg::Malfunction(1);
-
-const CONFIG: ReaderMsg = ReaderMsg::Config {
-    level: 1,
-    code: 0x1840,
-    scale: 1,
-    decimals: 2,
-    response: 5,
-    options: 0,
-};
-
-const APPROVED: ReaderMsg = ReaderMsg::VendApproved { amount: 1 };
-
-/// Lists of no length that an answer has: none, 36 of one byte, 18 of 2, 30 and 6, 36, 5 of 8.
-static NO_LENGTH: [(&[ReaderMsg], &[u8]); 6] = [
-    (&[], &[]),
-    (&[RESET; 36], &[]),
-    (&[BROKEN; 18], &[]),
-    (&[ID, SHOWN], &[65; 4]),
-    (&[SHOWN], &[65; 34]),
-    (&[CONFIG; 5], &[]),
-];
-
-/// Lists of such a length: 1, 35 of one byte, 17 of 2, 30 and 5, 34, 4 of 8 and one of 3.
-static LISTS: [(&[ReaderMsg], &[u8]); 6] = [
-    (&[RESET], &[]),
-    (&[RESET; 35], &[]),
-    (&[BROKEN; 17], &[]),
-    (&[ID, SHOWN], &[65; 3]),
-    (&[SHOWN], &[65; 32]),
-    (&[CONFIG, CONFIG, CONFIG, CONFIG, APPROVED], &[]),
-];
-
-/// Lists with a display request that isn't last, or with a loose text.
-static LOOSE: [(&[ReaderMsg], &[u8]); 6] = [
-    (&[SHOWN, RESET], &[]),
-    (&[SHOWN, SHOWN], &[]),
-    (&[RESET, SHOWN, RESET], &[65]),
-    (&[RESET], &[65]),
-    (&[SHOWN], &[65; 33]),
-    (&[RESET; 35], &[65]),
-];
-
-/// Ends the test where one of these lists isn't refused for a fault, or isn't taken where that is
-/// none.
-fn have_fault(rt: &impl Abort, lists: &[(&[ReaderMsg], &[u8])], fault: Option<MsgFault>) {
-    for (messages, text) in lists {
-        let found = list_with(*messages, *text).err();
-        same_at(rt, (*messages, *text), found, fault);
-    }
-}
-
-#[test]
-fn a_list_has_1_to_35_bytes(rt: HostRuntime) {
-    have_fault(&rt, &NO_LENGTH, Some(MsgFault::Length));
-    have_fault(&rt, &LISTS, None);
-}
-
-#[test]
-fn a_list_has_a_display_request_last_and_no_loose_text(rt: HostRuntime) {
-    have_fault(&rt, &LOOSE, Some(MsgFault::Message));
-    let loose = ReaderList::new(&[RESET], &[1; 29], &[]);
-    same(&rt, loose.err(), Some(MsgFault::Message));
-}
-
-#[test]
-fn a_list_is_refused_for_its_length_first(rt: HostRuntime) {
-    let mut messages = [RESET; 35];
-    messages[0] = SHOWN;
-    // 36 bytes, and a display request in front
-    same(&rt, list_with(&messages, &[]).err(), Some(MsgFault::Length));
-    // 35 bytes
-    let found = list_with(&messages[..34], &[]).err();
-    same(&rt, found, Some(MsgFault::Message));
-    // no message, and texts of none
-    same(&rt, list_with(&[], &[65]).err(), Some(MsgFault::Length));
-    let loose = ReaderList::new(&[], &[1; 29], &[]);
-    same(&rt, loose.err(), Some(MsgFault::Length));
-}
-
-/// Ends the test where a list tells something else than what it was made of.
-fn tells(rt: &impl Abort, messages: &[ReaderMsg], id: &[u8; 29], text: &[u8]) {
-    let list = ReaderList::new(messages, id, text).expect(rt, "a list");
-    same(rt, list.messages().as_slice(), messages);
-    same(rt, &list.id(), id);
-    same(rt, list.text(), text);
-}
-
-#[test]
-fn a_list_tells_what_it_was_made_of(rt: HostRuntime) {
-    let mut id = [0; 29];
-    id[0] = 65;
-    id[28] = 66;
-    tells(&rt, &[ReaderMsg::Malfunction(7), ID, SHOWN], &id, &[67]);
-    tells(&rt, &[RESET], &[0; 29], &[]);
 }

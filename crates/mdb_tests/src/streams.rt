@@ -28,12 +28,6 @@ pub(crate) static ENDED: [(&str, &[u8], usize, bool); 3] = [
     ("a failed read", CUT_SHORT, 100, true),
 ];
 
-/// The polls of a long recording, each acknowledged: three rows.
-pub(crate) const POLLS: u64 = 50_000;
-
-/// More reads and writes than `check` and `show` make of a short recording in small pieces.
-pub(crate) const CALLS: u64 = 1_000;
-
 /// Gives a text in pieces, and after it what comes again and again without an end, if anything
 /// does. It counts what it gives, and fails at one of its reads alone.
 #[derive(Drop)]
@@ -190,17 +184,6 @@ impl Sheet {
             writes: 0,
             failing,
             kind,
-        }
-    }
-
-    /// One that takes what is written whole.
-    pub(crate) fn whole(alloc: Global) -> Sheet {
-        Sheet {
-            text: Vec::new(alloc),
-            most: usize::MAX,
-            writes: 0,
-            failing: 0,
-            kind: ErrorKind::Other,
         }
     }
 
