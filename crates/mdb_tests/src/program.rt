@@ -34,8 +34,7 @@ const BAD_ROW: &[u8] = b"12,M,200\n";
 /// Command lines, and texts, that write a line to standard error alone.
 static REFUSED: [(&str, &[u8]); 2] = [(CHECK, BAD_ROW), ("mdbcheck frobnicate", BAD_ROW)];
 
-/// Ends the test where a run whose line isn't taken has another status, or writes anything else than
-/// this to standard output.
+/// Ends the test where a run whose line isn't taken has another status, or another report.
 fn keeps_its_status(
     rt: &impl Abort,
     alloc: Global,
