@@ -1,7 +1,7 @@
 //! What the page's calls answer to small texts.
 
 use mdb_page::{
-    PageAct, PageLayout, PageNews, PageOptions, PageSetup, PageText, PageTold, mdb_page_check,
+    PageAct, PageLayout, PageNews, PageOptions, PageText, PageTold, mdb_page_check,
     mdb_page_layout, mdb_page_list, mdb_page_replay,
 };
 
@@ -53,39 +53,6 @@ fn a_row_that_cannot_be_is_told(rt: HostRuntime) {
     assert!(rt; answer.bytes.starts_with(text));
 }
 
-#[test]
-fn lines_that_are_no_rows_are_told(rt: HostRuntime) {
-    let (number, told, _) = checked(&PageOptions::POWER_ON, b"0,M,108\n1146,M,8\n");
-    assert_eq!(rt; (number, told.row, told.offset, told.fault), (2, 2, 8, 3));
-    let (number, told, _) = checked(&PageOptions::POWER_ON, b"\"0\",M,108\n");
-    assert_eq!(rt; (number, told.row), (4, 1));
-    let (number, told, _) = checked(&PageOptions::POWER_ON, b"0,M,108\r1146,M,008\n");
-    assert_eq!(rt; (number, told.row), (4, 1));
-}
-
-#[test]
-fn options_that_name_no_scope_are_refused(rt: HostRuntime) {
-    let mut options = PageOptions::POWER_ON;
-    options.joined = 1;
-    options.setups[0].count = 2;
-    let (number, _, _) = checked(&options, b"");
-    assert_eq!(rt; number, 5);
-    options.setups[0].count = 0;
-    options.readers[0].level = 3;
-    let (number, _, _) = checked(&options, b"");
-    assert_eq!(rt; number, 5);
-    options.extended = 1;
-    let (number, _, _) = checked(&options, b"");
-    assert_eq!(rt; number, 0);
-    options.readers[0].level = 4;
-    let (number, _, _) = checked(&options, b"");
-    assert_eq!(rt; number, 5);
-    options.readers[0].level = 3;
-    options.joined = 0;
-    let (number, _, _) = checked(&options, b"");
-    assert_eq!(rt; number, 5);
-}
-
 /// A coin of 25 that the changer reported twice. The controller acknowledged both reports.
 pub(crate) const TWICE: &[u8] =
     b"1000,M,108\n2200,M,008\n4200,S,100\n24200,M,10B\n25400,M,00B\n27400,S,00B\n28600,S,10B\n\
@@ -123,21 +90,6 @@ coins-in device 50..50 controller 50..50 difference 0..0\n";
             .bytes
             .starts_with(b"verdict yes\nrows 41\ndecimals changer - ")
     );
-}
-
-#[test]
-fn a_row_without_a_place_in_the_replay_is_told(rt: HostRuntime) {
-    let (number, told, answer) = replayed(&PageOptions::POWER_ON, b"0,M,108\n1146,M,009\n");
-    assert_eq!(rt; (number, told.row, told.offset), (1, 2, 8));
-    assert!(rt;
-        answer
-            .bytes
-            .starts_with(b"verdict no\nrow 2\nrule Sum\nblame controller\n")
-    );
-    let mut options = PageOptions::POWER_ON;
-    options.joined = 1;
-    let (number, _, _) = replayed(&options, TWICE);
-    assert_eq!(rt; number, 5);
 }
 
 /// Nothing was listed here yet.
@@ -214,31 +166,6 @@ fn acts_are_listed_the_first_and_the_last(rt: HostRuntime) {
     assert_eq!(rt; (told.acts, two[0].first, two[1].first), (3, 4, 3));
 }
 
-#[test]
-fn a_block_that_a_break_cuts_is_listed(rt: HostRuntime) {
-    let text = b"0,M,108\n9000,B,100000\n310000,M,108\n311146,M,009\n";
-    let mut acts = [BLANK; 4];
-    let mut told = nothing();
-    assert_eq!(rt;
-        mdb_page_list(
-            &PageOptions::POWER_ON,
-            text,
-            0,
-            0,
-            &mut told,
-            &mut acts,
-            &mut []
-        ),
-        1
-    );
-    assert_eq!(rt; (told.acts, told.row, told.offset), (2, 4, 35));
-    assert_eq!(rt; (acts[0].first, acts[0].last, acts[0].kind), (1, 1, 10));
-    assert_eq!(rt; (acts[0].device, acts[0].count), (0, 0));
-    assert_eq!(rt; (acts[1].first, acts[1].last, acts[1].kind), (2, 2, 9));
-    assert_eq!(rt; (acts[1].start, acts[1].length), (9_000, 100_000));
-    assert_eq!(rt; acts[2].kind, 99);
-}
-
 /// A changer that is reset, tells its set-up, and then of two coins of 0.25 in a reply, which the
 /// controller acknowledges. It doesn't answer what follows.
 const COINS: &[u8] = b"0,M,108\n1146,M,008\n3000,S,100\n300000,M,10B\n301146,M,00B\n303000,S,00B\n\
@@ -313,48 +240,6 @@ fn news_are_listed_and_taken_up_again(rt: HostRuntime) {
     );
     assert_eq!(rt; (told.news, one[0].kind), (6, 1));
     assert_eq!(rt; one[0].is_acknowledged, 1);
-}
-
-/// A validator reports two bills, of which the second is a token. A reader approves 20 units of its
-/// scale factor for item 7.
-const APPROVED: &[u8] =
-    b"0,M,133\n1146,M,033\n3000,S,080\n4146,S,081\n5292,S,101\n7000,M,000\n300000,M,113\n\
-301146,M,000\n302292,M,000\n303438,M,014\n304584,M,000\n305730,M,007\n306876,M,02E\n\
-309000,S,005\n310146,S,000\n311292,S,014\n312438,S,119\n314000,M,000\n";
-
-#[test]
-fn news_have_the_amounts_of_their_devices(rt: HostRuntime) {
-    let mut options = PageOptions::POWER_ON;
-    options.joined = 1;
-    let mut bill = [0; 36];
-    bill[..14].copy_from_slice(b"\x01\x19\x78\x00\x64\x02\x01\x90\x00\x00\xFF\x01\xFF\x88");
-    options.setups[1] = PageSetup {
-        count: 14,
-        bytes: bill,
-    };
-    let mut reader = [0; 36];
-    reader[..9].copy_from_slice(b"\x01\x01\x19\x78\x05\x02\x05\x00\x9F");
-    options.setups[2] = PageSetup {
-        count: 9,
-        bytes: reader,
-    };
-    let mut news = [NO_NEWS; 5];
-    let mut told = nothing();
-    assert_eq!(rt;
-        mdb_page_list(&options, APPROVED, 0, 0, &mut told, &mut [], &mut news),
-        0
-    );
-    assert_eq!(rt; (told.news, told.row), (4, 18));
-    assert_eq!(rt; (news[0].kind, news[0].number, news[0].amount), (4, 0, 100));
-    assert_eq!(rt;
-        (news[0].is_token, news[0].decimals, news[0].device),
-        (0, 2, 2)
-    );
-    assert_eq!(rt; (news[1].kind, news[1].number, news[1].amount), (4, 1, 0));
-    assert_eq!(rt; (news[1].is_token, news[1].worth), (1, 2));
-    assert_eq!(rt; (news[2].kind, news[2].number, news[2].amount), (7, 7, 100));
-    assert_eq!(rt; (news[3].kind, news[3].device, news[3].amount), (9, 3, 100));
-    assert_eq!(rt; (news[3].worth, news[3].decimals, news[3].count), (2, 2, 1));
 }
 
 #[test]

@@ -15,10 +15,6 @@ const OPEN: &[u8] =
 151000,M,000\n171000,M,10D\n172200,M,012\n173400,M,01F\n175400,S,100\n195400,M,10D\n\
 196600,M,012\n197800,M,01F\n199800,S,100\n";
 
-/// A coin of a machine that was running already, and the controller's acknowledgement.
-const COIN: &[u8] =
-    b"115800,M,10B\n117000,M,00B\n119000,S,052\n120200,S,009\n121400,S,15B\n123400,M,000\n";
-
 /// Nothing was told yet.
 const NOTHING: PageTold = PageTold {
     row: 0,
@@ -88,54 +84,6 @@ fn entries_are_passed_over_and_have_room_or_none(rt: HostRuntime) {
 }
 
 #[test]
-fn a_first_coin_is_listed_where_the_machine_was_running(rt: HostRuntime) {
-    let mut options = PageOptions::POWER_ON;
-    options.joined = 1;
-    let mut rises = [BLANK; 2];
-    let (number, told) = risen(&options, COIN, 0, &mut rises);
-    assert_eq!(rt; (number, told.news), (0, 0));
-    let setup = &mut options.setups[0];
-    setup.count = 11;
-    setup.bytes[..11].copy_from_slice(b"\x02\x00\x01\x05\x02\x00\x07\x01\x02\x05\x19");
-    let (number, told) = risen(&options, COIN, 0, &mut rises);
-    assert_eq!(rt; (number, told.news), (0, 1));
-    assert!(rt; is_opening(&rises[0], 5, 0, 0));
-    assert_eq!(rt; rises[1].row, 0);
-}
-
-#[test]
-fn entries_stand_for_the_rows_before_the_one_that_ends_the_reading(rt: HostRuntime) {
-    let mut rises = [BLANK; 3];
-    // The second order is cut after its first word.
-    let cut = &OPEN[..OPEN.len() - 39];
-    let (number, told) = risen(&PageOptions::POWER_ON, cut, 0, &mut rises);
-    assert_eq!(rt; (number, told.row, told.news), (0, 46, 1));
-    assert!(rt; is_opening(&rises[0], 40, 0, 0));
-    assert_eq!(rt; rises[1].row, 0);
-    let (number, told) = risen(
-        &PageOptions::POWER_ON,
-        b"1000,M,108\n2200,M,009\n",
-        0,
-        &mut rises,
-    );
-    assert_eq!(rt; (number, told.row, told.offset, told.news), (1, 2, 11, 0));
-    let (number, told) = risen(
-        &PageOptions::POWER_ON,
-        b"1000,M,108\n2200,M,8\n",
-        0,
-        &mut rises,
-    );
-    assert_eq!(rt; (number, told.row, told.offset, told.fault), (2, 2, 11, 3));
-    let (number, told) = risen(
-        &PageOptions::POWER_ON,
-        b"1000,M,108\n\"2200\",M,008\n",
-        0,
-        &mut rises,
-    );
-    assert_eq!(rt; (number, told.row, told.offset, told.news), (4, 2, 11, 0));
-}
-
-#[test]
 fn the_least_of_two_equal_coins_and_of_two_equal_payouts_takes_a_loss(rt: HostRuntime) {
     let mut ends = [PageEnd {
         value: 9,
@@ -165,13 +113,4 @@ fn the_least_of_two_equal_coins_and_of_two_equal_payouts_takes_a_loss(rt: HostRu
         mdb_page_weights(&options, OPEN, 5, &mut told, &mut ends),
         5
     );
-}
-
-#[test]
-fn options_that_name_no_scope_list_nothing(rt: HostRuntime) {
-    let mut options = PageOptions::POWER_ON;
-    options.setups[0].count = 2;
-    let mut rises = [BLANK; 1];
-    let (number, told) = risen(&options, OPEN, 0, &mut rises);
-    assert_eq!(rt; (number, told.news, rises[0].row), (5, 0, 0));
 }

@@ -106,14 +106,6 @@ fn are_texts(bytes: &[u8], count: u64, first: &[u8], second: &[u8]) -> bool {
         && bytes[first.len()..].starts_with(second)
 }
 
-/// Whether so many first bytes end with a text.
-fn is_ended_by(bytes: &[u8], count: u64, end: &[u8]) -> bool {
-    match bytes.get(..count as usize) {
-        Some(text) => text.ends_with(end),
-        None => false,
-    }
-}
-
 #[test]
 fn faults_are_listed_and_the_whole_is_answered(rt: HostRuntime) {
     let mut lines = PageLines {
@@ -144,30 +136,4 @@ fn faults_are_listed_and_the_whole_is_answered(rt: HostRuntime) {
     let (number, told, _) = surveyed(DAMAGED, 2, &mut faults, &mut lines);
     assert_eq!(rt; (number, told.acts, told.news), (1, 2, 0));
     assert_eq!(rt; lines.count, 0);
-}
-
-#[test]
-fn a_survey_that_ends_early_answers_with_its_stretch(rt: HostRuntime) {
-    let mut lines = PageLines {
-        count: 7,
-        bytes: [0; 1 << 22],
-    };
-    let (number, told, answer) = surveyed(b"0,M,108\n1146,M,8\n", 0, &mut [], &mut lines);
-    assert_eq!(rt; (number, told.row, told.offset), (2, 2, 8));
-    assert_eq!(rt; (told.fault, told.acts, told.news), (3, 0, 0));
-    assert!(rt;
-        answer
-            .bytes
-            .starts_with(b"stretch 1 rows 1-1\ndecimals changer -")
-    );
-    let end = b"unvalued changer 0 bill 0 cashless 0 cashless-2 0\n";
-    assert!(rt; is_ended_by(&answer.bytes, answer.count, end));
-    let (number, told, answer) = surveyed(b"\n\"0\",M,108\n", 0, &mut [], &mut lines);
-    assert_eq!(rt; (number, told.row, told.offset), (4, 1, 1));
-    assert_eq!(rt; (answer.count, lines.count), (0, 0));
-    let (number, told, answer) = surveyed(b"", 0, &mut [], &mut lines);
-    assert_eq!(rt; (number, told.row, told.acts), (0, 0, 0));
-    let none =
-        b"faults 0 controller 0 changer 0 bill 0 cashless 0 cashless-2 0 other 0 profile 0\n";
-    assert!(rt; are_texts(&answer.bytes, answer.count, none, b""));
 }
