@@ -28,11 +28,13 @@ pub(crate) fn tell_aside<E: Write>(
 )
     ensures { HasHeard E.contents err.old err.new (aside_of begins.now checked.now) }
 {
-    let Ok(Checked {
-        outcome: Outcome::No(offence),
-        unjudged,
-        spared,
-    }) = checked
+    let Ok(
+        Checked {
+            outcome: Outcome::No(offence),
+            unjudged,
+            spared,
+        },
+    ) = checked
     else {
         return;
     };
