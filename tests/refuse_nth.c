@@ -4,6 +4,7 @@
  * writes are named, each of them goes on with 7 bytes at most. With `wait` none is refused, and standard input is one
  * that doesn't wait for bytes (O_NONBLOCK). With `interrupt` every second write to standard output is interrupted by a
  * signal before it has moved a byte, and a byte goes to the file descriptor 3; the others go on with 7 bytes at most.
+ * `interrupt-read` is `read` with a signal in place of the refusal.
  * It is used by tests/refused-memory and tests/failing-streams alone, and is no part of the product. */
 typedef unsigned long size_t;
 
@@ -72,10 +73,11 @@ long read(int from, void *bytes, size_t count)
 {
     if (from == 0 && is_named("wait"))
         fcntl(from, F_SETFL, O_NONBLOCK);
-    if (from != 0 || !is_named("read"))
+    int interrupts = is_named("interrupt-read");
+    if (from != 0 || (!interrupts && !is_named("read")))
         return __read(from, bytes, count);
     if (is_refused()) {
-        *__errno_location() = EIO;
+        *__errno_location() = interrupts ? EINTR : EIO;
         return -1;
     }
     return __read(from, bytes, count < PIECE ? count : PIECE);
