@@ -1,6 +1,6 @@
 # Completions of mdbcheck for bash: commands, options, devices and the goals of `explain`. After `<`
-# and `>` they are files. Source this file, or put it where bash-completion looks, as `make install`
-# does.
+# and `>`, and where nothing else fits, they are files. Source this file, or put it where
+# bash-completion looks, as `make install` does.
 
 _mdbcheck() {
     local current=${COMP_WORDS[COMP_CWORD]} devices='changer bill cashless cashless-2'
@@ -59,4 +59,4 @@ _mdbcheck() {
     while IFS= read -r word; do COMPREPLY+=("$word"); done < <(compgen -W "$words" -- "$current")
 }
 
-complete -F _mdbcheck mdbcheck
+complete -o default -F _mdbcheck mdbcheck

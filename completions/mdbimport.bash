@@ -1,4 +1,5 @@
-# Completions of mdbimport for bash: formats, options and units. After `<` and `>` they are files.
+# Completions of mdbimport for bash: formats, options and units. After `<` and
+# `>`, and where nothing else fits, they are files.
 
 _mdbimport() {
     local current=${COMP_WORDS[COMP_CWORD]} before=${COMP_WORDS[COMP_CWORD - 1]} word words=''
@@ -29,4 +30,4 @@ _mdbimport() {
     while IFS= read -r word; do COMPREPLY+=("$word"); done < <(compgen -W "$words" -- "$current")
 }
 
-complete -F _mdbimport mdbimport
+complete -o default -F _mdbimport mdbimport

@@ -6,7 +6,7 @@ the lines, of which one that begins with `record` or `line` refuses the export.
 import re
 
 from second_csv import found
-from second_rows import REFUSED
+from second_rows import REFUSED, left_out, passed
 
 ONLY_M = "no word of a peripheral (S): was only the controller's line recorded?"
 ONLY_S = "no word of the controller (M): was only the peripherals' line recorded?"
@@ -17,8 +17,6 @@ IN_PART = "the part has no row: the rows have times from {} to {}"
 MIDNIGHT = "midnight passed 1 time: the times after it have 24 hours more"
 MIDNIGHTS = "midnight passed {} times: the times after each have 24 hours more"
 HEADER = "the first record is taken for a header"
-PART = "left out {} rows before the part and {} after it"
-PASSED = "left out {} records outside the part that are no rows, or not in order"
 SKIP = "; --skip-damaged leaves out what is damaged"
 SURVEY = "; mdbcheck survey shows what is missing"
 SAME = "wanted a time after that of the row before it, and it is the same"
@@ -203,12 +201,12 @@ ROWS = [
     (US, "7,M,108\nx,S,100\n", "7,M,108", f'record 2 after 7: {TIME}; found "x,S,100"'),
     (US, "0,M,108\nx,S,100\n", "0,M,108", f'record 2 after 0: {TIME}; found "x,S,100"'),
     (US, "7,M,108\n5,x,100\n", "7,M,108", f'record 2 at 5: {LINE}; found "5,x,100"; go on with --from 8'),
-    (f"{US} --from 5", "1,M,108\n3,S,100\n5,M,8\n6,M,0\n", "5,M,008 6,M,000", PART.format(2, 0)),
-    (f"{US} --until 5", "1,M,108\n5,S,100\n6,M,8\n", "1,M,108 5,S,100", PART.format(0, 1)),
-    (f"{US} --from 2 --until 2", "1,M,108\n2,S,100\n3,M,8\n", "2,S,100", PART.format(1, 1)),
+    (f"{US} --from 5", "1,M,108\n3,S,100\n5,M,8\n6,M,0\n", "5,M,008 6,M,000", left_out(2, 0)),
+    (f"{US} --until 5", "1,M,108\n5,S,100\n6,M,8\n", "1,M,108 5,S,100", left_out(0, 1)),
+    (f"{US} --from 2 --until 2", "1,M,108\n2,S,100\n3,M,8\n", "2,S,100", left_out(1, 1)),
     (f"{US} --from 4 --until 2", "1,M,108\n2,S,100\n3,M,8\n5,M,8\n", "",
-     f"{PART.format(3, 1)}\n{IN_PART.format(1, 5)}"),
-    (f"{US} --until 5", "1,M,108\n9,S,100\n3,M,8\n", "1,M,108 3,M,008", PART.format(0, 1)),
+     f"{left_out(3, 1)}\n{IN_PART.format(1, 5)}"),
+    (f"{US} --until 5", "1,M,108\n9,S,100\n3,M,8\n", "1,M,108 3,M,008", left_out(0, 1)),
     (f"{US} --until 5", "2,M,108\n9,S,100\n2,M,8\n", "2,M,108",
      f'record 3 at 2: {SAME}; found "2,M,8"; go on with --from 3'),
     (f"{US} --until 5", "2,M,108\n9,S,100\nx,M,8\n", "2,M,108", f'record 3 after 2: {TIME}; found "x,M,8"'),
@@ -216,20 +214,20 @@ ROWS = [
     (f"{US} --from 5", "2,M,108\n9,x,100\n", "", f'record 2 at 9: {LINE}; found "9,x,100"; go on with --from 10'),
     (f"{US} --from 5", "2,M,108\nx,S,100\n", "", f'record 2 after 2: {TIME}; found "x,S,100"'),
     (f"{US} --from 5", "3,M,108\n2,S,100\n4,x,0\n3\n4,S,0\n5,M,8\n", "5,M,008",
-     f"{PART.format(2, 0)}\n{PASSED.format(3)}"),
+     f"{left_out(2, 0)}\n{passed(3)}"),
     (f"{US} --from 5", "3,M,108\n4,S,100\n5,S,x\n", "", f'record 3 at 5: {WORD}; found "5,S,x"; go on with --from 6'),
     (f"{US} --until 5", "3,M,108\n4,S,100\n5,S,x\n", "3,M,108 4,S,100",
      f'record 3 at 5: {WORD}; found "5,S,x"; go on with --from 6'),
-    (f"{US} --until 5", "3,M,108\n4,S,100\n6,S,x\n", "3,M,108 4,S,100", PASSED.format(1)),
-    (f"{US} --until 5", "3,M,108\n6,S,100\n6,S,1\n7,S,1\n", "3,M,108", f"{PART.format(0, 3)}"),
+    (f"{US} --until 5", "3,M,108\n4,S,100\n6,S,x\n", "3,M,108 4,S,100", passed(1)),
+    (f"{US} --until 5", "3,M,108\n6,S,100\n6,S,1\n7,S,1\n", "3,M,108", f"{left_out(0, 3)}"),
     (f"{US} --from 0", "3,M,108\n1,S,100\n", "3,M,108",
      f'record 2 at 1: {EARLIER}; found "1,S,100"; go on with --from 4'),
-    (f"{US} --from 5", "1,M,108\n2,B,100\n9,S,0\n", "9,S,000", PART.format(2, 0)),
-    (f"{US} --from 9", "1,B,100\n", "", f"{PART.format(1, 0)}\n{IN_PART.format(1, 1)}"),
-    (f"{US} --from 2 --until 3", "1,M,108\n4,S,100\n", "", f"{PART.format(1, 1)}\n{IN_PART.format(1, 4)}"),
-    (f"{US} --until 0", "9,M,108\n7,S,0\n", "", f"{PART.format(0, 2)}\n{IN_PART.format(7, 9)}"),
-    (f"{US} --until 5", "a,c,d\n6,M\n7\n", "", f"{HEADER}\n{PASSED.format(2)}\n{NO_ROW}"),
-    (f"{US} --until 5", "6,M,8\n7\n", "", f"{PART.format(0, 1)}\n{PASSED.format(1)}\n{IN_PART.format(6, 6)}"),
+    (f"{US} --from 5", "1,M,108\n2,B,100\n9,S,0\n", "9,S,000", left_out(2, 0)),
+    (f"{US} --from 9", "1,B,100\n", "", f"{left_out(1, 0)}\n{IN_PART.format(1, 1)}"),
+    (f"{US} --from 2 --until 3", "1,M,108\n4,S,100\n", "", f"{left_out(1, 1)}\n{IN_PART.format(1, 4)}"),
+    (f"{US} --until 0", "9,M,108\n7,S,0\n", "", f"{left_out(0, 2)}\n{IN_PART.format(7, 9)}"),
+    (f"{US} --until 5", "a,c,d\n6,M\n7\n", "", f"{HEADER}\n{passed(2)}\n{NO_ROW}"),
+    (f"{US} --until 5", "6,M,8\n7\n", "", f"{left_out(0, 1)}\n{passed(1)}\n{IN_PART.format(6, 6)}"),
     # Midnight: a time of day that goes back by more than 12 hours.
     ("rows", "23:59:59.990000,M,110\n23:59:59.991200,M,010\n00:00:00.000500,S,100\n",
      "86399990000,M,110 86399991200,M,010 86400000500,S,100", MIDNIGHT),
@@ -249,9 +247,9 @@ ROWS = [
     ("rows", "23:0:0,M,108\n1:0:0,S,x\n", "82800000000,M,108",
      f'record 2 at 90000000000: {WORD}; found "1:0:0,S,x"; go on with --from 90000000001'),
     ("rows --from 86400500000", "23:59:59,M,108\n0:0:0,x,0\n0:0:1,S,100\n", "86401000000,S,100",
-     f"{MIDNIGHT}\n{PART.format(1, 0)}\n{PASSED.format(1)}"),
+     f"{MIDNIGHT}\n{left_out(1, 0)}\n{passed(1)}"),
     ("rows --until 86399500000", "23:59:59,M,108\n0:0:0\n13:0:0,S,0\n0:0:1,S,0\n", "86399000000,M,108",
-     f"{MIDNIGHTS.format(2)}\n{PART.format(0, 2)}\n{PASSED.format(1)}"),
+     f"{MIDNIGHTS.format(2)}\n{left_out(0, 2)}\n{passed(1)}"),
     (US, "13000000000000,M,108\n1,S,0\n", "13000000000000,M,108",
      f'record 2 at 1: {EARLIER}; found "1,S,0"; go on with --from 13000000000001'),
     # Dates are days themselves. Without an offset an hour that comes twice goes back.
@@ -286,17 +284,17 @@ ROWS = [
     ("rows", "2026-11-30;0:0:1;M;108\n", "", f'record 1: {THREE}; found "2026-11-30;0:0:1;M;108"'),
     # A part by times of day and by dates.
     ("rows --until 23:59:59.5", "23:59:59,M,108\n0:0:1,S,0\n", "86399000000,M,108",
-     f"{MIDNIGHT}\n{PART.format(0, 1)}"),
-    ("rows --from 24:00:01", "23:59:59,M,108\n0:0:1,S,0\n", "86401000000,S,000", f"{MIDNIGHT}\n{PART.format(1, 0)}"),
+     f"{MIDNIGHT}\n{left_out(0, 1)}"),
+    ("rows --from 24:00:01", "23:59:59,M,108\n0:0:1,S,0\n", "86401000000,S,000", f"{MIDNIGHT}\n{left_out(1, 0)}"),
     ("rows --from 23:00:00 --until 1:00:00", "23:59:59,M,108\n0:0:1,S,0\n", "",
-     f"{MIDNIGHT}\n{PART.format(0, 2)}\n{IN_PART.format(86399000000, 86401000000)}"),
+     f"{MIDNIGHT}\n{left_out(0, 2)}\n{IN_PART.format(86399000000, 86401000000)}"),
     ("rows --from 2026-11-30T01:00:01+01:00", "2026-11-30 0:0:0;M;108\n2026-11-30 0:0:1;S;0\n",
-     "1795996801000000,S,000", PART.format(1, 0)),
+     "1795996801000000,S,000", left_out(1, 0)),
     ("rows --until 30.11.2026,0:0:0", "2026-11-30T00:00:00Z,M,108\n2026-11-30T00:00:01Z,S,0\n",
-     "1795996800000000,M,108", PART.format(0, 1)),
+     "1795996800000000,M,108", left_out(0, 1)),
     ("rows --from 1795996801000000", "2026-11-30 0:0:0;M;108\n2026-11-30 0:0:1;S;0\n", "1795996801000000,S,000",
-     PART.format(1, 0)),
-    (f"{US} --until 0:0:1", "1000000,M,108\n1000001,S,0\n", "1000000,M,108", PART.format(0, 1)),
+     left_out(1, 0)),
+    (f"{US} --until 0:0:1", "1000000,M,108\n1000001,S,0\n", "1000000,M,108", left_out(0, 1)),
     (f"{US} --from 9", "T,L,D\n1,M,108\n9,x,0\n", "", f'record 3 at 9: {LINE}; found "9,x,0"; go on with --from 10'),
     ("rows --until 5", "1,M,108\n", "", f'record 1: {UNIT}; found "1,M,108"'),
     # The lines.
@@ -362,7 +360,7 @@ ABOVE = [
     (US, "# a\n1,M,108\nTime,Line,Value\n", "1,M,108", f'record 3 after 1: {TIME}; found "Time,Line,Value"'),
     (US, "# a\n", "", f"record 2: {COMMENTS}"), (US, "#\n\n;b\r\n", "", f"record 3: {COMMENTS}"),
     (f"{US} --from 5", "# a\n1,x,108\n# b\n5,M,108\n", "", f'record 3: {THREE}; found "# b"'),
-    (f"{US} --from 5", "# a\n1,x,108\n5,M,108\n", "5,M,108", f"{PASSED.format(1)}\n{ONLY_M}"),
+    (f"{US} --from 5", "# a\n1,x,108\n5,M,108\n", "5,M,108", f"{passed(1)}\n{ONLY_M}"),
     (f"{US} --decimal", "# a\nTime,Line,Value\n1,M,264\n2,M,8\n3,S,256\n", "1,M,108 2,M,008 3,S,100", HEADER),
     (f"{US} --decimal", "1,B,264\n2,M,8\n3,S,0\n", "1,B,264 2,M,008 3,S,000", NO_MODE),
     (US, "1,M,16\n2,M,264\n", "1,M,016", f'record 2 at 2: {WORD}; found "2,M,264"{IS_DECIMAL}; go on with --from 3'),
@@ -406,11 +404,11 @@ ENCODED = [
 MANY = "".join(f"{time},M,108\n" for time in range(70_000))
 LONG_ONES = [
     (f"{US} --from 69999", f"{MANY}x\n", "69999,M,108", f'record 70001 after 69999: {THREE}; found "x"'),
-    (f"{US} --from 69999", MANY, "69999,M,108", f"{PART.format(69_999, 0)}\n{ONLY_M}"),
-    (f"{US} --until 0", MANY, "0,M,108", f"{PART.format(0, 69_999)}\n{ONLY_M}"),
+    (f"{US} --from 69999", MANY, "69999,M,108", f"{left_out(69_999, 0)}\n{ONLY_M}"),
+    (f"{US} --until 0", MANY, "0,M,108", f"{left_out(0, 69_999)}\n{ONLY_M}"),
     (US, MANY, MANY, ONLY_M),
-    (f"{US} --from 5", "0\n" * 300 + "5,M,108\n", "5,M,108", f"{PASSED.format(300)}\n{ONLY_M}"),
-    (f"{US} --until 5", "5,M,108\n" + "6\n" * 300, "5,M,108", f"{PASSED.format(300)}\n{ONLY_M}"),
+    (f"{US} --from 5", "0\n" * 300 + "5,M,108\n", "5,M,108", f"{passed(300)}\n{ONLY_M}"),
+    (f"{US} --until 5", "5,M,108\n" + "6\n" * 300, "5,M,108", f"{passed(300)}\n{ONLY_M}"),
 ]
 
 
@@ -593,7 +591,7 @@ TABLES = [
     ("--until 600000", T + "M,1,0x108,\nS,0.5,0x100,\n", "", f'record 3 at 500000: {LATER}; found "S,0.5,0x100,"'),
     ("--from 600000", T + "M,0.5,0x108,\nS,0.4,0x100,\n", "", f'record 3 at 400000: {LATER}; found "S,0.4,0x100,"'),
     ("--from 600000", T + "M,0.5,0x108,\nx,0.4,0x100,\n", "", f'record 3 at 400000: {NAME}; found "x,0.4,0x100,"'),
-    ("--from 2000000 --until 2000000", T + "M,1,0x108,\nM,2,0x8,\nS,3,0x100,\n", "2000000,M,008", PART.format(1, 1)),
+    ("--from 2000000 --until 2000000", T + "M,1,0x108,\nM,2,0x8,\nS,3,0x100,\n", "2000000,M,008", left_out(1, 1)),
     ("--skip-damaged", T + "M,5,0x108,\nS,1,0x055,framing\nS,1,0x055,framing\nS,5.1,0x0,\n",
      "5000000,M,108 5100000,S,000",
      f"left out 2 damaged words, at 1000000 on S, 1000000 on S{SURVEY}"),
@@ -606,7 +604,7 @@ TABLES = [
      "left out 300 damaged words, the first at 1000000 on S, 2000000 on S, 3000000 on S, 4000000 on S, 5000000 on S"
      f"{SURVEY}\n{NO_ROW}"),
     ("--skip-damaged --until 1", T + "S,9,0x155,framing\nM,2,0x8,\n", "",
-     f"{PART.format(0, 1)}\nleft out 1 damaged word, at 9000000 on S{SURVEY}\n{IN_PART.format(2000000, 2000000)}"),
+     f"{left_out(0, 1)}\nleft out 1 damaged word, at 9000000 on S{SURVEY}\n{IN_PART.format(2000000, 2000000)}"),
     ("--skip-damaged", T + "S,9,0x200,framing\n", "", f'record 2 at 9000000: {MOST}; found "S,9,0x200,framing"'),
     ("--skip-damaged", T + "M,9,0x000,framing\n", "", f'record 2 at 9000000: {HOW_LONG}; found "M,9,0x000,framing"'),
     ("--skip-damaged --break 5", T + "M,9,0x000,framing\n", "9000000,B,5", NO_WORD),

@@ -2,7 +2,8 @@
 formats: exports by hand, and what mdbimport has to write and to tell of each.
 """
 
-from import_corners import IN_PART, LONG, NO_MODE, NO_ROW, NO_WORD, ONLY_M, ONLY_S, PART, SKIP, SURVEY, shown, writes
+from import_corners import IN_PART, LONG, NO_MODE, NO_ROW, NO_WORD, ONLY_M, ONLY_S, SKIP, SURVEY, shown, writes
+from second_rows import left_out
 
 # ---------------------------------------------------------------------------------- sigrok
 
@@ -190,11 +191,11 @@ TRACES = [
     ("", "/".join(f"RX F {at}000" for at in range(1, 301)), "",
      f"passed over 300 pulses shorter than half a bit; the first at 1000 on S\n{NO_ROW}"),
     ("--from 1001 --until 3000", "TX F 5/" + M + S + "TX S 5000/TX 008 5104", "3000,S,100",
-     f"{PART.format(1, 1)}\n{PULSE.format('5 on M')}"),
-    ("--from 9000", M + ZERO + "TX B 5000 205000", "", f"{PART.format(2, 0)}\n{IN_PART.format(1000, 5000)}"),
+     f"{left_out(1, 1)}\n{PULSE.format('5 on M')}"),
+    ("--from 9000", M + ZERO + "TX B 5000 205000", "", f"{left_out(2, 0)}\n{IN_PART.format(1000, 5000)}"),
     ("--from 9000", "TX S 1000/TX F 1104", "", f"record 3 at 1104 on M: {NO_STOP}"),
     ("--skip-damaged --until 9", ZERO + S, "",
-     f"{PART.format(0, 1)}\n{damaged('5000 on M')}\n{IN_PART.format(3000, 3000)}"),
+     f"{left_out(0, 1)}\n{damaged('5000 on M')}\n{IN_PART.format(3000, 3000)}"),
 ]
 
 # ----------------------------------------------------------------------------------- edges
@@ -311,10 +312,10 @@ LEVELS = [
     ("--skip-damaged", "0:11 1000:01 2000:11 2050:01 2200:11 2300:01 2360:11", "2300,M,1FF",
      f"{damaged('1000 on M')}\n{ONLY_M}"),
     # Parts.
-    ("--from 1001 --until 3000", "0:11 1000:01 1060:11 3000:10 3060:11 5000:01 5060:11", "3000,S,1FF", PART.format(1,
+    ("--from 1001 --until 3000", "0:11 1000:01 1060:11 3000:10 3060:11 5000:01 5060:11", "3000,S,1FF", left_out(1,
      1)),
     ("--from 9000", "0:11 1000:10 1030:11 3000:10 3060:11", "",
-     f"{PART.format(1, 0)}\n{PULSE.format('1000 on S')}\n{IN_PART.format(3000, 3000)}"),
+     f"{left_out(1, 0)}\n{PULSE.format('1000 on S')}\n{IN_PART.format(3000, 3000)}"),
     ("--from 9000", "0:11 1000:10 2200:11", "", f"?3 1000 S {FRAMING}"),
     ("--from 1001", "0:11 1000.5:10 1060:11", "1001,S,1FF", ONLY_S),
     # One line upside down: S has words at 3000, 8000 and 13000, and M one at 1000; and the other way round.
@@ -322,7 +323,7 @@ LEVELS = [
         ("", TURNED.format("S")), ("--invert-line S", ""), ("--invert-line s", ""), ("--skip-damaged", TURNED.format("S")))),
     *((words, M_TURNED, "1000,S,1FF 3000,M,1FF 8000,M,1FF 13000,M,1FF", told) for words, told in (
         ("", TURNED.format("M")), ("--invert-line M", ""), ("--invert-line m", ""), ("--skip-damaged", TURNED.format("M")))),
-    ("--from 3000 --until 3000", S_TURNED, "3000,S,1FF", f"{TURNED.format('S')}\n{PART.format(1, 2)}"),
+    ("--from 3000 --until 3000", S_TURNED, "3000,S,1FF", f"{TURNED.format('S')}\n{left_out(1, 2)}"),
     ("", S_TURNED.replace("1000:", "500:11 530:10 1000:"), "1000,M,1FF 3000,S,1FF 8000,S,1FF 13000,S,1FF",
      f"{TURNED.format('S')}\n{PULSE.format('500 on S')}"),
     ("--invert-line M", S_TURNED, "", f"?6 3060 S {FRAME}{LOW_S}"),

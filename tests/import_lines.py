@@ -6,14 +6,14 @@ from second_rows import REFUSED
 
 # The usage lines of mdbimport, and its list of commands (docs/bench/importing.md, *Options*).
 USAGE = {
-    "rows": "rows [--unit s|ms|us|ns] [--controller N] [--peripheral N] [--decimal] [--from T] [--until T]",
-    "sigrok": "sigrok [--swap] [--skip-damaged] [--from T] [--until T] < TRACE",
-    "saleae": "saleae [--controller N] [--peripheral N] [--break T] [--skip-damaged] [--from T] [--until T]",
-    "edges": "edges [--unit U] [--controller N] [--peripheral N] [--invert[-line N]] [--skip-damaged] "
-             "[--from|--until T]",
-    "vcd": "vcd [--controller N] [--peripheral N] [--invert[-line N]] [--skip-damaged] [--from T] [--until T] < DUMP",
+    "rows": "rows [--unit s|ms|us|ns] [--controller N] [--peripheral N] [--decimal] [--from T] [--until T] [FILE]",
+    "sigrok": "sigrok [--swap] [--skip-damaged] [--from T] [--until T] [FILE]",
+    "saleae": "saleae [--controller N] [--peripheral N] [--break T] [--skip-damaged] [--from|until T] [FILE]",
+    "edges": "edges [--unit U] [--controller|--peripheral N] [--invert[-line N]] [--skip-damaged] "
+             "[--from|until T] [FILE]",
+    "vcd": "vcd [--controller N] [--peripheral N] [--invert[-line N]] [--skip-damaged] [--from T] [--until T] [FILE]",
     "messages": "messages [--unit U] [--controller N] [--peripheral N] [--time-of last] [--decimal] "
-                "[--from|--until T]",
+                "[--from|until T] [FILE]",
 }
 COMMANDS = ("rows (CSV), sigrok (trace), saleae (table), edges (CSV), vcd (dump), messages (log); "
             "all: mdbimport manual")
@@ -26,7 +26,7 @@ ONE_NAME = "--controller and --peripheral have one name"
 PART = "isn't a time or a date"
 BREAK = "isn't microseconds below 1000000000"
 TIME_OF = "isn't first or last"
-FILE = "standard input is read: write <"
+NO_FILE = "can't be opened: No such file or directory (os error 2)\n"
 LINES = [
     ("", "no command"),
     ("help", f"commands: {COMMANDS}\n"),
@@ -38,8 +38,10 @@ LINES = [
     ("row", 'unknown command "row" (rows?)'),
     ("--unit s rows", 'unknown option "--unit" (rows --unit?)'),
     ("-- rows", "-- stands before the command"),
-    ("rows more", f"{FILE} more"),
-    ("rows my,file", f'{FILE} "my,file"'),
+    ("rows more", f'"more" {NO_FILE}'),
+    ("rows my,file", f'"my,file" {NO_FILE}'),
+    ("rows decimal", f'"decimal" {NO_FILE.strip()} (--decimal?)\n'),
+    ("rows export.csv --unit min", f'--unit "min" {UNIT}'),
     ("rows --swap", "rows has no --swap: sigrok has it"),
     ("rows -u ms", 'unknown option "-u"'),
     ("rows -unit ms", 'unknown option "-unit" (--unit?)'),
@@ -66,11 +68,12 @@ LINES = [
     ("rows --from 2026-02-30T00:00:00", f'--from "2026-02-30T00:00:00" {PART}'),
     ("rows --from 1969-12-31T00:00:00 --until x", f'--from "1969-12-31T00:00:00" {PART}'),
     ("rows --until 1 --until 1", "--until stands twice"),
-    ("rows -- --unit", 'one word too many: "--unit"'),
+    ("rows -- --unit", f'"--unit" {NO_FILE}'),
+    ("rows export.csv -- --unit", 'one word too many: "--unit"'),
     ("sigrok --unit s", "sigrok has no --unit: rows has it"),
     ("sigrok --swap=1", '--swap takes no value: "1"'),
     ("sigrok --from x", f'--from "x" {PART}'),
-    ("sigrok trace.json", f"{FILE} trace.json"),
+    ("sigrok trace.json", f'"trace.json" {NO_FILE}'),
     ("saleae --unit s", "saleae has no --unit: rows has it"),
     ("saleae --break 1000000000", f'--break "1000000000" {BREAK}'),
     ("saleae --break=", f'--break "" {BREAK}'),
@@ -99,7 +102,7 @@ LINES = [
     ("vcd --controller A --peripheral A", ONE_NAME),
     ("vcd --controller m", f'--controller "m" {NAME}'),
     ("vcd --from x", f'--from "x" {PART}'),
-    ("vcd bus.vcd", f"{FILE} bus.vcd"),
+    ("vcd bus.vcd", f'"bus.vcd" {NO_FILE}'),
     ("messages --unit min", f'--unit "min" {UNIT}'),
     ("messages --time-of firs", f'--time-of "firs" {TIME_OF}'),
     ("messages --time-of=", f'--time-of "" {TIME_OF}'),
@@ -107,7 +110,7 @@ LINES = [
     ("messages --time-of", "--time-of has no value"),
     ("messages --skip-damaged", "messages has no --skip-damaged: sigrok has it"),
     ("messages --controller A --peripheral A", ONE_NAME),
-    ("messages sniffer.log", f"{FILE} sniffer.log"),
+    ("messages sniffer.log", f'"sniffer.log" {NO_FILE}'),
     ("rows --time-of last", "rows has no --time-of: messages has it"),
     ("saleae --decimal", "saleae has no --decimal: rows has it"),
     ("rows --decimal=1", '--decimal takes no value: "1"'),
@@ -123,7 +126,7 @@ LINES = [
     ("vcd --invert --invert-line M", "line 1: wanted more of the dump"),
     ("vcd --invert-line M --invert-line S", "--invert-line stands twice"),
     ("rows", None),
-    ("rows --unit=s --controller -- --from=0", 'one word too many: "--from=0"'),
+    ("rows --unit=s --controller -- --from=0", "--controller has no value"),
     ("rows --unit=s --controller=-- --from=0 --until=999999999999999999 --", None),
     ("vcd --from 0:0:1 --until 2026-11-30T09:14:22.447+01:00", "line 1: wanted more of the dump"),
     ("rows --from 99:59:59,5 --until 30.11.2026,9:14:22Z", None),

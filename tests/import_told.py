@@ -48,12 +48,12 @@ TOLD = [
     (US, b"", NO_ROW),
     (US, b"1,B,100000\n", "there is no word on either line"),
     (US + " --from 3", BOTH, "left out 2 rows before the part and 0 after it\n" + IN_PART.format(1, 2)),
-    (US + " --from 2", BOTH, "left out 1 rows before the part and 0 after it"),
+    (US + " --from 2", BOTH, "left out 1 row before the part and 0 after it"),
     (US + " --until 1", BOTH, "left out 0 rows before the part and 1 after it"),
     (US + " --until 2", BOTH + b"3,X,0\n4\n", "left out 2 records outside the part that are no "
      "rows, or not in order"),
     (US + " --from 3", BOTH + b"2,M,0\n3,S,0\n", "left out 2 rows before the part and 0 after it\n"
-     "left out 1 records outside the part that are no rows, or not in order"),
+     "left out 1 record outside the part that is no row, or not in order"),
     # A header, and first records that are nearly rows.
     (US, b"Time [us],Line,Value\n" + BOTH, HEADER),
     (US, b"Time;Ch;Hex\n" + BOTH, HEADER),

@@ -7,7 +7,7 @@ nothing else is told but which line has no word.
 
 from import_corners import DATE, IN_PART, LONG, MIDNIGHT, MIDNIGHTS, NO_ROW, OTHER, TIME, UNIT
 from second_csv import found
-from second_rows import REFUSED
+from second_rows import REFUSED, left_out
 
 WHO = "wanted M or S before the bytes, or a name given by --controller or --peripheral"
 WORDS = "wanted bytes of two hexadecimal digits, or words of three, at most 1FF"
@@ -21,7 +21,6 @@ LIKELY = WORDS + ARE_DECIMAL  # the end stands after what was found
 ORDER = "wanted a message that begins after the one before it, or at most 50 ms too early"
 
 HEADER = "the first line is taken for a header"
-PART = "left out {} rows before the part and {} after it"
 MADE_UP = "each message has one time: the times of its words are made up, and rules about times say nothing here; "
 STAYS = MADE_UP + "moved no message"
 ONE = MADE_UP + "moved 1 message, by {} microseconds"
@@ -299,7 +298,7 @@ LOGS = [
      ONE.format(2192)),
     ("--time-of last", "23:59:59.9999 M 08\n0:0:0 S 00 00\n", "86399999900,M,108 86400001046,S,000 86400002192,S,100",
      MIDNIGHT, ONE.format(2192)),
-    ("--from 24:00:00", "23:59:59 M 08\n0:00:01 S 00\n", "86401000000,S,100", MIDNIGHT, PART.format(1, 0), STAYS),
+    ("--from 24:00:00", "23:59:59 M 08\n0:00:01 S 00\n", "86401000000,S,100", MIDNIGHT, left_out(1, 0), STAYS),
     ("", "2026-11-29 23:00:00 M 08\n2026-11-29 1:00:00 S 00\n", "1795993200000000,M,108", 2, ORDER),
     ("", "29.11.2026 14:28:00 M 08\n2026-11-29T14:28:01 S 00\n", "1795962480000000,M,108 1795962481000000,S,100"),
     ("", "2026-10-25T02:59:59+02:00 M 08\n2026-10-25T02:00:00+01:00 S 00\n",
@@ -317,15 +316,15 @@ LOGS = [
     (US, "999999 M 08\n5 S 0G\n", "999999,M,108", 2, WORDS),
     (US, "999999 M 08\n5 S 108\n", "999999,M,108", 2, MIXED),
     # Parts, by the times of the rows; the log is read and checked as a whole.
-    (f"{US} --from 1146", "0 M 08 08\n0 S 00\n", "1146,M,008 2292,S,100", PART.format(1, 0), ONE.format(2292)),
-    (f"{US} --until 1146", "0 M 08 08\n0 S 00\n", "0,M,108 1146,M,008", PART.format(0, 1), ONE.format(2292)),
+    (f"{US} --from 1146", "0 M 08 08\n0 S 00\n", "1146,M,008 2292,S,100", left_out(1, 0), ONE.format(2292)),
+    (f"{US} --until 1146", "0 M 08 08\n0 S 00\n", "0,M,108 1146,M,008", left_out(0, 1), ONE.format(2292)),
     (f"{US} --from 0 --until 2292", "0 M 08 08\n0 S 00\n", "0,M,108 1146,M,008 2292,S,100", ONE.format(2292)),
-    (f"{US} --from 9 --until 5", "T\n5 M 08\n9000 S 00\n", "", HEADER, PART.format(1, 1), STAYS,
+    (f"{US} --from 9 --until 5", "T\n5 M 08\n9000 S 00\n", "", HEADER, left_out(1, 1), STAYS,
      IN_PART.format(5, 9000)),
-    (f"{US} --from 10000", "5 M 08 09\n0 S 00\n", "", PART.format(3, 0), ONE.format(2297), IN_PART.format(5, 2297)),
+    (f"{US} --from 10000", "5 M 08 09\n0 S 00\n", "", left_out(3, 0), ONE.format(2297), IN_PART.format(5, 2297)),
     (f"{US} --until 5", "5 M 08\n9000 S 0G\n", "5,M,108", 2, WORDS),
     (f"{US} --from 9000", "5 M 08\n6 X 00\n9000 S 00\n", "", 2, WHO),
-    (f"{US} --from 9000", "5 M 08\n9000 S 00\n", "9000,S,100", PART.format(1, 0), STAYS),
+    (f"{US} --from 9000", "5 M 08\n9000 S 00\n", "9000,S,100", left_out(1, 0), STAYS),
     # Comments above the header and the first message.
     (US, "; a\n \t;\n# b\n1 M 00\n; c\n", ACK, 5, TIME), (US, "; 5 M 00\n6 M 00\n", "6,M,000"),
     (US, "; a\nWhen Who\n1 M 00\n", ACK, HEADER, STAYS, ONLY_M, NO_MODE),

@@ -1,6 +1,6 @@
 /* A library to be loaded before a program (LD_PRELOAD), which refuses one of the program's calls: the one whose number,
- * from 1, is in REFUSE_NTH, of those that REFUSE names: `memory` (allocations), `read` (of standard input) or `write` (to
- * standard output). It then writes a byte to the file descriptor 3. All others are passed on to glibc, and where reads or
+ * from 1, is in REFUSE_NTH, of those that REFUSE names: `memory` (allocations), `read` (of standard input), `write` (to
+ * standard output) or `open` (of files). It then writes a byte to the file descriptor 3. All others are passed on to glibc, and where reads or
  * writes are named, each of them goes on with 7 bytes at most. With `wait` none is refused, and standard input is one
  * that doesn't wait for bytes (O_NONBLOCK). With `interrupt` every second write to standard output is interrupted by a
  * signal before it has moved a byte, and a byte goes to the file descriptor 3; the others go on with 7 bytes at most.
@@ -8,12 +8,13 @@
  * It is used by tests/refused-memory and tests/failing-streams alone, and is no part of the product. */
 typedef unsigned long size_t;
 
-enum { EINTR = 4, EIO = 5, F_SETFL = 4, O_NONBLOCK = 04000, PIECE = 7 };
+enum { EINTR = 4, EIO = 5, EACCES = 13, AT_FDCWD = -100, F_SETFL = 4, O_NONBLOCK = 04000, PIECE = 7 };
 
 extern void *__libc_malloc(size_t size);
 extern void *__libc_realloc(void *old, size_t size);
 extern long __read(int from, void *bytes, size_t count);
 extern long __write(int to, const void *bytes, size_t count);
+extern int __openat_2(int folder, const char *name, int flags);
 extern int *__errno_location(void);
 extern int fcntl(int file, int command, ...);
 extern char *getenv(const char *name);
@@ -67,6 +68,21 @@ void *malloc(size_t size)
 void *realloc(void *old, size_t size)
 {
     return is_named("memory") && is_refused() ? 0 : __libc_realloc(old, size);
+}
+
+/* glibc ends a program that would make a file by this call. */
+int openat(int folder, const char *name, int flags, ...)
+{
+    if (is_named("open") && is_refused()) {
+        *__errno_location() = EACCES;
+        return -1;
+    }
+    return __openat_2(folder, name, flags);
+}
+
+int open(const char *name, int flags, ...)
+{
+    return openat(AT_FDCWD, name, flags);
 }
 
 long read(int from, void *bytes, size_t count)

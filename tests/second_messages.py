@@ -280,7 +280,7 @@ def told(answer):
     lines = ["the first line is taken for a header"] if answer.header else []
     lines += midnight(answer.midnights)
     if answer.before or answer.after:
-        lines.append(f"left out {answer.before} rows before the part and {answer.after} after it")
+        lines.append(second_rows.left_out(answer.before, answer.after))
     count, most = len(answer.moved), max(answer.moved, default=0)
     moved = f"{count} messages, by at most {most} microseconds"
     moved = {0: "no message", 1: f"1 message, by {most} microseconds"}.get(count, moved)

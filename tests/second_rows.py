@@ -48,6 +48,17 @@ def is_refused(answer):
     return answer.refused is not None or not answer.rows
 
 
+def left_out(before, after):
+    """The line on rows outside a part."""
+    return f"left out {before} row{'s' * (before != 1)} before the part and {after} after it"
+
+
+def passed(count):
+    """The line on records outside a part that aren't read as rows."""
+    what = "record outside the part that is no row" if count == 1 else "records outside the part that are no rows"
+    return f"left out {count} {what}, or not in order"
+
+
 def remarks(answer):
     """The lines on standard error where no record is refused, in their order."""
     lines = []
@@ -57,9 +68,9 @@ def remarks(answer):
         lines.append("the first record is taken for a header")
     lines += midnight(getattr(answer, "midnights", 0))
     if answer.before or answer.after:
-        lines.append(f"left out {answer.before} rows before the part and {answer.after} after it")
+        lines.append(left_out(answer.before, answer.after))
     if getattr(answer, "passed", 0):
-        lines.append(f"left out {answer.passed} records outside the part that are no rows, or not in order")
+        lines.append(passed(answer.passed))
     lines += disturbances(answer.pulses, answer.damaged)
     lines += [answer.low] if getattr(answer, "low", None) else []
     if not answer.times:

@@ -23,20 +23,20 @@ ADDRESSES = {"cashless": 0x10, "cashless-2": 0x60}  # of the readers: the first 
 #: Of each program and command: the words that it wants, in brackets where they may be missing, and its options.
 COMMANDS = {
     "mdbcheck": {
-        "check": ("", "--joined --extended --setup --without --json"),
-        "survey": ("", "--joined --extended --setup --without --json"),
-        "show": ("", "--extended --joined --setup --without --json"),
-        "explain": ("ACCOUNT SIDE BOUND", "--extended --without"),
-        "replay": ("", "--extended --without --json"),
+        "check": ("[FILE]", "--joined --extended --setup --without --json"),
+        "survey": ("[FILE]", "--joined --extended --setup --without --json"),
+        "show": ("[FILE]", "--extended --joined --setup --without --json"),
+        "explain": ("ACCOUNT SIDE BOUND [FILE]", "--extended --without"),
+        "replay": ("[FILE]", "--extended --without --json"),
         "manual": ("[COMMAND]", ""),
     },
     "mdbimport": {
-        "rows": ("", "--unit --controller --peripheral --decimal --from --until"),
-        "sigrok": ("", "--swap --skip-damaged --from --until"),
-        "saleae": ("", "--controller --peripheral --break --skip-damaged --from --until"),
-        "edges": ("", "--unit --controller --peripheral --invert --invert-line --skip-damaged --from --until"),
-        "vcd": ("", "--controller --peripheral --invert --invert-line --skip-damaged --from --until"),
-        "messages": ("", "--unit --controller --peripheral --time-of --decimal --from --until"),
+        "rows": ("[FILE]", "--unit --controller --peripheral --decimal --from --until"),
+        "sigrok": ("[FILE]", "--swap --skip-damaged --from --until"),
+        "saleae": ("[FILE]", "--controller --peripheral --break --skip-damaged --from --until"),
+        "edges": ("[FILE]", "--unit --controller --peripheral --invert --invert-line --skip-damaged --from --until"),
+        "vcd": ("[FILE]", "--controller --peripheral --invert --invert-line --skip-damaged --from --until"),
+        "messages": ("[FILE]", "--unit --controller --peripheral --time-of --decimal --from --until"),
         "manual": ("[COMMAND]", ""),
     },
 }
@@ -62,11 +62,13 @@ NUMBERS = ("--break", "--from", "--until")
 
 class Task(NamedTuple):
     """What a program is asked to do: a command, the words after it, and the options with their values. A flag
-    has True. A number is whole; --without has its devices in the order of DEVICES; --setup has texts, sorted."""
+    has True. A number is whole; --without has its devices in the order of DEVICES; --setup has texts, sorted. A
+    file is read in place of standard input."""
 
     command: str
     goal: tuple
     options: dict
+    file: Optional[str] = None
 
     def words(self):
         """The task in one spelling: the options in the order of the manual, each value as a word of its own."""
@@ -138,9 +140,10 @@ def of_command(program, words):
         else:
             given.append(option_of(word, rest, known))
     demand(len(plain) >= sum(one[0] != "[" for one in wanted))
+    file = plain.pop() if wanted[-1] == "[FILE]" and len(plain) == len(wanted) else None
     for word, kind in zip(plain, wanted):
         demand(word in GOALS.get(kind, COMMANDS[program]))
-    return Task(command, tuple(plain), values_of(command, known, given))
+    return Task(command, tuple(plain), values_of(command, known, given), None if file == "-" else file)
 
 
 def option_of(word, rest, known):

@@ -17,6 +17,7 @@ import second_replay
 from second_program import values_of
 
 READERS = {2: "cashless", 12: "cashless-2"}
+DEVICES = {1: "changer", 6: "bill", **READERS}
 # The rules of time, and the time at which the row is tried again, from the row before it.
 MOVED = {"Early": 200_000, "Late": 996, "Spacing": 996, "Break": 200_000}
 # The times of the extended profile.
@@ -34,10 +35,15 @@ def rows_of(data):
         yield fields[1], int(fields[2], 10 if fields[1] == "B" else 16)
 
 
+def last_begun(rows):
+    """The byte with which the last block of the controller in these rows begins."""
+    return next((word & 255 for line, word in reversed(rows) if line == "M" and word > 255), None)
+
+
 def given_levels(words):
-    """The readers that `--setup` says to have level 1."""
+    """The readers that `--setup` says to have level 1, or 0, which counts as 1."""
     text = " ".join(words)
-    return {reader: 1 for reader in READERS.values() if f"{reader} 01 01" in text}
+    return {reader: 1 for reader in READERS.values() if re.search(f"{reader} 01 0[01]", text)}
 
 
 def shown_levels(rows, words):
@@ -74,7 +80,7 @@ def unjudged(data, words, row, rule, blame):
     if "--joined" not in words or "--extended" in words:
         return None
     rows = list(rows_of(data))[:row]
-    begun = next((word & 255 for line, word in reversed(rows) if line == "M" and word > 255), None)
+    begun = last_begun(rows)
     if rows[-1][0] == "M" and rows[-1][1] > 255:
         return None
     reader = READERS.get(begun >> 3) if begun is not None else None
@@ -125,13 +131,20 @@ def spared(data, words, row, rule):
     return length if rule == "Break" else gap
 
 
-def spared_line(row, rule, blame, micros):
+def is_asked_again(data, row):
+    """Whether the row before this one is RET. Of the controller's words it alone comes right after a device's."""
+    before = list(rows_of(data))[max(0, row - 3):row - 1]
+    return [line for line, _ in before] == ["S", "M"]
+
+
+def spared_line(row, rule, blame, micros, is_again):
     """The line of the program on such a row: what is too long is rounded up, and what is too short down."""
     tenths = -(-micros // 100) if rule in ("Late", "Spacing") else micros // 100
     sender = {"controller": "the controller", "other": "a device"}.get(blame, blame)
     did, since = {
         "Early": ("sent a command", " after the row before it"),
-        "Late": ("answered", " after the reply" if blame == "controller" else " after the command"),
+        "Late": ("answered", " after the reply" if blame == "controller" else
+                 " after the controller asked again" if is_again else " after the command"),
         "Spacing": ("sent a word", " after the word before it"),
         "Break": ("sent a break of", ""),
     }[rule]
@@ -139,18 +152,24 @@ def spared_line(row, rule, blame, micros):
             "--extended counts that and goes on\n")
 
 
-def beyond(words, row, blame):
-    """The line of the program on a row that isn't followed."""
+def is_level_given(words, reader):
+    """Whether `--setup` gives the levels of both sides, the controller's and a reader's."""
+    told = second_replay.read_setups(values_of(words, "--setup"), set(values_of(words, "--without")), True)
+    return reader in told.sent_levels and reader in told.told_levels
+
+
+def beyond(data, words, row, blame):
+    """The line of the program on a row that isn't followed: the device is who sent it, or who the block is to."""
     if "--extended" not in words and blame == "bill":
         why = "bill may report a recycler: add --extended"
     elif "--extended" not in words and blame in READERS.values():
         why = f"{blame} goes beyond feature level 1: add --extended"
-    elif "--joined" in words and blame in READERS.values():
+    elif "--joined" in words and blame in READERS.values() and not is_level_given(words, blame):
         why = (f"{blame} sends a message that isn't followed, at least while its level isn't known: "
                f"tell it, as in --setup '{blame} level 3' (or leave it out: --without {blame})")
     elif blame == "controller":
-        why = ("the controller sends a command that isn't followed "
-               "(leave out the device that it is sent to: --without DEVICE)")
+        device = DEVICES[last_begun(list(rows_of(data))[:row]) >> 3]
+        why = f"the controller sends {device} a command that isn't followed (leave it out: --without {device})"
     else:
         why = f"{blame} sends a message that isn't followed (leave it out: --without {blame})"
     return f"mdbcheck: row {row}: {why}\n"
@@ -167,8 +186,8 @@ def aside(data, words, report):
         return line_of(reader)
     micros = spared(data, words, row, rule)
     if micros is not None:
-        return spared_line(row, rule, blame, micros)
-    return beyond(words, row, blame) if rule == "Profile" else ""
+        return spared_line(row, rule, blame, micros, is_asked_again(data, row))
+    return beyond(data, words, row, blame) if rule == "Profile" else ""
 
 
 if __name__ == "__main__":

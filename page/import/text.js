@@ -520,15 +520,19 @@ function movedNote({count, most}) {
 const midnightsNote = (count) => `midnight passed ${
     count === 1 ? "1 time: the times after it" : `${count} times: the times after each`} have 24 hours more`;
 
+const passedWords = (count) => count === 1 ? "record outside the part that is no row" :
+                                             "records outside the part that are no rows";
+
 // What mdbimport reports of a whole import, a line each.
 export function notesOf(part) {
   const {header, before, after, moved, passed, pulses, damaged, midnights, turned, low} = part, notes = [];
   if (turned) notes.push(`line ${turned} is low at rest, and is read upside down`);
   if (header) notes.push(`the first ${header} is taken for a header`);
   if (midnights) notes.push(midnightsNote(midnights));
-  if (before || after) notes.push(`left out ${before} rows before the part and ${after} after it`);
+  if (before || after)
+    notes.push(`left out ${before} ${before === 1 ? "row" : "rows"} before the part and ${after} after it`);
   if (moved) notes.push(movedNote(moved));
-  if (passed) notes.push(`left out ${passed} records outside the part that are no rows, or not in order`);
+  if (passed) notes.push(`left out ${passed} ${passedWords(passed)}, or not in order`);
   if (pulses.count) notes.push(pulsesNote(pulses));
   if (damaged.count) notes.push(damagedNote(damaged));
   if (low) notes.push(low);

@@ -17,6 +17,6 @@ mod told;
 
 pub use line::Line;
 pub use manual::{manual_asked, write_manual};
-pub use named::{Named, read};
-pub use refused::{line_on_refused, row_of};
+pub use named::{FILE, Named, read, read_accepted};
+pub use refused::{line_on_refused, line_on_unopened, row_of};
 pub use table::{CommandRow, Program};

@@ -4,7 +4,7 @@ use super::table::{CommandRow, Program};
 use arrayvec::ArrayString;
 use mdb_writing::Excerpt;
 use std::fmt::Write as _;
-use std::io::Write;
+use std::io::{self, Write};
 
 /// The most characters of a line, without its end.
 const LINE: usize = 199;
@@ -37,6 +37,11 @@ impl Line {
     /// that aren't printed are escaped.
     pub fn add_word(&mut self, front: &str, word: &str, back: &str) {
         let _ = write!(self.text, "{front}{}{back}", Excerpt::of_word(word));
+    }
+
+    /// Adds what went wrong in the system.
+    pub fn add_error(&mut self, error: &io::Error) {
+        let _ = write!(self.text, "{error}");
     }
 
     /// Adds the usage of the command. If no command is named, it adds the list of commands.

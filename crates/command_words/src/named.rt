@@ -4,7 +4,7 @@ use super::build::program_command;
 use super::table::Program;
 use clap::ArgMatches;
 use clap::error::{Error, ErrorKind};
-use std::alloc::Global;
+use std::alloc::{AllocError, Global};
 
 /// What the words of a command line name: a command, and the values of what it knows.
 #[derive(Drop)]
@@ -25,6 +25,27 @@ pub fn read<'a>(
 ) -> Result<Named<'a>, Error> {
     let matches = program_command(alloc, program)?.try_get_matches_from(words)?;
     Ok(Named { matches })
+}
+
+/// What the usage calls the file that is read in place of standard input.
+pub const FILE: &str = "FILE";
+
+/// What the words of a command line name. `None` where they are refused, or ask for help or for the
+/// version.
+///
+/// # Errors
+///
+/// Memory was refused.
+pub fn read_accepted<'a>(
+    alloc: Global,
+    program: &Program<'a>,
+    words: &'a [String],
+) -> Result<Option<Named<'a>>, AllocError> {
+    match read(alloc, program, words) {
+        Ok(found) => Ok(Some(found)),
+        Err(error) if error.kind() == ErrorKind::OutOfMemory => Err(AllocError),
+        Err(_) => Ok(None),
+    }
 }
 
 impl<'a> Named<'a> {
@@ -55,6 +76,14 @@ impl<'a> Named<'a> {
             None | Some([]) => Ok(None),
             Some([value]) => Ok(Some(value)),
             Some(_) => Err(ErrorKind::ArgumentConflict),
+        }
+    }
+
+    /// The file that is read in place of standard input. `None` where none is named, and for `-`.
+    pub fn file(&self) -> Option<&'a str> {
+        match self.value(FILE) {
+            Ok(Some("-")) | Err(_) => None,
+            Ok(name) => name,
         }
     }
 

@@ -2,9 +2,10 @@
 
 use super::line::Line;
 use super::table::{CommandRow, Program, command_named};
-use super::told::add_fault;
+use super::told::{add_fault, has_option};
 use clap::error::{Error, ErrorKind};
 use std::alloc::Global;
+use std::io;
 
 /// The line about words that `clap` refuses, the program's name first: what is wrong, and the usage
 /// of the command alone. Requests for help or for the version are refused too: the line on the
@@ -36,6 +37,24 @@ pub fn line_on_refused(
             }
             _ => line.add(&[": out of memory"]),
         },
+    }
+    line
+}
+
+/// The line on a file that can't be opened, for this reason. If an option of the command has the
+/// name of the file, the line asks whether that is meant.
+pub fn line_on_unopened(
+    program: &Program<'_>,
+    words: &[String],
+    file: &str,
+    error: &io::Error,
+) -> Line {
+    let mut line = Line::of(program);
+    line.add_word(": \"", file, "\" can't be opened: ");
+    line.add_error(error);
+    match row_of(program, words) {
+        Some(row) if has_option(row, file) => line.add(&[" (--", file, "?)"]),
+        _ => {}
     }
     line
 }

@@ -14,8 +14,7 @@ pub struct CommandRow<'a> {
     /// What its further words are called, in their order, after those of `words`. Each may be
     /// missing, and then those after it are missing too.
     pub further: &'a [&'a str],
-    /// How it is called, in printable ASCII: its name, and what its words may be. ` < ` stands
-    /// there if it reads standard input.
+    /// How it is called, in printable ASCII: its name, and what its words may be.
     pub usage: &'a str,
     /// What the manual has on it.
     pub manual: &'a str,

@@ -4,11 +4,8 @@
 //! and line ends the word has. A fixed mark and two line ends follow.
 
 use super::line::Line;
-use super::table::{CommandRow, Program, command_named};
+use super::table::{CommandRow, Program};
 use clap::error::ErrorKind;
-
-/// The most bytes of a file's name that stands without quotes.
-const PLAIN: usize = 24;
 
 /// Adds what is wrong with the words, about which `clap` reported this.
 pub(crate) fn add_fault(
@@ -70,7 +67,7 @@ fn add_unknown(
     match (row, option_told(words, word)) {
         (Some(row), Some(_)) if word.starts_with("--") => add_long(line, program, row, word, rest),
         (Some(row), Some(option)) => add_short(line, row, option),
-        (Some(row), None) => add_stray(line, program, row, word),
+        (Some(row), None) => add_stray(line, row, word),
         (None, Some(option)) => {
             let is_long = word.starts_with("--");
             line.add_word(
@@ -132,34 +129,17 @@ fn owner_of<'a>(program: &Program<'a>, name: &str) -> Option<&'a str> {
 }
 
 /// Whether a command has an option or a flag of this name.
-fn has_option(row: &CommandRow<'_>, name: &str) -> bool {
+pub(crate) fn has_option(row: &CommandRow<'_>, name: &str) -> bool {
     row.options.contains(&name) || row.flags.contains(&name)
 }
 
-/// Adds what is wrong with a word that stands alone. It may be an option without its `--`. If the
-/// command takes no words, it may be the name of a file.
-fn add_stray(line: &mut Line, program: &Program<'_>, row: &CommandRow<'_>, word: &str) {
-    let takes_words = !row.words.is_empty() || !row.further.is_empty();
-    let is_known = word == "help" || command_named(program, word).is_some();
+/// Adds what is wrong with a word that stands alone. It may be an option without its `--`.
+fn add_stray(line: &mut Line, row: &CommandRow<'_>, word: &str) {
     if has_option(row, word) {
         line.add(&["unknown option \"", word, "\" (--", word, "?)"]);
-    } else if takes_words || is_known || word.starts_with("-") {
-        line.add_word("one word too many: \"", word, "\"");
-    } else if is_plain(word) {
-        line.add(&["standard input is read: write < ", word]);
     } else {
-        line.add_word("standard input is read: write < \"", word, "\"");
+        line.add_word("one word too many: \"", word, "\"");
     }
-}
-
-/// Whether a word fits, and needs no quotes for a shell: it consists of letters, digits and `._/-`.
-fn is_plain(word: &str) -> bool {
-    for byte in word.as_bytes() {
-        if !byte.is_ascii_alphanumeric() && !matches!(*byte, b'.' | b'_' | b'/' | b'-') {
-            return false;
-        }
-    }
-    !word.is_empty() && word.len() <= PLAIN
 }
 
 /// Adds that a flag has a value. `clap` quotes the value first, whatever quotes the value has.

@@ -1,5 +1,5 @@
 -- What a follower stands for that heeds the feature levels, row by row.
-use Rattle.mdb_check.proofs.Words.{Bool, Event, HasFollowed, HasRefused, IsActList, IsSomeAnd, Judging, Levels, List, Meets, Met, None, Option, Piece, RefusesAmong, Scope, Some, SomeRefused, [], acts_of, add-one, ap, append_assoc, arith, begins_block, begun_at, drop, false, get_or, get_or_at, is_joined, known_before, last_begun, last_of, length, length-append, option_or, refl, reported, reported_if, subst, sym, take, take_all, take_at, take_more, true, unjudged, with_act, ℕ, ◌++◌, ◌+◌, ◌<◌, ◌∙◌, ◌∷◌, ◌≡◌, ◌≤◌}
+use Rattle.mdb_check.proofs.Words.{Bool, Event, HasFollowed, HasRefused, IsActList, IsSomeAnd, Judging, Levels, List, Meets, Met, None, Option, Piece, RefusesAmong, Scope, Some, SomeRefused, [], acts_of, add-one, ap, append_assoc, arith, before_last, begins_block, begun_at, drop, false, get_or, get_or_at, is_joined, known_before, last_begun, last_of, length, length-append, option_or, refl, reported, reported_if, subst, sym, take, take_all, take_at, take_more, true, unfollowed, unjudged, with_act, ℕ, ◌++◌, ◌+◌, ◌<◌, ◌∙◌, ◌∷◌, ◌≡◌, ◌≤◌}
 use Rattle.std.proofs.Math.Seq.{split_at}
 use Rattle.mdb_bus.proofs.Lists.{last_push}
 use Rattle.mdb_bus.specs.declared.act.Act.{Act}
@@ -149,6 +149,7 @@ pub record HasFed (old : Judging) (rows : List Event) (count : ℕ) (new : Judgi
   pub counted : follow.rows_of new.follower ≡ follow.rows_of old.follower + count
   pub same_scope : follow.scope_of new.follower ≡ follow.scope_of old.follower
   pub same_last : new.last ≡ old.last
+  pub same_earlier : new.earlier ≡ old.earlier
   pub followed : (scope : Scope) (readers : Levels) (before : List Event)
       → HasFollowed scope readers old before
       → HasFollowed scope readers new (before ++ rows)
@@ -177,15 +178,16 @@ module _ {old mid new : Judging} (rows : List Event) (i : ℕ) (row : Event)
   -- is followed
   pub fed_more : follow.rows_of new.follower ≡ follow.rows_of mid.follower + 1
       → follow.scope_of new.follower ≡ follow.scope_of mid.follower
-      → new.last ≡ mid.last
+      → new.last ≡ mid.last → new.earlier ≡ mid.earlier
       → ((scope : Scope) (readers : Levels) (before : List Event)
       → HasFollowed scope readers mid before
       → HasFollowed scope readers new (before ++ get_or rows i row ∷ []))
       → HasFed old (take (i + 1) rows) (i + 1) new
-  fed_more more same same_last follows = record {
+  fed_more more same same_last same_earlier follows = record {
     counted = omega (arith, more, has.counted);
     same_scope = same ∙ has.same_scope;
     same_last = same_last ∙ has.same_last;
+    same_earlier = same_earlier ∙ has.same_earlier;
     followed = λ scope readers before on.
         rw (
           take_more rows i row within,
@@ -261,6 +263,40 @@ last_at earlier rows i d within =
     rw (take_more rows i d within, sym (append_assoc earlier (take i rows) (get_or rows i d ∷ [])))
     (last_push (earlier ++ take i rows) (get_or rows i d))
 
+-- and the row before it
+before_more : (rows : List Event) (row : Event) → before_last (rows ++ row ∷ []) ≡ last_of rows
+before_more [] row = refl
+before_more (first ∷ []) row = refl
+before_more (first ∷ next ∷ []) row = refl
+before_more (first ∷ next ∷ other ∷ rows) row = before_more (next ∷ other ∷ rows) row
+
+pub before_at : (earlier rows : List Event) (i : ℕ) → i < length rows
+    → before_last (earlier ++ take (i + 1) rows) ≡ last_of (earlier ++ take i rows)
+before_at earlier [] i within = absurd (omega (arith, within))
+before_at earlier (d ∷ others) i within =
+    let rows = d ∷ others in
+    rw (take_more rows i d within, sym (append_assoc earlier (take i rows) (get_or rows i d ∷ [])))
+    (before_more (earlier ++ take i rows) (get_or rows i d))
+
+-- the last block up to a row, where the row begins one or doesn't
+pub begun_more : (earlier rows : List Event) (i : ℕ) (d : Event) (own : Option ℕ)
+    → own ≡ begins_block (get_or rows i d) → i < length rows
+    → last_begun (earlier ++ take (i + 1) rows)
+    ≡ option_or own (last_begun (earlier ++ take i rows))
+begun_more earlier rows i d own is within =
+    rw (
+      is,
+      take_more rows i d within,
+      sym (append_assoc earlier (take i rows) (get_or rows i d ∷ [])),
+    )
+    (sym (last_more (earlier ++ take i rows) (get_or rows i d)))
+
+-- no block begins in the rows from here up to there
+pub record NoneBegins (rows : List Event) (left index : ℕ) : Type 0 where
+  pub low : left ≤ index
+  pub same : (earlier : List Event)
+      → last_begun (earlier ++ take index rows) ≡ last_begun (earlier ++ take left rows)
+
 -- where one of the rows is refused
 module _ {judging : Judging} {scope : Scope} {readers : Levels} {earlier rows : List Event}
     (among : RefusesAmong scope readers judging earlier rows) where
@@ -280,9 +316,22 @@ module _ {judging : Judging} {scope : Scope} {readers : Levels} {earlier rows : 
       met.offence.blame judging.begun
       → ((other : Event) → met.row ≡ get_or rows index other)
       → met.last ≡ last_of (earlier ++ take index rows)
+      → met.earlier ≡ before_last (earlier ++ take index rows)
+      → met.unfollowed ≡ unfollowed met.offence.rule met.offence.blame
+      (last_begun (earlier ++ take (index + 1) rows))
       → StopsAmong (λ before row. Meets scope readers judging before row met) earlier rows
-  met_there index met here noted is row last =
+  met_there index met here noted is row last before left =
       let same : met.offence ≡ among.offence = cc (among.is.noted, noted) in
+      let front : take index rows ≡ among.front =
+      ap (take index) among.parts
+      ∙ take_at among.front (among.row ∷ among.rest) index (sym here) in
+      let there : get_or rows index among.row ≡ among.row =
+      ap (λ l. get_or l index among.row) among.parts
+      ∙ get_or_at among.front among.row among.rest among.row index (sym here) in
+      let up_to : take (index + 1) rows ≡ among.front ++ among.row ∷ [] =
+      take_more rows index among.row (rw here front_within)
+      ∙ ap (λ l. l ++ get_or rows index among.row ∷ []) front
+      ∙ ap (λ r. among.front ++ r ∷ []) there in
       record {
         front = among.front;
         row = among.row;
@@ -291,10 +340,11 @@ module _ {judging : Judging} {scope : Scope} {readers : Levels} {earlier rows : 
         stops = record {
           refused = rw same among.is;
           unjudged = is;
-          there = row among.row ∙ ap (λ l. get_or l index among.row) among.parts
-              ∙ get_or_at among.front among.row among.rest among.row index (sym here);
-          last = last ∙ ap (λ l. last_of (earlier ++ take index l)) among.parts
-              ∙ ap (λ l. last_of (earlier ++ l))
-              (take_at among.front (among.row ∷ among.rest) index (sym here));
+          there = row among.row ∙ there;
+          unfollowed = left ∙ ap (λ l. unfollowed met.offence.rule met.offence.blame (last_begun l))
+              (ap (λ l. earlier ++ l) up_to
+              ∙ sym (append_assoc earlier among.front (among.row ∷ [])));
+          last = last ∙ ap (λ l. last_of (earlier ++ l)) front;
+          earlier = before ∙ ap (λ l. before_last (earlier ++ l)) front;
         };
       }

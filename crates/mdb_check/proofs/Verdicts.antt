@@ -1,14 +1,17 @@
 -- Whether the verdict is judged, by how the reading of rows ended.
-use Rattle.mdb_check.proofs.Words.{Event, HasAccepted, IsAnswer, HasTaken, IsRow, IsSpared, IsStopped, IsTakenWhole, IsYes, Judging, Levels, List, Meets, Met, None, Ok, Option, Scope, Some, StandsFor, last_of, offence_of, refl, sym, ℕ, ◌≡◌}
+use Rattle.mdb_check.proofs.Words.{Event, HasAccepted, IsAnswer, HasTaken, IsRow, IsSpared, IsStopped, IsTakenWhole, IsYes, Judging, Levels, List, Meets, Met, Ok, Option, Scope, Some, StandsFor, before_last, last_of, offence_of, refl, sym, ℕ, ◌≡◌}
 use Rattle.std.specs.Prelude.{Err, IfOk, IsErrAnd, Result}
 use Rattle.mdb_words.specs.Refusals.{IsRefusal}
 use Rattle.mdb_follow.specs.Runs.{IsReached}
 use Rattle.mdb_text.specs.declared.outcome.Outcome.{Outcome}
 use Rattle.mdb_text.specs.declared.outcome.Outcome.TheVariants.{No, Yes}
-use Rattle.mdb_verdict.proofs.Verdicts.{impossible, refused_of}
+use Rattle.mdb_verdict.proofs.Ends.{stopped_as}
+use Rattle.mdb_verdict.proofs.Verdicts.{refused_of}
 use Rattle.mdb_verdict.specs.Ending.{HasEnded}
 use Rattle.mdb_verdict.specs.declared.fault.RunFault.{RunFault}
 use Rattle.mdb_check.specs.Verdict.{IsJudgedAs, IsJudgedNo, answer_of}
+use Rattle.mdb_check.specs.declared.beside.Spared.{Spared}
+use Rattle.mdb_check.specs.declared.beside.TheConstants.Beside.{NONE}
 use Rattle.mdb_check.specs.declared.checking.Checked.{Checked}
 
 -- where all rows were taken it is no no
@@ -16,34 +19,29 @@ pub whole_judged : {scope : Scope} (taken : Scope) {readers : Levels} {limit : �
     {all : List (List (List ℕ))} {judging : Judging}
     → IsTakenWhole IsRow (HasTaken scope readers judging) limit all → (outcome : Outcome)
     → ((rows : List Event) → StandsFor judging.follower rows → IsYes scope rows outcome)
-    → IsJudgedAs taken readers limit all outcome None None
-whole_judged taken ended (Yes report) tells_yes = (refl, refl)
+    → IsJudgedAs taken readers limit all outcome NONE
+whole_judged taken ended (Yes report) tells_yes = refl
 whole_judged taken ended (No offence) tells_yes =
     absurd (tells_yes ended.rows ended.has.is.follows.stands)
 
 -- a row can't be, and whether that is judged, and whether its time is spared
 pub judged_no : (scope : Scope) (readers : Levels) (limit : ℕ) (all : List (List (List ℕ)))
-    (judging : Judging) (met : Met) (spared : Option ℕ)
+    (judging : Judging) (met : Met) (spared : Option Spared)
     → ((rows : List Event) → HasAccepted judging.follower rows
     → offence_of judging.follower ≡ Some met.offence → met.last ≡ last_of rows
+    → met.earlier ≡ before_last rows
     → IsSpared scope rows met.row met.offence.rule spared)
     → IsStopped IsRow (λ rows row. Meets scope readers judging rows row met) limit all
-    → IsJudgedNo scope readers limit all met.offence met.unjudged spared
+    → IsJudgedNo scope readers limit all met.offence
+    (record { unjudged = met.unjudged; spared = spared; unfollowed = met.unfollowed })
 judged_no scope readers limit all judging met spared spares ended =
     let at = ended.stops in
     record {
-      no = impossible scope limit all met.offence (record {
-        rows = ended.rows;
-        row = ended.row;
-        fields = ended.fields;
-        rest = ended.rest;
-        read = ended.read;
-        told = ended.told;
-        few = ended.few;
-        stops = at.refused.is;
-      });
+      no = stopped_as ended at.refused.is;
       judged = rw at.unjudged at.refused.judged;
-      timed = rw (sym at.there) (spares ended.rows at.refused.accepted at.refused.noted at.last);
+      timed = rw (sym at.there) (spares ended.rows at.refused.accepted at.refused.noted at.last
+          at.earlier);
+      followed = at.unfollowed;
     }
 
 -- a record isn't taken, or can't be read
@@ -57,7 +55,7 @@ pub refused_answer : (scope : Scope) (readers : Levels) (limit : ℕ) (all : Lis
 refused_answer scope readers limit all judging reaches fault ended (Ok checked) is = absurd is
 refused_answer scope readers limit all judging reaches fault ended (Err other) is =
     refused_of scope limit all (HasTaken scope readers judging) reaches
-    (Meets scope readers judging) fault ended (Err other) is
+    fault ended (Err other) is
 
 -- what holds of a verdict holds of the answer
 pub of_answer : (Holds : Outcome → Type 0) (checked : Result Checked RunFault)

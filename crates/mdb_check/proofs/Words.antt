@@ -8,11 +8,12 @@ pub use Rattle.mdb_bus.specs.Pieces.{HasActList, with_act}
 pub use Rattle.mdb_bus.specs.declared.levels.Levels.{Levels}
 pub use Rattle.mdb_bus.specs.declared.scope.Scope.{Scope}
 pub use Rattle.mdb_follow.specs.Follower.{HasAccepted, StandsFor, offence_of, rows_of, scope_of}
-pub use Rattle.mdb_verdict.specs.Ending.{IsStopped, IsTakenWhole}
-pub use Rattle.mdb_verdict.specs.Verdict.{IsAnswer, IsYes}
+pub use Rattle.mdb_verdict.specs.Ending.{IsYes}
+pub use Rattle.mdb_verdict.specs.Verdict.{IsAnswer, IsStopped, IsTakenWhole}
 pub use Rattle.mdb_words.specs.Row.{IsRow}
 pub use Rattle.mdb_words.specs.declared.event.Event.{Event}
-pub use Rattle.mdb_check.specs.Spared.{CouldBe, IsSpared}
+pub use Rattle.mdb_check.specs.Spared.{CouldBe, IsSpared, before_last}
+pub use Rattle.mdb_check.specs.Unfollowed.{unfollowed}
 pub use Rattle.mdb_check.specs.Unjudged.{begins_block, begun_at, is_joined, known_before, last_begun, reported, reported_if, unjudged}
 pub use Rattle.mdb_check.specs.declared.judging.Judging.{Judging}
 pub use Rattle.mdb_check.specs.declared.judging.Met.{Met}

@@ -1,4 +1,5 @@
 pub mod Spared
+pub mod Unfollowed
 pub mod Unjudged
 pub mod Verdict
 pub mod inner

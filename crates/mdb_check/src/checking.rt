@@ -9,14 +9,17 @@ ghost use Rattle.mdb_text.specs.Text.{report_text};
 ghost use Rattle.mdb_verdict.specs.Answers.{Answers, AnswersText, Leaves};
 ghost use Rattle.mdb_verdict.specs.Forms.{answer_text};
 ghost use Rattle.mdb_verdict.specs.Headline.{Headline};
-ghost use Rattle.mdb_verdict.specs.Verdict.{HasCause, HasMet, HasNoRoom, IsAnswer, IsNoYes, IsToldAs};
+ghost use Rattle.mdb_verdict.specs.Ending.{HasMet, IsToldAs};
+ghost use Rattle.mdb_verdict.specs.Telling.{HasCause, HasNoRoom};
+ghost use Rattle.mdb_verdict.specs.Verdict.{IsAnswer, IsNoYes};
 ghost use Rattle.mdb_check.specs.Verdict.{IsJudgedAs, IsNo, answer_of};
 
+use super::beside::Beside;
 use super::judging::Judging;
 use super::spared::spared;
 use mdb_bus::{Levels, Scope};
 use mdb_follow::{ROWS_MAX, laws};
-use mdb_msgs::{DeviceSet, ReaderUnit, Setups};
+use mdb_msgs::{DeviceSet, Setups};
 use mdb_records::Records;
 use mdb_text::{Form, Outcome};
 use mdb_verdict::laws::verdicts_say_the_headline;
@@ -30,14 +33,8 @@ use std::io::{Read, Write};
 pub struct Checked {
     /// The verdict.
     pub outcome: Outcome,
-    /// With a no that isn't judged, the reader whose feature level the rows don't show. Otherwise
-    /// `None`.
-    pub unjudged: Option<ReaderUnit>,
-    /// With a no by the base profile's times that the extended profile's spare, how many
-    /// microseconds the row takes: a break that is too short lasts so long, and any other row
-    /// starts so long after the row before it. Otherwise `None`. Machines aren't asked, and replies
-    /// are read as by the base profile. So the extended profile may refuse the row all the same.
-    pub spared: Option<u64>,
+    /// What may be said beside it.
+    pub beside: Beside,
 }
 
 /// Reads a recording, writes the text of its verdict, and returns the verdict. The recording begins
@@ -167,8 +164,8 @@ fn check_text<R: Read + Drop, W: Write>(
 }
 
 /// Checks the records that are still to come, at most `rows_max`, and writes the verdict in this
-/// form. Also returns the reader of a no that isn't judged, and the time of a row that the extended
-/// profile's times spare. The levels of the readers are those that are known from elsewhere, as
+/// form. Also returns what may be said beside a no. The levels of the readers are those that are
+/// known from elsewhere, as
 /// `told`: Z2 of a config message of an earlier recording. Afterwards `records` can still be asked
 /// where reading ended.
 ///
@@ -192,9 +189,9 @@ pub fn check_records<R: Read + Drop, W: Write>(
         (W.contents writer.old) (W.contents writer.new) (answer_of result) }
     ensures judged { (all : List (List (List ℕ))) → ToCome R.remaining records.old all
         → IfOk result (λ checked. IsJudgedAs scope.now readers rows_max all checked.outcome
-        checked.unjudged checked.spared) }
+        checked.beside) }
     ensures no_other { IfOk result (λ checked.
-        IsNo checked.outcome ⊎ (checked.unjudged ≡ None)) }
+        IsNo checked.outcome ⊎ (checked.beside ≡ Beside.NONE)) }
     ensures leaves { Leaves W.contents (answer_text form scope.now) RunFault.Write writer.old
         writer.new (answer_of result) }
     ensures whole { IsOverLimit R.remaining records.old → IsNoYes (answer_of result) }
@@ -237,9 +234,9 @@ fn verdict_on<R: Read + Drop>(
         → IsAnswer scope.now rows_max all (answer_of result) }
     ensures judged { (all : List (List (List ℕ))) → ToCome R.remaining records.old all
         → IfOk result (λ checked. IsJudgedAs scope.now readers rows_max all checked.outcome
-        checked.unjudged checked.spared) }
+        checked.beside) }
     ensures no_other { IfOk result (λ checked.
-        IsNo checked.outcome ⊎ (checked.unjudged ≡ None)) }
+        IsNo checked.outcome ⊎ (checked.beside ≡ Beside.NONE)) }
     ensures whole { IsOverLimit R.remaining records.old → IsNoYes (answer_of result) }
     ensures heard { IfErr result (HasMet (fault_of records.new)) }
     ensures met { fault_of records.old ≡ None → IfSome (fault_of records.new)
@@ -254,13 +251,15 @@ fn verdict_on<R: Read + Drop>(
     match read_rows(records, batch, &mut judging, &mut known, rows_max)? {
         None => Ok(Checked {
             outcome: outcome_of(&judging.follower),
-            unjudged: None,
-            spared: None,
+            beside: Beside::NONE,
         }),
         Some(met) => Ok(Checked {
             outcome: Outcome::No(met.offence),
-            unjudged: met.unjudged,
-            spared: spared(scope, &met, judging.follower),
+            beside: Beside {
+                unjudged: met.unjudged,
+                spared: spared(scope, &met, judging.follower),
+                unfollowed: met.unfollowed,
+            },
         }),
     }
 }

@@ -8,14 +8,17 @@ ghost use Rattle.mdb_bus.specs.declared.scope.Scope.{Scope};
 ghost use Rattle.mdb_bus.specs.ActLists.{last_of};
 ghost use Rattle.mdb_follow.specs.declared.follower.TheConstants.{ROWS_MAX};
 ghost use Rattle.mdb_follow.specs.Follower.{offence_of, rows_of, scope_of};
+ghost use Rattle.mdb_check.specs.Spared.{before_last};
+ghost use Rattle.mdb_check.specs.Unfollowed.{unfollowed};
 ghost use Rattle.mdb_check.specs.Unjudged as spec;
 ghost use Rattle.mdb_check.specs.inner.Steps.{HasFollowed, HasTaken, Meets, RefusesAmong, SomeRefused};
 
+use super::beside::unfollowed;
 use super::reported::{known_before, reported_if};
 use super::unjudged::unjudged;
 use mdb_bus::{Beginning, Levels, Profile, Scope, laws as links};
 use mdb_follow::{Follower, Offence};
-use mdb_msgs::ReaderUnit;
+use mdb_msgs::{Device, ReaderUnit};
 use mdb_verdict::TakeRows;
 use mdb_words::{Event, Line};
 
@@ -31,6 +34,10 @@ pub(crate) struct Met {
     pub(crate) row: Event,
     /// The row before it, if there is one.
     pub(crate) last: Option<Event>,
+    /// The row before that one.
+    pub(crate) earlier: Option<Event>,
+    /// The device that isn't followed, where the rule is `Profile`.
+    pub(crate) unfollowed: Option<Device>,
 }
 
 /// A follower, and what its rows show of the feature levels at which the readers and the controller
@@ -48,6 +55,8 @@ pub(crate) struct Judging {
     pub(crate) begun: Option<u8>,
     /// The last row. It is kept once for all rows that are taken together.
     pub(crate) last: Option<Event>,
+    /// The row before it, likewise.
+    pub(crate) earlier: Option<Event>,
 }
 
 impl Judging {
@@ -63,6 +72,7 @@ impl Judging {
             reported: known_before(scope, readers),
             begun: None,
             last: None,
+            earlier: None,
         }
     }
 
@@ -78,6 +88,7 @@ impl Judging {
             → RefusesAmong scope readers self.new before rows.now) }
         ensures scope { scope_of self.new.follower ≡ scope_of self.old.follower }
         ensures last { self.new.last ≡ self.old.last }
+        ensures earlier { self.new.earlier ≡ self.old.earlier }
     {
         if !self.joined {
             return match self.follower.feed_all(rows) {
@@ -108,6 +119,7 @@ impl Judging {
         ensures counted { OnTrue result (rows_of self.new.follower ≡ rows_of self.old.follower +
             1) }
         ensures last { self.new.last ≡ self.old.last }
+        ensures earlier { self.new.earlier ≡ self.old.earlier }
         ensures joined { self.new.joined ≡ self.old.joined }
     {
         links::transcripts_have_one_act_list();
@@ -124,8 +136,9 @@ impl Judging {
         }
     }
 
-    /// What was met at the row at an index of these rows.
-    fn met(&self, rows: &[Event], index: usize) -> Met
+    /// What was met at the row at an index of these rows, where the last block of the controller
+    /// before these begins with this byte.
+    fn met(&self, begun: Option<u8>, rows: &[Event], index: usize) -> Met
         requires met { IsSome (offence_of self.now.follower) }
         requires within { index < length rows.now }
         ensures offence { offence_of self.now.follower ≡ Some result.offence }
@@ -134,6 +147,12 @@ impl Judging {
         ensures row { (other : Event) → result.row ≡ get_or rows.now index other }
         ensures last { (earlier : List Event) → self.now.last ≡ last_of earlier
             → result.last ≡ last_of (earlier ++ take index rows.now) }
+        ensures earlier { (earlier : List Event) → self.now.last ≡ last_of earlier
+            → self.now.earlier ≡ before_last earlier
+            → result.earlier ≡ before_last (earlier ++ take index rows.now) }
+        ensures unfollowed { (earlier : List Event) → begun ≡ spec.last_begun earlier
+            → result.unfollowed ≡ unfollowed result.offence.rule result.offence.blame
+            (spec.last_begun (earlier ++ take (index + 1) rows.now)) }
     {
         let Some(offence) = self.follower.offence() else {
             unreachable!()
@@ -143,6 +162,8 @@ impl Judging {
             unjudged: unjudged(self.joined, self.reported, offence, self.begun),
             row: rows[index],
             last: row_before(self.last, rows, index),
+            earlier: row_before_that(self.earlier, self.last, rows, index),
+            unfollowed: unfollowed(offence, begun_before(begun, rows, index + 1)),
         }
     }
 }
@@ -158,6 +179,42 @@ fn row_before(last: Option<Event>, rows: &[Event], index: usize) -> Option<Event
     } else {
         Some(rows[index - 1])
     }
+}
+
+/// The row before that one, where the last row and the one before it come before these rows.
+fn row_before_that(
+    earlier: Option<Event>,
+    last: Option<Event>,
+    rows: &[Event],
+    index: usize,
+) -> Option<Event>
+    requires { index ≤ length rows.now }
+    ensures { (front : List Event) → last ≡ last_of front → earlier ≡ before_last front
+        → result ≡ before_last (front ++ take index rows.now) }
+{
+    if index == 0 {
+        earlier
+    } else {
+        row_before(last, rows, index - 1)
+    }
+}
+
+/// The byte with which the last block of the controller begins before the one at an index of these
+/// rows, where the last block before them begins so.
+// From the end, since a block begins near it.
+fn begun_before(begun: Option<u8>, rows: &[Event], index: usize) -> Option<u8>
+    requires { index ≤ length rows.now }
+    ensures { (earlier : List Event) → begun ≡ spec.last_begun earlier
+        → result ≡ spec.last_begun (earlier ++ take index rows.now) }
+{
+    let mut left = index;
+    while left > 0 {
+        if let Some(byte) = begins_block(&rows[left - 1]) {
+            return Some(byte);
+        }
+        left -= 1;
+    }
+    begun
 }
 
 /// It stops at the first row that can't be. Meanwhile it reports nothing: what it is given to
@@ -187,13 +244,15 @@ impl TakeRows<Levels> for Judging {
 
     // A follower has a loop of its own. Where it is fed, no answer for each row goes by.
     fn take_all(&mut self, _readers: &mut Levels, rows: &[Event]) -> Option<Met> {
-        let before = self.follower.rows();
+        let (before, begun) = (self.follower.rows(), self.begun);
         if self.feed_all(rows) {
+            self.begun = begun_before(begun, rows, rows.len());
+            self.earlier = row_before_that(self.earlier, self.last, rows, rows.len());
             self.last = row_before(self.last, rows, rows.len());
             return None;
         }
         let index = (self.follower.rows() - before) as usize;
-        Some(self.met(rows, index))
+        Some(self.met(begun, rows, index))
     }
 
     ghost counts = { λ judging readers after rows has. has.is.follows.counted };

@@ -17,12 +17,14 @@
 //! Money is in the smallest unit of its device, and times are in microseconds.
 #![tactic(auto)]
 
+mod beside;
 mod checking;
 mod judging;
 mod reported;
 mod spared;
 mod unjudged;
 
+pub use beside::{Beside, Spared};
 pub use checking::{
     Checked, answer_of, check, check_joined, check_records, check_scoped, check_within,
 };

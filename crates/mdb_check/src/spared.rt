@@ -7,21 +7,22 @@ ghost use Rattle.mdb_bus.specs.Bus as links;
 ghost use Rattle.mdb_bus.specs.Times as times;
 ghost use Rattle.mdb_follow.specs.Follower.{HasAccepted, is_late, offence_of, scope_of};
 ghost use Rattle.mdb_check.specs.Spared as spec;
-ghost use Rattle.mdb_check.specs.Spared.{CouldBe, IsSpared};
+ghost use Rattle.mdb_check.specs.Spared.{CouldBe, IsSpared, before_last};
 ghost use Rattle.mdb_bus.specs.Pieces.{HasActList};
 
+use super::beside::Spared;
 use super::judging::Met;
 use mdb_bus::{Bus, Profile, Rule, Scope};
 use mdb_follow::Follower;
-use mdb_words::{Event, SHORT_BREAK_MIN, Time, WORD_GAP_MIN, gap_of};
+use mdb_words::{Event, Line, SHORT_BREAK_MIN, Time, WORD_GAP_MIN, gap_of};
 
-/// How long the row that was met takes, in microseconds, if the extended profile's times spare it.
-/// The follower has met it. A break that is too short lasts so long. Any other row starts so long
-/// after the row before it.
-pub(crate) fn spared(scope: &Scope, met: &Met, follower: Follower) -> Option<u64>
+/// How long the row that was met takes, if the extended profile's times spare it. The follower has
+/// met it.
+pub(crate) fn spared(scope: &Scope, met: &Met, follower: Follower) -> Option<Spared>
     requires { scope_of follower ≡ scope.now }
     ensures { (rows : List Event) → HasAccepted follower rows
         → offence_of follower ≡ Some met.now.offence → met.now.last ≡ last_of rows
+        → met.now.earlier ≡ before_last rows
         → IsSpared scope.now rows met.now.row met.now.offence.rule result }
 {
     match scope.begins.profile() {
@@ -29,11 +30,26 @@ pub(crate) fn spared(scope: &Scope, met: &Met, follower: Follower) -> Option<u64
         Profile::Base => {
             let micros = time_of(met.offence.rule, &met.last, &met.row)?;
             if could_be(scope, met, follower.into_bus()) {
-                Some(micros)
+                Some(Spared {
+                    micros,
+                    after_ret: is_ret(&met.earlier, &met.last),
+                })
             } else {
                 None
             }
         }
+    }
+}
+
+/// Whether the second of two rows is RET, where an answer is due after it.
+fn is_ret(earlier: &Option<Event>, last: &Option<Event>) -> bool
+    ensures { result ≡ spec.is_ret earlier.now last.now }
+{
+    match (earlier, last) {
+        (Some(Event::Word { line: from, .. }), Some(Event::Word { line: to, .. })) => {
+            matches!((from, to), (Line::Peripheral, Line::Controller))
+        }
+        _ => false,
     }
 }
 

@@ -1,11 +1,11 @@
 -- What is answered, by how the reading of entries ended.
-use Rattle.mdb_explain.proofs.Words.{AreMarkRows, AreRows, CanBe, Entry, Err, Event, Finishes, HasMarkedCause, HasReplayed, IfErr, InputPart, IsEntry, IsNoEntry, IsReplayAnswer, IsStoppedAt, LeadUpToPart, List, Mark, MarkedFault, No, Offence, Ok, Option, Outcome, ROWS_MAX, Replaying, Result, RunFault, Scope, StopsAt, Yes, [], all_marks, ap, append-nil, arith, entries_of, inl, inr, length, map, mark_entry, parts_of, ℕ, ◌++◌, ◌∙◌, ◌∷◌, ◌≡◌, ◌≢◌}
+use Rattle.mdb_explain.proofs.Words.{AreMarkRows, AreRows, CanBe, Entry, Err, Event, Finishes, HasMarkedCause, HasReplayed, IfErr, InputPart, IsEntry, IsNoEntry, IsReplayAnswer, IsStoppedAt, LeadUpToPart, List, Mark, MarkedFault, No, Offence, Ok, Option, Outcome, ROWS_MAX, Replaying, Result, RunFault, Scope, StopsAt, Yes, [], all_marks, ap, append-nil, arith, entries_of, inl, inr, length, map, mark_entry, parts_of, sym, ℕ, ◌++◌, ◌∙◌, ◌∷◌, ◌≡◌, ◌≢◌}
 use Rattle.mdb_explain.specs.declared.entry.Entry.TheVariants as entries
 use Rattle.mdb_explain.specs.declared.fault.MarkedFault.TheVariants as marked
 use Rattle.mdb_verdict.specs.declared.fault.RunFault.TheVariants as run
 use Rattle.mdb_records.specs.declared.ReadFault.{ReadFault}
-use Rattle.mdb_verdict.specs.Batch.{AreAll}
-use Rattle.mdb_verdict.specs.Ending.{AreRead, HasEnded, IsStopped, IsTakenWhole}
+use Rattle.mdb_verdict.specs.Unanswered.{IsUnanswered}
+use Rattle.mdb_verdict.specs.Verdict.{AreAll, AreRead, IsStopped, IsTakenWhole}
 use Rattle.mdb_explain.proofs.MarkSteps.{entries_count}
 
 -- Records that are read as the entries of a part are mark rows, and then rows.
@@ -49,10 +49,13 @@ module _ (scope : Scope) (all : List (List (List ℕ))) where
       → IsReplayAnswer scope ROWS_MAX all answer
   whole taker ended answer finishes = told answer (finishes ended.rows ended.has)
     where
+      read : AreRead IsEntry all ended.rows []
+      read = record { done = all; split = sym (append-nil all); told = ended.told }
+
       told : (answer : Result Outcome MarkedFault) → Finishes scope ended.rows answer
           → IsReplayAnswer scope ROWS_MAX all answer
       told (Ok (Yes report)) is =
-          let lead = leading is.part ended.read is.are is.can_be in
+          let lead = leading is.part read is.are is.can_be in
           let marks : all_marks is.part ≡ is.part.passed = rw is.none (append-nil is.part.passed) in
           record {
             marks = is.part.passed;
@@ -68,7 +71,7 @@ module _ (scope : Scope) (all : List (List (List ℕ))) where
           }
       told (Err (marked.Mark row)) is = inr (record {
         part = is.part;
-        leads = leading is.part ended.read is.are is.can_be;
+        leads = leading is.part read is.are is.can_be;
         mark = is.mark;
         more = is.more;
         first = is.first;
@@ -100,12 +103,11 @@ module _ (scope : Scope) (all : List (List (List ℕ))) where
   stopped (marked.Run fault) ended = tt
 
   -- a record can't be read: none is one too many that wasn't stopped at
-  pub refused : (taker : Replaying)
-      (Stops : List Entry → Entry → Result Offence MarkedFault → Type 0) (fault : RunFault)
-      → HasEnded IsEntry IsNoEntry (HasReplayed scope taker) Stops 200000001 all (Err fault)
+  pub refused : (taker : Replaying) (fault : RunFault)
+      → IsUnanswered IsEntry IsNoEntry (HasReplayed scope taker) 200000001 all fault
       → IsReplayAnswer scope ROWS_MAX all (Err (marked.Run fault))
-  refused taker Stops (run.BadRow row fault) ended = absurd ended.refused
-  refused taker Stops run.TooLong ended =
+  refused taker (run.BadRow row fault) ended = absurd ended.refused
+  refused taker run.TooLong ended =
       let can = ended.has.can_be in
       absurd (omega (
         arith,
@@ -115,7 +117,7 @@ module _ (scope : Scope) (all : List (List (List ℕ))) where
         can.few_marks,
         can.few_rows,
       ))
-  refused taker Stops fault ended = tt
+  refused taker fault ended = tt
 
 -- a failed read is told as such alone
 pub cause_unread : (answer : Result Outcome MarkedFault) (met : Option ReadFault)

@@ -92,7 +92,7 @@ module _ (scope : Scope) (laws : MarkLaws scope) (goal : Goal) (records : List (
       subst (ComesTo goal checked) (more.one_answer ROWS_MAX
       (read_records default_config (strip_bom text)) (Ok (Yes reported.0)) answer whole replayed tt
       own) (more.comes is.rows goal is.marks checked reported.0 is.explains
-      (rw one_rows at possible.is) reported.1)
+      (rw one_rows at possible.has.0) reported.1)
 
   -- and is within the limit of bytes
   pub short_text : ExplanationsAreShort → length text ≤ BYTES_MAX

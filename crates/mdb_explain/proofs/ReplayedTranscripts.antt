@@ -1,5 +1,5 @@
 -- The transcript of an input that is replayed with a yes is one for which `check` says yes.
-use Rattle.mdb_explain.proofs.Words.{AreRows, Err, Event, FrontsAreReached, HaveRun, IsAnswer, IsOwnAnswer, IsReplayed, IsRow, LeadUpTo, List, No, Ok, Outcome, Report, Result, RunFault, Scope, Yes, [], ap, append-nil, append_assoc, arith, as_many, compared, inl, inr, length, length-append, refl, row_not_refused, row_one, take_all, ℕ, ◌++◌, ◌∙◌, ◌∷◌, ◌≡◌}
+use Rattle.mdb_explain.proofs.Words.{AreRead, AreRows, Err, Event, FrontsAreReached, HaveRun, IsAnswer, IsOwnAnswer, IsReplayed, IsRow, List, No, Ok, Outcome, Report, Result, RunFault, Scope, Yes, [], ap, append-nil, append_assoc, arith, as_many, compared, inl, inr, length, length-append, refl, row_not_refused, row_one, take_all, ℕ, ◌++◌, ◌∙◌, ◌∷◌, ◌≡◌}
 use Rattle.mdb_follow.specs.Runs.{IsReached}
 use Rattle.mdb_verdict.specs.declared.fault.RunFault.TheVariants as run
 
@@ -10,11 +10,11 @@ record RowAfter (all rows : List Event) (fields : List (List ℕ)) : Type 0 wher
   told : IsRow fields event
   split : all ≡ rows ++ event ∷ more
 
-row_after : (scope : Scope) (records : List (List (List ℕ))) (all rows : List Event)
-    (fields : List (List ℕ)) → AreRows records all → LeadUpTo scope records rows fields
-    → RowAfter all rows fields
-row_after scope records all rows fields told leads =
-    elim (compared records leads.done [] (fields ∷ leads.rest) all rows told leads.told
+row_after : (records : List (List (List ℕ))) (all rows : List Event) (fields : List (List ℕ))
+    (rest : List (List (List ℕ))) → AreRows records all
+    → AreRead IsRow records rows (fields ∷ rest) → RowAfter all rows fields
+row_after records all rows fields rest told leads =
+    elim (compared records leads.done [] (fields ∷ rest) all rows told leads.told
     (append-nil records ∙ leads.split)) [
       | inl same ↦ absurd (cc (same.1))
       | inr (inl on) ↦ absurd (cc (on.record_is))
@@ -57,22 +57,23 @@ module _ (scope : Scope) (limit : ℕ) (records : List (List (List ℕ))) (repor
       ) at all)
 
   -- the row after rows that lead up to a record
-  after : {rows : List Event} {fields : List (List ℕ)}
-      → LeadUpTo scope replayed.transcript rows fields → RowAfter replayed.rows rows fields
-  after {rows = rows} {fields = fields} leads =
-      row_after scope replayed.transcript replayed.rows rows fields replayed.are_rows leads
+  after : {rows : List Event} {fields : List (List ℕ)} {rest : List (List (List ℕ))}
+      → AreRead IsRow replayed.transcript rows (fields ∷ rest)
+      → RowAfter replayed.rows rows fields
+  after {rows = rows} {fields = fields} {rest = rest} leads =
+      row_after replayed.transcript replayed.rows rows fields rest replayed.are_rows leads
 
   -- so the answer to it is a yes
   pub says_yes : FrontsAreReached scope → (answer : Result Outcome RunFault)
       → IsAnswer scope limit replayed.transcript answer → IsOwnAnswer answer
       → (checked : Report) × (answer ≡ Ok (Yes checked))
   says_yes fronts (Ok (Yes checked)) is own = (checked, refl)
-  says_yes fronts (Ok (No offence)) is own = absurd (is.is.not_reached
-      (reached_after fronts is.rows is.fields is.row (after is.stops) is.told))
+  says_yes fronts (Ok (No offence)) is own = absurd (is.stops.not_reached
+      (reached_after fronts is.rows is.fields is.row (after is.read) is.told))
   says_yes fronts (Err (run.BadRow row fault)) is own = absurd (row_not_refused is.fields
-      (after is.stops).event fault (after is.stops).told is.refused)
+      (after is.read).event fault (after is.read).told is.refused)
   says_yes fronts (Err run.TooLong) is own =
-      let next = after is.stops in
+      let next = after is.read in
       absurd (omega (
         arith,
         ap length next.split,

@@ -27,7 +27,8 @@ pub use Rattle.mdb_verdict.proofs.Rows.{empty, parts_of}
 pub use Rattle.mdb_verdict.proofs.Verdicts.{is_fault}
 pub use Rattle.mdb_verdict.specs.Headline.{HaveRun, IfYes}
 pub use Rattle.mdb_verdict.specs.Rows.{AreRows}
-pub use Rattle.mdb_verdict.specs.Verdict.{IsAnswer, IsNoYes, IsOwnAnswer, LeadUpTo}
+pub use Rattle.mdb_verdict.specs.Telling.{IsOwnAnswer}
+pub use Rattle.mdb_verdict.specs.Verdict.{AreRead, IsAnswer, IsNoYes, IsStopped, IsTakenWhole}
 pub use Rattle.mdb_verdict.specs.declared.fault.RunFault.{RunFault}
 pub use Rattle.mdb_verdict.specs.declared.fault.RunFault.TheVariants.{Memory, Write}
 pub use Rattle.mdb_verdict.specs.declared.verdict.TheConstants.{BYTES_MAX}

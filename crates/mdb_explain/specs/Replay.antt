@@ -21,7 +21,7 @@ use Rattle.mdb_text.specs.declared.outcome.Outcome.TheVariants.{Yes, No}
 use Rattle.mdb_explain.specs.declared.fault.MarkedFault.{MarkedFault}
 use Rattle.mdb_explain.specs.declared.fault.MarkedFault.TheVariants as marked
 use Rattle.mdb_verdict.specs.declared.fault.RunFault.TheVariants as run
-use Rattle.mdb_verdict.specs.Verdict.{IsOwnAnswer}
+use Rattle.mdb_verdict.specs.Telling.{IsOwnAnswer}
 use Rattle.mdb_verdict.specs.Rows.{AreRows}
 
 -- the letter of a mark: `L` where something was lost, `R` for a restart, and `C` for an approval

@@ -22,7 +22,8 @@ ghost use Rattle.mdb_explain.specs.declared.fault.MarkedFault.{MarkedFault};
 ghost use Rattle.mdb_explain.specs.Explain.{ComesTo, IsExplanation, explanation_records, explanation_text, mark_fields};
 ghost use Rattle.mdb_verdict.specs.Headline.{HaveRun};
 ghost use Rattle.mdb_explain.specs.Replay.{AreMarkRows, IsOwnReplay, IsReplayAnswer, IsReplayed};
-ghost use Rattle.mdb_verdict.specs.Verdict.{IsAnswer, IsOwnAnswer};
+ghost use Rattle.mdb_verdict.specs.Telling.{IsOwnAnswer};
+ghost use Rattle.mdb_verdict.specs.Verdict.{IsAnswer};
 ghost use Rattle.mdb_verdict.specs.Rows.{AreRows};
 
 use mdb_follow::laws as follow_laws;

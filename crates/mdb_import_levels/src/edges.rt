@@ -6,33 +6,13 @@ mod record;
 
 use crate::finish::finish;
 use crate::lines::Lines;
-use crate::side::Inverted;
 pub use fault::{EdgesFault, FormFault, OrderFault};
 use header::{Columns, columns_of};
-use mdb_import_shared::{Imported, Part, Unit, is_comment};
+use mdb_import_shared::{Imported, Options, is_comment};
 use mdb_records::Records;
 use record::read_record;
 use std::alloc::Global;
 use std::io::{Read, Write};
-
-/// The options of the import of a table of edges.
-#[derive(Debug, Drop)]
-pub struct EdgesOptions {
-    /// The unit of the times.
-    pub unit: Unit,
-    /// The name of the column of the controller's line; `None`: `M` or `m`.
-    pub controller: Option<String>,
-    /// The name of the column of the peripherals' line; `None`: `S` or `s`.
-    pub peripheral: Option<String>,
-    /// Which lines are read upside down.
-    pub inverted: Inverted,
-    /// Whether damaged words are left out, and not refused.
-    pub skip_damaged: bool,
-    /// The first microsecond of the part that is asked for. `None`: from the beginning.
-    pub from: Option<u64>,
-    /// The last microsecond of the part that is asked for. `None`: to the end.
-    pub until: Option<u64>,
-}
 
 /// Reads the table of edges whose records are still to come, and writes the rows of its words and
 /// breaks, each with a line feed. [`mdb_import_shared::records_of`] answers those of a reader.
@@ -49,22 +29,18 @@ pub struct EdgesOptions {
 /// front of the rows, or of the line that ends a refused table.
 pub fn import_edge_records<R: Read + Drop, W: Write>(
     alloc: Global,
-    options: &EdgesOptions,
+    options: &Options,
     records: &mut Records<R>,
     writer: &mut W,
 ) -> Result<Imported, EdgesFault> {
-    let part = Part {
-        from: options.from,
-        until: options.until,
-    };
     let read = lines_of(alloc, options, records);
-    finish(alloc, part, read, writer)
+    finish(alloc, options.part, read, writer)
 }
 
 /// Both lines of the bus, whose levels are all those of the records that are still to come.
 fn lines_of<R: Read + Drop>(
     alloc: Global,
-    options: &EdgesOptions,
+    options: &Options,
     records: &mut Records<R>,
 ) -> Result<Lines, EdgesFault> {
     let (columns, first) = read_header(options, records)?;
@@ -91,7 +67,7 @@ fn lines_of<R: Read + Drop>(
 
 /// Reads the header, and answers its columns and the number of the record that comes next.
 fn read_header<R: Read + Drop>(
-    options: &EdgesOptions,
+    options: &Options,
     records: &mut Records<R>,
 ) -> Result<(Columns, u64), EdgesFault> {
     for number in 1..u64::MAX {

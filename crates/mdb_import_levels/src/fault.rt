@@ -1,73 +1,28 @@
 //! What is wrong with the levels of a line, and other reasons for which there are no rows.
 
-use mdb_import_shared::LowAtRest;
+use mdb_import_shared::{LowAtRest, letter_of};
 use mdb_words::Line;
 use mdb_writing::WriteFailed;
 use std::alloc::{AllocError, AllocFailed};
-use std::fmt;
 use thiserror::Error;
 
-/// A line of the bus, in a fault.
-#[derive(Clone, Copy, PartialEq, Eq, Debug, Error)]
-pub enum Wire {
-    /// The controller's line.
-    #[error("line M")]
-    Controller,
-    /// The peripherals' line.
-    #[error("line S")]
-    Peripheral,
-}
-
-impl From<Line> for Wire {
-    fn from(line: Line) -> Wire {
-        match line {
-            Line::Controller => Wire::Controller,
-            Line::Peripheral => Wire::Peripheral,
-        }
-    }
-}
-
 /// What is wrong with the levels of a line, where nothing damaged is left out.
-#[derive(Clone, Copy, PartialEq, Eq, Debug)]
+#[derive(Clone, Copy, PartialEq, Eq, Debug, Error)]
 pub enum LineFault {
     /// The line is low at the middle of a stop bit, and it isn't low for 95 milliseconds from the
     /// start bit on.
+    #[error("wanted a high stop bit, or a break of 95 ms or more, and the stop bit is low")]
     Framing,
     /// A break on the line of the peripherals.
+    #[error("wanted words alone on the line of the peripherals, and it is low for a break")]
     DeviceBreak,
     /// A break of more than 999,999,999 microseconds.
+    #[error("wanted a break of at most 999999999 microseconds, and it is longer")]
     LongBreak,
     /// The line is low at the end of the export.
+    #[error("wanted a line that is high at the end of the export, and it is low")]
     Cut,
 }
-
-impl LineFault {
-    /// What is told of it.
-    fn text(self) -> &'static str {
-        match self {
-            LineFault::Framing => {
-                "wanted a high stop bit, or a break of 95 ms or more, and the stop bit is low"
-            }
-            LineFault::DeviceBreak => {
-                "wanted words alone on the line of the peripherals, and it is low for a break"
-            }
-            LineFault::LongBreak => {
-                "wanted a break of at most 999999999 microseconds, and it is longer"
-            }
-            LineFault::Cut => {
-                "wanted a line that is high at the end of the export, and it is low"
-            }
-        }
-    }
-}
-
-impl fmt::Display for LineFault {
-    fn fmt<W: fmt::Write>(&self, f: &mut fmt::Formatter<W>) -> fmt::Result {
-        f.write_str(self.text())
-    }
-}
-
-impl std::error::Error for LineFault {}
 
 /// What helps where the levels of a line are refused.
 #[derive(Clone, Copy, PartialEq, Eq, Debug, Error)]
@@ -82,7 +37,7 @@ pub enum Advice {
 
 /// Where the levels of a line are no words and breaks, and what is wrong.
 #[derive(Clone, Copy, PartialEq, Eq, Debug, Error)]
-#[error("{number} at {micros} on {line}: {fault}; {advice}")]
+#[error("{number} at {micros} on line {l}: {fault}; {advice}", l = letter_of(.line))]
 pub struct LineRefusal {
     /// The number of the record, or of the line of a dump, that shows the fault, counted from 1. At
     /// the end of the export it is that of the one that would come next.
@@ -90,7 +45,7 @@ pub struct LineRefusal {
     /// When the faulty word or break began, in whole microseconds.
     pub micros: u64,
     /// On which line of the bus.
-    pub line: Wire,
+    pub line: Line,
     /// What is wrong.
     pub fault: LineFault,
     /// What helps.

@@ -28,7 +28,6 @@ mod side;
 mod vcd;
 mod wave;
 
-pub use edges::{EdgesFault, EdgesOptions, FormFault, OrderFault, import_edge_records};
-pub use fault::{Advice, LineFault, LineRefusal, Wire};
-pub use side::Inverted;
-pub use vcd::{DumpFault, LevelFault, VcdFault, VcdOptions, import_vcd};
+pub use edges::{EdgesFault, FormFault, OrderFault, import_edge_records};
+pub use fault::{Advice, LineFault, LineRefusal};
+pub use vcd::{DumpFault, LevelFault, VcdFault, import_vcd};

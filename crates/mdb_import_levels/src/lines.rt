@@ -1,9 +1,9 @@
 //! Both lines of the bus, whose levels are taken one after the other.
 
-use crate::fault::{Advice, Failure, LineRefusal, Wire};
+use crate::fault::{Advice, Failure, LineRefusal};
 use crate::instant::Instant;
-use crate::side::{Inverted, Noted, Side};
-use mdb_import_shared::{Imported, LowAtRest, Part, merged, write_part};
+use crate::side::{Noted, Side};
+use mdb_import_shared::{Imported, Inverted, LowAtRest, Part, merged, write_part};
 use mdb_words::Line;
 use std::alloc::{AllocError, Global};
 use std::io::Write;
@@ -20,7 +20,7 @@ impl Lines {
     /// Both lines before their first levels; which of them an option has read upside down, and
     /// whether damaged words are left out, and not refused.
     pub(crate) fn new(alloc: Global, inverted: Inverted, skip_damaged: bool) -> Lines {
-        let both = !inverted.is_told();
+        let both = !(inverted.controller || inverted.peripheral);
         Lines {
             controller: Side::new(alloc, Line::Controller, skip_damaged, both),
             peripheral: Side::new(alloc, Line::Peripheral, skip_damaged, both),
@@ -81,7 +81,7 @@ impl Lines {
         Some(LineRefusal {
             number: noted.number,
             micros: noted.micros,
-            line: Wire::from(line),
+            line,
             fault: noted.fault,
             advice: match self.low_at_rest(line) {
                 Some(low) => Advice::LowAtRest(low),

@@ -7,30 +7,6 @@ use crate::wave::Wave;
 use mdb_words::Line;
 use std::alloc::{AllocError, Global};
 
-/// Which lines are read upside down, so that 0 is high.
-#[derive(Clone, Copy, Debug)]
-pub struct Inverted {
-    /// The controller's line.
-    pub controller: bool,
-    /// The peripherals' line.
-    pub peripheral: bool,
-}
-
-impl Inverted {
-    /// Whether a line is one of them.
-    pub(crate) fn has(self, line: Line) -> bool {
-        match line {
-            Line::Controller => self.controller,
-            Line::Peripheral => self.peripheral,
-        }
-    }
-
-    /// Whether one of them is.
-    pub(crate) fn is_told(self) -> bool {
-        self.controller || self.peripheral
-    }
-}
-
 /// What is wrong with a line, and where that is seen.
 #[derive(Clone, Copy)]
 pub(crate) struct Noted {

@@ -7,29 +7,11 @@ mod text;
 mod values;
 
 use crate::finish::finish;
-use crate::side::Inverted;
 pub use fault::{DumpFault, LevelFault, VcdFault};
-use mdb_import_shared::{Imported, Part};
+use mdb_import_shared::{Imported, Options};
 use std::alloc::Global;
 use std::io::{Read, Write};
 use text::lines_of;
-
-/// The options of the import of a value change dump.
-#[derive(Debug, Drop)]
-pub struct VcdOptions {
-    /// The name or the path of the controller's line; `None`: the name `M` or `m`.
-    pub controller: Option<String>,
-    /// The name or the path of the peripherals' line; `None`: the name `S` or `s`.
-    pub peripheral: Option<String>,
-    /// Which lines are read upside down.
-    pub inverted: Inverted,
-    /// Whether damaged words are left out, and told. Otherwise they are refused.
-    pub skip_damaged: bool,
-    /// The first microsecond of the part that is asked for. `None`: from the beginning.
-    pub from: Option<u64>,
-    /// The last microsecond of the part that is asked for. `None`: to the end.
-    pub until: Option<u64>,
-}
 
 /// Reads the value change dump that a reader has left, and writes the rows of its words and breaks,
 /// each with a line feed: those of the part that is asked for. It answers what is told of all rows.
@@ -45,14 +27,10 @@ pub struct VcdOptions {
 /// failed: the writer took a front of the rows, or of that line.
 pub fn import_vcd<R: Read + Drop, W: Write>(
     alloc: Global,
-    options: &VcdOptions,
+    options: &Options,
     reader: R,
     writer: &mut W,
 ) -> Result<Imported, VcdFault> {
-    let part = Part {
-        from: options.from,
-        until: options.until,
-    };
     let read = lines_of(alloc, options, reader);
-    finish(alloc, part, read, writer)
+    finish(alloc, options.part, read, writer)
 }

@@ -1,21 +1,31 @@
 //! What all imports by records do: they read record by record, write the rows of the part that is
 //! asked for, count the others, and end what was written of a refused export.
 
-use mdb_import_shared::{Imported, Part, add_row, write_refused};
+use mdb_import_shared::{Imported, Part, add_row, write_refusal};
 use mdb_records::{ReadFault, Records};
 use mdb_words::Event;
 use mdb_writing::{Page, WriteFailed};
 use std::io::{Read, Write};
 
+/// So many bytes have a whole record, where it is written as recorders write it.
+const RECORD: u64 = 512;
+
 /// What gives the records of an export, one after the other.
 pub(crate) trait Source {
     /// Reads the next record, and says whether there is one.
     fn read_next(&mut self) -> Result<bool, ReadFault>;
+
+    /// How many bytes were read ahead, so that they are there without a wait.
+    fn bytes_ahead(&self) -> u64;
 }
 
 impl<R: Read + Drop> Source for Records<R> {
     fn read_next(&mut self) -> Result<bool, ReadFault> {
         self.advance()
+    }
+
+    fn bytes_ahead(&self) -> u64 {
+        Records::bytes_ahead(self)
     }
 }
 
@@ -70,7 +80,8 @@ impl Rows {
     }
 }
 
-/// Imports what a source gives, and writes its rows as it reads.
+/// Imports what a source gives, and writes its rows as it reads: where less of it was read ahead
+/// than a record may have, no row waits for the next one.
 ///
 /// # Errors
 ///
@@ -85,7 +96,8 @@ pub(crate) fn import<S: Source, F: Format<S>, W: Write>(
     let mut rows = Rows::new(part);
     if let Err(fault) = take_all(source, format, &mut rows, writer) {
         if fault != F::Fault::from(WriteFailed) {
-            write_refused(&mut rows.page, writer)?;
+            rows.page.write_out(writer)?;
+            write_refusal(writer)?;
         }
         return Err(fault);
     }
@@ -105,6 +117,9 @@ fn take_all<S: Source, F: Format<S>, W: Write>(
             return format.end();
         }
         format.take(number, source, rows, writer)?;
+        if source.bytes_ahead() < RECORD {
+            rows.page.write_out(writer)?;
+        }
     }
     Err(F::Fault::from(ReadFault::Read))
 }

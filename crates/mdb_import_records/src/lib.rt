@@ -15,10 +15,6 @@ mod named;
 mod rows;
 mod saleae;
 
-pub use messages::{
-    Found, MessageFault, MessagesFault, MessagesImported, MessagesOptions, TimeOf, import_messages,
-};
-pub use rows::{ImportFault, RowsOptions, import_records};
-pub use saleae::{
-    Column, Columns, HeaderFault, RowFault, SaleaeFault, SaleaeOptions, import_table,
-};
+pub use messages::{Found, MessageFault, MessagesFault, import_messages};
+pub use rows::{ImportFault, import_records};
+pub use saleae::{Column, Columns, HeaderFault, RowFault, SaleaeFault, import_table};

@@ -4,9 +4,7 @@ mod fault;
 mod head;
 mod importing;
 mod log;
-mod options;
 mod words;
 
 pub use fault::{Found, MessageFault, MessagesFault};
-pub use importing::{MessagesImported, import_messages};
-pub use options::{MessagesOptions, TimeOf};
+pub use importing::import_messages;

@@ -2,9 +2,7 @@
 
 mod fault;
 mod importing;
-mod options;
 mod record;
 
 pub use fault::ImportFault;
 pub use importing::import_records;
-pub use options::RowsOptions;

@@ -6,11 +6,9 @@
 mod columns;
 mod fault;
 mod importing;
-mod options;
 mod seconds;
 mod values;
 
 pub use columns::{Column, Columns};
 pub use fault::{HeaderFault, RowFault, SaleaeFault};
 pub use importing::import_table;
-pub use options::SaleaeOptions;

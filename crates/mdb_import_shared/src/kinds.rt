@@ -5,7 +5,7 @@ use super::hex::behind_prefix;
 use super::numbers::read_number;
 use super::times::is_time_form;
 use super::values::read_word;
-use std::fmt;
+use thiserror::Error;
 
 /// So many bytes of a text are looked at.
 const LOOKED: usize = 512;
@@ -14,48 +14,32 @@ const LOOKED: usize = 512;
 pub const FRONT: usize = LOOKED + 3;
 
 /// What a text looks like, and so which command reads it.
-#[derive(Clone, Copy, PartialEq, Eq, Debug)]
+#[derive(Clone, Copy, PartialEq, Eq, Debug, Error)]
 pub enum Kind {
     /// What gzip compressed.
+    #[error("this is compressed by gzip: write zcat FILE | before the command")]
     Gzip,
     /// A value change dump.
+    #[error("this looks like a value change dump: mdbimport vcd reads it")]
     Dump,
     /// A trace of sigrok-cli.
+    #[error("this looks like a trace of sigrok-cli: mdbimport sigrok reads it")]
     Trace,
     /// The table of an asynchronous serial analyser.
+    #[error("this looks like a table of Logic 2's analyser: mdbimport saleae reads it")]
     Table,
     /// A table of edges.
+    #[error("this looks like a table of edges: mdbimport edges reads it")]
     Edges,
     /// Rows in some form.
+    #[error("this looks like rows: mdbimport rows reads it")]
     Rows,
     /// The log of a sniffer.
+    #[error("this looks like the log of a sniffer: mdbimport messages reads it")]
     Log,
     /// An export of which no more is known.
+    #[error("this looks like an export: mdbimport makes rows of it")]
     Export,
-}
-
-impl Kind {
-    /// What is told of it.
-    fn text(self) -> &'static str {
-        match self {
-            Kind::Gzip => "this is compressed by gzip: write zcat FILE | before the command",
-            Kind::Dump => "this looks like a value change dump: mdbimport vcd reads it",
-            Kind::Trace => "this looks like a trace of sigrok-cli: mdbimport sigrok reads it",
-            Kind::Table => {
-                "this looks like a table of Logic 2's analyser: mdbimport saleae reads it"
-            }
-            Kind::Edges => "this looks like a table of edges: mdbimport edges reads it",
-            Kind::Rows => "this looks like rows: mdbimport rows reads it",
-            Kind::Log => "this looks like the log of a sniffer: mdbimport messages reads it",
-            Kind::Export => "this looks like an export: mdbimport makes rows of it",
-        }
-    }
-}
-
-impl fmt::Display for Kind {
-    fn fmt<W: fmt::Write>(&self, f: &mut fmt::Formatter<W>) -> fmt::Result {
-        f.write_str(self.text())
-    }
 }
 
 /// What a text looks like whose first [`FRONT`] bytes these are, or all where it has fewer; `None`

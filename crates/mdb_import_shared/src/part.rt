@@ -1,7 +1,7 @@
 //! The part of an export that is asked for.
 
 /// The part of an export that is asked for.
-#[derive(Clone, Copy)]
+#[derive(Clone, Copy, Debug)]
 pub struct Part {
     /// Its first microsecond. `None`: from the beginning.
     pub from: Option<u64>,

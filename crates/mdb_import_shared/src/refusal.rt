@@ -1,6 +1,6 @@
 //! The end of what was written of a refused export.
 
-use mdb_writing::{Page, WriteFailed, write_text};
+use mdb_writing::{WriteFailed, write_text};
 use std::io::Write;
 
 /// A line that is no row, so that no checker takes what was written of a refused export.
@@ -13,14 +13,4 @@ const REFUSAL: &str = "mdbimport refused this export\n";
 /// The writer failed. It took a front of the line.
 pub fn write_refusal<W: Write>(writer: &mut W) -> Result<(), WriteFailed> {
     write_text(writer, REFUSAL.as_bytes())
-}
-
-/// Writes what waits on a page of a refused export, and then that line.
-///
-/// # Errors
-///
-/// The writer failed. It took a front of these.
-pub fn write_refused<W: Write>(page: &mut Page, writer: &mut W) -> Result<(), WriteFailed> {
-    page.write_out(writer)?;
-    write_refusal(writer)
 }

@@ -6,19 +6,24 @@ use super::clock::read_clock;
 use super::dates::{Dated, read_dated};
 use super::fault::RecordFault;
 use super::numbers::{Number, power, read_number};
-use super::units::Unit;
+use super::options::Unit;
 use mdb_words::{Span, Time};
+use thiserror::Error;
 
 /// How a time is written.
-#[derive(Clone, Copy, PartialEq, Eq, Debug)]
+#[derive(Clone, Copy, PartialEq, Eq, Debug, Error)]
 pub enum TimeForm {
     /// A number in the unit of the export.
+    #[error("a number")]
     Number,
     /// A time of day.
+    #[error("a time of day")]
     Clock,
     /// A date and a time of day, without an offset.
+    #[error("a date without an offset")]
     Date,
     /// A date and a time of day with an offset.
+    #[error("a date with an offset")]
     OffsetDate,
 }
 

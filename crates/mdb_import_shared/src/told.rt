@@ -36,6 +36,8 @@ pub struct Imported {
     pub turned: Option<Line>,
     /// A line of which damaged words were left out, if it is low at rest.
     pub low: Option<LowAtRest>,
+    /// Of a log, how many messages begin later than it says, and by how many microseconds at most.
+    pub moved: Option<(u64, u64)>,
 }
 
 impl Imported {
@@ -56,6 +58,7 @@ impl Imported {
             damaged: Places::new(),
             turned: None,
             low: None,
+            moved: None,
         }
     }
 

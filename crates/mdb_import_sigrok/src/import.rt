@@ -1,9 +1,8 @@
 //! A trace from a reader, as rows to a writer.
 
 use super::fault::SigrokFault;
-use super::options::SigrokOptions;
 use super::trace::read_trace;
-use mdb_import_shared::{Imported, Part, merged, write_part, write_refusal};
+use mdb_import_shared::{Imported, Options, merged, write_part, write_refusal};
 use mdb_words::Event;
 use std::alloc::Global;
 use std::io::{BufReader, Read, Write};
@@ -27,17 +26,13 @@ const READ_SIZE: usize = 65_536;
 /// failed the writer took a front of the rows, or of the line that ends a refused trace.
 pub fn import_sigrok<R: Read + Drop, W: Write>(
     alloc: Global,
-    options: &SigrokOptions,
+    options: &Options,
     reader: R,
     writer: &mut W,
 ) -> Result<Imported, SigrokFault> {
-    let part = Part {
-        from: options.from,
-        until: options.until,
-    };
     match rows_of_trace(alloc, options, reader) {
         Ok((rows, mut told)) => {
-            write_part(part, rows.as_slice(), &mut told, writer)?;
+            write_part(options.part, rows.as_slice(), &mut told, writer)?;
             Ok(told)
         }
         Err(fault) => {
@@ -50,7 +45,7 @@ pub fn import_sigrok<R: Read + Drop, W: Write>(
 /// The rows of both lines of a trace, and what is told of it before its first row.
 fn rows_of_trace<R: Read + Drop>(
     alloc: Global,
-    options: &SigrokOptions,
+    options: &Options,
     reader: R,
 ) -> Result<(Vec<Event>, Imported), SigrokFault> {
     let Ok(mut reader) = BufReader::with_capacity(alloc, READ_SIZE, reader) else {

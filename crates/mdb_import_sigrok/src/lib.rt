@@ -11,11 +11,9 @@ mod fault;
 mod import;
 mod line;
 mod moment;
-mod options;
 mod pair;
 mod record;
 mod trace;
 
 pub use fault::{FaultLine, FormFault, OrderFault, SigrokFault};
 pub use import::import_sigrok;
-pub use options::SigrokOptions;

@@ -2,10 +2,9 @@
 
 use super::fault::{FormFault, SigrokFault};
 use super::line::Reading;
-use super::options::SigrokOptions;
 use super::pair::{Pair, form, next_pair};
 use super::record::{after_begin, after_end};
-use mdb_import_shared::Imported;
+use mdb_import_shared::{Imported, Options};
 use mdb_words::Line;
 use std::alloc::Global;
 use std::io::{BufRead, Error, ErrorKind};
@@ -24,7 +23,7 @@ pub(crate) struct Both {
 /// Both lines of the trace that a reader has left.
 pub(crate) fn read_trace<B: BufRead>(
     alloc: Global,
-    options: &SigrokOptions,
+    options: &Options,
     reader: &mut B,
 ) -> Result<Both, SigrokFault> {
     let mut held = Vec::new(alloc);
@@ -50,7 +49,7 @@ impl Both {
     /// next.
     fn take_all<B: BufRead>(
         &mut self,
-        options: &SigrokOptions,
+        options: &Options,
         reader: &mut B,
         held: &mut Vec<u8>,
     ) -> Result<u64, SigrokFault> {
@@ -75,7 +74,7 @@ impl Both {
     /// Takes the next two records, whose lines these are, and answers whether more follow.
     fn take_held(
         &mut self,
-        options: &SigrokOptions,
+        options: &Options,
         text: &[u8],
         number: u64,
     ) -> Result<bool, SigrokFault> {
@@ -93,7 +92,7 @@ impl Both {
     #[inline(always)]
     fn take_shown<B: BufRead>(
         &mut self,
-        options: &SigrokOptions,
+        options: &Options,
         reader: &mut B,
         number: u64,
     ) -> Result<Option<bool>, SigrokFault> {

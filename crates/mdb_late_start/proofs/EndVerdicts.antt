@@ -8,7 +8,8 @@ use Rattle.mdb_text.specs.declared.outcome.Outcome.{Outcome}
 use Rattle.mdb_text.specs.declared.outcome.Outcome.TheVariants.{Yes, No}
 use Rattle.mdb_verdict.specs.declared.fault.RunFault.{RunFault}
 use Rattle.mdb_verdict.specs.declared.fault.RunFault.TheVariants.{BadRow, TooLong}
-use Rattle.mdb_verdict.specs.Verdict.{IsAnswer, IsOwnAnswer, LeadUpTo}
+use Rattle.mdb_verdict.specs.Telling.{IsOwnAnswer}
+use Rattle.mdb_verdict.specs.Verdict.{AreRead, IsAnswer}
 use Rattle.mdb_verdict.specs.Rows.{AreRows}
 use Rattle.mdb_verdict.proofs.Headline.{one_list}
 use Rattle.mdb_verdict.proofs.OneAnswer.{row_not_refused, row_one}
@@ -45,13 +46,13 @@ module _ (scope : Scope) (limit : ℕ) (front end : List (List (List ℕ))) wher
 
   module _ (report : Report) (whole : IsAnswer scope limit (front ++ end) (Ok (Yes report)))
       (later : Scope) where
-    goes_on : (rows : List Event) (fields : List (List ℕ)) → LeadUpTo later end rows fields
-        → GoesOn rows fields
-    goes_on rows fields leads =
+    goes_on : (rows : List Event) (fields : List (List ℕ)) (rest : List (List (List ℕ)))
+        → AreRead IsRow end rows (fields ∷ rest) → GoesOn rows fields
+    goes_on rows fields rest leads =
         let two = rows_in_two front end whole.rows whole.told in
-        let its = rows_in_two leads.done (fields ∷ leads.rest) two.1
+        let its = rows_in_two leads.done (fields ∷ rest) two.1
         (subst (λ es. AreRows es two.1) leads.split two.4) in
-        let row = a_row fields leads.rest its.1 its.4 in
+        let row = a_row fields rest its.1 its.4 in
         let parts = its.2 ∙ ap (λ f. f ++ its.1)
         (one_list leads.done its.0 rows its.3 leads.told) ∙ ap (λ l. rows ++ l) row.2 in
         let all = two.2 ∙ ap (λ l. two.0 ++ l) parts in
@@ -63,7 +64,7 @@ module _ (scope : Scope) (limit : ℕ) (front end : List (List (List ℕ))) wher
           of_end = rw parts at two.4;
           told = row.3;
           few = rw all at whole.few;
-          reached = rw all at whole.is.reached;
+          reached = rw all at whole.has.0.reached;
         }
 
     -- the end's own answer is what a yes is, and what a no is
@@ -75,14 +76,14 @@ module _ (scope : Scope) (limit : ℕ) (front end : List (List (List ℕ))) wher
         → IsOwnAnswer answer → Says answer
     end_says Says is_yes is_no (Ok (Yes other)) is own = is_yes other
     end_says Says is_yes is_no (Ok (No offence)) is own =
-        let on = goes_on is.rows is.fields is.stops in
+        let on = goes_on is.rows is.fields is.rest is.read in
         is_no offence is.rows is.fields on
-        (rw (row_one is.fields is.row on.event is.told on.told) at is.is)
+        (rw (row_one is.fields is.row on.event is.told on.told) at is.stops)
     end_says Says is_yes is_no (Err (BadRow row fault)) is own =
-        let on = goes_on is.rows is.fields is.stops in
+        let on = goes_on is.rows is.fields is.rest is.read in
         absurd (row_not_refused is.fields on.event fault on.told is.refused)
     end_says Says is_yes is_no (Err TooLong) is own =
-        let on = goes_on is.rows is.fields is.stops in
+        let on = goes_on is.rows is.fields is.rest is.read in
         absurd (omega (
           arith,
           length-append on.before (is.rows ++ on.event ∷ on.rest),

@@ -15,6 +15,9 @@ use std::time::{Clock, Duration, Instant};
 /// After so many seconds the line comes, and is written anew.
 const PERIOD: u64 = 1;
 
+/// What the system calls standard input.
+const STANDARD_INPUT: &str = "/dev/stdin";
+
 /// What takes the line away: the cursor goes to the beginning of the line and erases to its end.
 const ERASE: &[u8] = b"\r\x1b[K";
 
@@ -44,15 +47,20 @@ pub struct Progress<S, T> {
 }
 
 impl<S: Clock + Files, T: Write + IsTerminal + Copy> Progress<S, T> {
-    /// The progress of the program by this name, which begins now and reads standard input.
-    pub fn new(system: S, terminal: T, name: &'static str) -> Progress<S, T> {
+    /// The progress of the program by this name, which begins now and reads this file, or where
+    /// there is none standard input.
+    pub fn new(system: S, terminal: T, name: &'static str, file: Option<&str>) -> Progress<S, T> {
         let is_on = terminal.is_terminal();
         let due = if is_on {
             a_period_from_now(&system)
         } else {
             None
         };
-        let whole = if is_on { size_of_input(&system) } else { None };
+        let whole = if is_on {
+            size_of(&system, file.unwrap_or(STANDARD_INPUT))
+        } else {
+            None
+        };
         Progress {
             system,
             terminal,
@@ -164,9 +172,9 @@ fn a_period_from_now<S: Clock>(system: &S) -> Option<Instant> {
         .checked_add(Duration::from_secs(PERIOD))
 }
 
-/// How many bytes standard input has, where it is a file.
-fn size_of_input<S: Files>(system: &S) -> Option<u64> {
-    match fs::metadata(system, "/dev/stdin") {
+/// How many bytes the input of this name has, where it is a file.
+fn size_of<S: Files>(system: &S, name: &str) -> Option<u64> {
+    match fs::metadata(system, name) {
         Ok(found) if found.is_file() => Some(found.len()),
         _ => None,
     }

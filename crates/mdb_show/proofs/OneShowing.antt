@@ -1,5 +1,7 @@
 -- The records of a text are shown in one way.
-use Rattle.mdb_show.proofs.Words.{Err, List, None, Ok, Option, Result, Some, [], ap₂, arith, length, refl, sym, ℕ, ◌++◌, ◌+◌, ◌<◌, ◌∙◌, ◌∷◌, ◌≡◌, ◌≤◌, ArePieces, IsActList, Piece, events_of, IsLinkFault, RowBreaks, situation_of, HasActList, Blame, LinkFault, Rule, Scope, ROWS_MAX, LineForm, closed_pieces, lines_of, AreShown, IsShowingIn, Ending, EndsBy, SaysOne, one_ending, row_one, IsOwnAnswer, RunFault, BadRow, Memory, Read, TooLong, Write, IsRow, Event}
+use Rattle.mdb_show.proofs.Words.{ArePieces, Blame, Ending, Err, Event, HasActList, HasAllLines, HasFaultLine, HasLines, IsActList, IsLinkFault, IsOwnAnswer, IsRow, IsShowingIn, LineForm, LinkFault, List, None, Ok, Option, Piece, ROWS_MAX, Result, RowBreaks, Rule, RunFault, SaysOne, Scope, Some, [], ap, closed_pieces, events_of, length, lines_of, of_stop, of_unanswered, of_whole, one_ending, refl, row_one, situation_of, sym, ℕ, ◌++◌, ◌+◌, ◌<◌, ◌∙◌, ◌∷◌, ◌≡◌}
+use Rattle.mdb_words.specs.Refusals.{IsRefusal}
+use Rattle.mdb_verdict.proofs.Ends.{drawn, stopped_as, whole_as}
 
 -- what the laws of the bus say
 pub record BusLaws (scope : Scope) : Type 0 where
@@ -48,56 +50,49 @@ module _ (form : LineForm) (scope : Scope) (laws : BusLaws scope) where
       )
       stops rows fields after None says = absurd says
 
-  -- the text of an answer, by the pieces of its rows
-  abbrev text_of : List Piece → Result (Option LinkFault) RunFault → List ℕ
-  text_of pieces (Ok None) = lines_of form pieces
-  text_of pieces (Ok (Some fault)) =
-      lines_of form (closed_pieces pieces) ++ form.fault (length (events_of pieces) + 1) fault
-  text_of pieces (Err fault) = lines_of form (closed_pieces pieces)
+  -- the text of an answer, by its rows
+  abbrev Lines : List Event → Result (Option LinkFault) RunFault → List ℕ → Type 0
+  Lines rows (Ok None) text = HasAllLines form scope rows text
+  Lines rows (Ok (Some fault)) text =
+      (row : Event) × HasFaultLine form scope rows row fault text
+  Lines rows (Err fault) text = HasLines form scope rows text
+
+  -- it is one
+  one_text : (rows : List Event) (answer : Result (Option LinkFault) RunFault) (s t : List ℕ)
+      → Lines rows answer s → Lines rows answer t → s ≡ t
+  one_text rows (Ok None) s t one other = one.lines ∙ (ap (lines_of form)
+      (laws.one_list rows one.pieces other.pieces one.list other.list) ∙ sym other.lines)
+  one_text rows (Ok (Some fault)) s t one other = one.1.lines
+      ∙ (ap (λ pieces. lines_of form (closed_pieces pieces) ++ form.fault (length rows + 1) fault)
+      (laws.one_list rows one.1.pieces other.1.pieces one.1.list other.1.list)
+      ∙ sym other.1.lines)
+  one_text rows (Err fault) s t one other = one.lines
+      ∙ (ap (λ pieces. lines_of form (closed_pieces pieces))
+      (laws.one_list rows one.pieces other.pieces one.list other.list) ∙ sym other.lines)
 
   module _ (records : List (List (List ℕ))) where
     record Shown (answer : Result (Option LinkFault) RunFault) (text : List ℕ) : Type 0 where
-      pieces : List Piece
       ending : Ending Says ROWS_MAX (HasActList scope) records answer
-      list : IsActList scope pieces ending.rows
-      lines : text ≡ text_of pieces answer
-
-    shown_by : {answer : Result (Option LinkFault) RunFault} {text : List ℕ}
-        {rest : List (List (List ℕ))} (pieces : List Piece) → AreShown scope records pieces rest
-        → length (events_of pieces) ≤ ROWS_MAX → EndsBy Says ROWS_MAX (events_of pieces) rest answer
-        → text ≡ text_of pieces answer → Shown answer text
-    shown_by {rest = rest} pieces shown few by lines =
-        let list : IsActList scope pieces (events_of pieces) =
-        record { in_order = shown.in_order; whole = refl } in
-        record {
-          pieces = pieces;
-          ending = record {
-            rows = events_of pieces;
-            rest = rest;
-            done = shown.done;
-            split = shown.split;
-            told = shown.told;
-            can = (pieces, list);
-            few = few;
-            by = by;
-          };
-          list = list;
-          lines = lines;
-        }
+      lines : Lines ending.rows answer text
 
     shown : (answer : Result (Option LinkFault) RunFault) (text : List ℕ)
         → IsShowingIn form scope records answer text → IsOwnAnswer answer → Shown answer text
-    shown (Ok None) text is own = shown_by is.pieces is.shown is.few tt is.lines
+    shown (Ok None) text is own = record {
+      ending = of_whole Says ROWS_MAX (HasActList scope) is (is.has.pieces, is.has.list) tt;
+      lines = is.has;
+    }
     shown (Ok (Some fault)) text is own =
-        let list : IsActList scope is.pieces (events_of is.pieces) =
-        record { in_order = is.shown.in_order; whole = refl } in
-        shown_by is.pieces is.shown (omega (arith, is.few))
-        (is.row, is.row_told, is.few, is.pieces, list, is.is) is.lines
-    shown (Err (BadRow number fault)) text is own =
-        shown_by is.pieces is.shown (omega (arith, is.few)) (is.refused, is.few, is.number) is.lines
-    shown (Err TooLong) text is own =
-        shown_by is.pieces is.shown (omega (arith, is.full)) is.full is.lines
-    shown (Err fault) text is own = absurd own
+        let at = is.stops in
+        record {
+          ending = of_stop Says ROWS_MAX (HasActList scope) is (at.pieces, at.list)
+              (is.row, is.told, is.few, at.pieces, at.list, at.is);
+          lines = (is.row, at);
+        }
+    shown (Err fault) text is own =
+        let it = of_unanswered Says ROWS_MAX (HasActList scope)
+        {Has = λ rows. HasLines form scope rows text} (λ rows has. (has.pieces, has.list)) fault is
+        own in
+        record { ending = it.0; lines = it.1 }
 
     -- the showing of a text is one
     pub one_showing : (a b : Result (Option LinkFault) RunFault) (s t : List ℕ)
@@ -106,10 +101,10 @@ module _ (form : LineForm) (scope : Scope) (laws : BusLaws scope) where
     one_showing a b s t p q own also =
         let one = shown a s p own in
         let other = shown b t q also in
-        let ends = one_ending says_one one.ending other.ending in
-        let same = laws.one_list other.ending.rows one.pieces other.pieces
-        (rw ends.0 at one.list) other.list in
-        (ends.1, one.lines ∙ (ap₂ text_of same ends.1 ∙ sym other.lines))
+        let ends = one_ending says_one one.ending other.ending in (
+          ends.1,
+          one_text other.ending.rows b s t (rw ends.1 at (rw ends.0 at one.lines)) other.lines,
+        )
 
 -- and so it is in each form
 pub in_other_form : (form other : LineForm) (scope : Scope) (records : List (List (List ℕ)))
@@ -117,53 +112,18 @@ pub in_other_form : (form other : LineForm) (scope : Scope) (records : List (Lis
     → IsShowingIn form scope records answer text
     → (same : List ℕ) × IsShowingIn other scope records answer same
 in_other_form form other scope records (Ok None) text is = (
-  lines_of other is.pieces,
-  record { pieces = is.pieces; shown = is.shown; few = is.few; lines = refl },
+  lines_of other is.has.pieces,
+  whole_as is (record { pieces = is.has.pieces; list = is.has.list; lines = refl }),
 )
-in_other_form form other scope records (Ok (Some fault)) text is = (
-  lines_of other (closed_pieces is.pieces) ++ other.fault (length (events_of is.pieces) + 1) fault,
-  record {
-    pieces = is.pieces;
-    fields = is.fields;
-    rest = is.rest;
-    shown = is.shown;
-    few = is.few;
-    row = is.row;
-    row_told = is.row_told;
-    is = is.is;
-    lines = refl;
-  },
-)
-in_other_form form other scope records (Err (BadRow row fault)) text is = (
-  lines_of other (closed_pieces is.pieces),
-  record {
-    pieces = is.pieces;
-    fields = is.fields;
-    rest = is.rest;
-    shown = is.shown;
-    few = is.few;
-    number = is.number;
-    refused = is.refused;
-    lines = refl;
-  },
-)
-in_other_form form other scope records (Err TooLong) text is = (
-  lines_of other (closed_pieces is.pieces),
-  record {
-    pieces = is.pieces;
-    fields = is.fields;
-    rest = is.rest;
-    shown = is.shown;
-    full = is.full;
-    lines = refl;
-  },
-)
-in_other_form form other scope records (Err Read) text is = (
-  lines_of other (closed_pieces is.pieces),
-  record { pieces = is.pieces; rest = is.rest; shown = is.shown; lines = refl },
-)
-in_other_form form other scope records (Err Memory) text is = (
-  lines_of other (closed_pieces is.pieces),
-  record { pieces = is.pieces; rest = is.rest; shown = is.shown; lines = refl },
-)
-in_other_form form other scope records (Err Write) text is = absurd is
+in_other_form form other scope records (Ok (Some fault)) text is =
+    let at = is.stops in (
+      lines_of other (closed_pieces at.pieces) ++ other.fault (length is.rows + 1) fault,
+      stopped_as is (record { pieces = at.pieces; list = at.list; is = at.is; lines = refl }),
+    )
+in_other_form form other scope records (Err fault) text is =
+    let it = drawn {Has = λ rows. HasLines form scope rows text}
+    (λ same rows. HasLines other scope rows same) (λ same. Unit {0}) (λ rows has. (
+      lines_of other (closed_pieces has.pieces),
+      record { pieces = has.pieces; list = has.list; lines = refl },
+      tt,
+    )) IsRow IsRefusal ROWS_MAX records fault is in (it.0, it.1)

@@ -1,6 +1,6 @@
 -- A fault of the link that `show` ends with is that of the verdict, unless a machine ends the
 -- verdict before.
-use Rattle.mdb_show.proofs.Words.{Bool, Err, List, Ok, Result, [], ap, append_assoc, arith, false, if◌then◌else◌, inl, inr, length, length-append, refl, subst, sym, true, ℕ, ◌&&◌, ◌++◌, ◌+◌, ◌∙◌, ◌∷◌, ◌≡◌, ◌⊎◌, append-nil, ArePieces, Piece, Whole, events_of, IsLinkFault, HasActList, LinkFault, Profile, Scope, ROWS_MAX, LineForm, IsShownToFaultIn, compared, row_not_refused, row_one, IsAnswer, IsImpossible, IsOwnAnswer, LeadUpTo, RunFault, BadRow, TooLong, IsRow, Event}
+use Rattle.mdb_show.proofs.Words.{AreRead, BadRow, Bool, Err, Event, HasActList, IsActList, IsAnswer, IsImpossible, IsLinkFault, IsOwnAnswer, IsRow, IsShownToFaultIn, LineForm, LinkFault, List, Ok, Piece, Profile, ROWS_MAX, Result, RunFault, Scope, TooLong, Whole, [], ap, append-nil, append_assoc, arith, compared, events_of, false, if◌then◌else◌, inl, inr, length, length-append, refl, row_not_refused, row_one, subst, sym, true, ℕ, ◌&&◌, ◌++◌, ◌+◌, ◌∙◌, ◌∷◌, ◌≡◌, ◌⊎◌}
 use Rattle.mdb_verdict.proofs.OneAnswer.{GoesOn}
 use Rattle.mdb_bus.specs.declared.fault.Blame.TheVariants as blame
 use Rattle.mdb_bus.specs.declared.fault.Rule.TheVariants as rules
@@ -65,101 +65,97 @@ module _ (scope : Scope) (laws : BusLaws scope) where
   ]
 
   -- at the row of a fault, an offence has its rule and its blame
-  at_the_row : (pieces : List Piece) (row : Event) (fault : LinkFault) (offence : Offence)
-      → ArePieces scope pieces → IsLinkFault scope pieces row fault.rule fault.blame
-      → IsOffence scope (events_of pieces) row offence
+  at_the_row : (pieces : List Piece) (rows : List Event) (row : Event) (fault : LinkFault)
+      (offence : Offence) → IsActList scope pieces rows
+      → IsLinkFault scope pieces row fault.rule fault.blame → IsOffence scope rows row offence
       → (offence.rule ≡ fault.rule) × (offence.blame ≡ fault.blame)
-  at_the_row pieces row fault offence order is why_not = elim why_not.why [
+  at_the_row pieces rows row fault offence list is why_not = elim why_not.why [
     | inl link ↦
-        let one : link.pieces ≡ pieces = laws.one_list (events_of pieces) link.pieces pieces
-        link.act_list (record { in_order = order; whole = refl }) in
+        let one : link.pieces ≡ pieces =
+        laws.one_list rows link.pieces pieces link.act_list list in
         laws.one_fault pieces row offence.rule fault.rule offence.blame fault.blame
         (subst (λ l. IsLinkFault scope l row offence.rule offence.blame) one link.fault) is
-    | inr machine ↦ absurd (laws.stops pieces row is.first order is.rule.breaks
-        (Whole machine.act (machine.begun ++ row ∷ []) ∷ machine.earlier, machine.act_list))
+    | inr machine ↦ absurd (laws.stops pieces row is.first list.in_order is.rule.breaks
+        (rw list.whole
+        (Whole machine.act (machine.begun ++ row ∷ []) ∷ machine.earlier, machine.act_list)))
   ]
 
   module _ (form : LineForm) (records : List (List (List ℕ))) (fault : LinkFault) (text : List ℕ)
       (shown : IsShownToFaultIn form scope records fault text) where
     -- no rows that are reached go on with the row of the fault
-    none_beyond : (rows : List Event)
-        → GoesOn (events_of shown.pieces) rows (shown.fields ∷ shown.rest) → IsReached scope rows
-        → ⊥
+    none_beyond : (rows : List Event) → GoesOn shown.rows rows (shown.fields ∷ shown.rest)
+        → IsReached scope rows → ⊥
     none_beyond rows on reached =
+        let at = shown.stops in
         let same : on.fields ≡ shown.fields = cc (on.record_is) in
         let one : on.event ≡ shown.row =
-        row_one shown.fields on.event shown.row (rw same at on.row) shown.row_told in
-        laws.stops shown.pieces shown.row shown.is.first shown.shown.in_order
-        shown.is.rule.breaks (up_to (events_of shown.pieces) rows on.more shown.row
-        (rw one at on.longer_is) (reached.1.pieces, reached.1.act_list))
+        row_one shown.fields on.event shown.row (rw same at on.row) shown.told in
+        laws.stops at.pieces shown.row at.is.first at.list.in_order at.is.rule.breaks
+        (rw at.list.whole (up_to shown.rows rows on.more shown.row (rw one at on.longer_is)
+        (reached.1.pieces, reached.1.act_list)))
 
     -- so where rows lead up to a record, that is a row too: the row of the fault, or one before it
     abbrev Next : List Event → List (List ℕ) → Type 0
     Next rows fields = (row : Event) × IsRow fields row
-        × (((rows ≡ events_of shown.pieces) × (row ≡ shown.row))
-        ⊎ ((more : List Event) × (events_of shown.pieces ≡ rows ++ row ∷ more)))
+        × (((rows ≡ shown.rows) × (row ≡ shown.row))
+        ⊎ ((more : List Event) × (shown.rows ≡ rows ++ row ∷ more)))
 
-    next : (rows : List Event) (fields : List (List ℕ)) → LeadUpTo scope records rows fields
-        → Next rows fields
-    next rows fields stops =
-        elim (compared stops.done shown.shown.done (fields ∷ stops.rest)
-        (shown.fields ∷ shown.rest) rows (events_of shown.pieces) stops.told shown.shown.told
-        (sym stops.split ∙ shown.shown.split)) [
+    next : (rows : List Event) (fields : List (List ℕ)) (rest : List (List (List ℕ)))
+        → AreRead IsRow records rows (fields ∷ rest) → IsReached scope rows → Next rows fields
+    next rows fields rest read reached =
+        elim (compared read.done shown.read.done (fields ∷ rest) (shown.fields ∷ shown.rest) rows
+        shown.rows read.told shown.read.told (sym read.split ∙ shown.read.split)) [
           | inl same ↦
               let one : shown.fields ≡ fields = cc (same.1) in
-              (shown.row, rw one at shown.row_told, inl (same.0, refl))
+              (shown.row, rw one at shown.told, inl (same.0, refl))
           | inr (inl on) ↦
               let one : on.fields ≡ fields = cc (on.record_is) in
               (on.event, rw one at on.row, inr (on.more, on.longer_is))
-          | inr (inr on) ↦ absurd (none_beyond rows on stops.possible)
+          | inr (inr on) ↦ absurd (none_beyond rows on reached)
         ]
 
     no_up_to : (offence : Offence) → IsImpossible scope ROWS_MAX records offence
-        → IsNoUpTo (profile_of scope.begins) (length (events_of shown.pieces) + 1) fault
-        (Ok (No offence))
+        → IsNoUpTo (profile_of scope.begins) (length shown.rows + 1) fault (Ok (No offence))
     no_up_to offence is =
-        let (row, told, at) = next is.rows is.fields is.stops in
+        let (row, told, at) = next is.rows is.fields is.rest is.read is.stops.reached in
         let one : is.row ≡ row = row_one is.fields is.row row is.told told in
-        by row (rw one at is.is) at
+        by row (rw one at is.stops) at
       where
         by : (row : Event) → IsOffence scope is.rows row offence
-            → ((is.rows ≡ events_of shown.pieces) × (row ≡ shown.row))
-            ⊎ ((more : List Event) × (events_of shown.pieces ≡ is.rows ++ row ∷ more))
-            → IsNoUpTo (profile_of scope.begins) (length (events_of shown.pieces) + 1) fault
-            (Ok (No offence))
+            → ((is.rows ≡ shown.rows) × (row ≡ shown.row))
+            ⊎ ((more : List Event) × (shown.rows ≡ is.rows ++ row ∷ more))
+            → IsNoUpTo (profile_of scope.begins) (length shown.rows + 1) fault (Ok (No offence))
         by row why (inl same) =
             let here = rw (same.0, same.1) at why in
-            let both = at_the_row shown.pieces shown.row fault offence shown.shown.in_order
-            shown.is here in
+            let both = at_the_row shown.stops.pieces shown.rows shown.row fault offence
+            shown.stops.list shown.stops.is here in
             inr (here.number, both.0, both.1)
         by row why (inr (more, longer)) =
-            let list : HasActList scope (events_of shown.pieces) =
-            (shown.pieces, record { in_order = shown.shown.in_order; whole = refl }) in
             let long = length-append is.rows (row ∷ more) in
             inl (
               omega (arith, ap length longer, long, why.number),
               earlier_row is.rows row offence
-                  (up_to is.rows (events_of shown.pieces) more row longer list) why,
+                  (up_to is.rows shown.rows more row longer (shown.stops.pieces, shown.stops.list))
+                  why,
             )
 
     -- the verdict is a no, at that row or before it
     pub verdict_up_to : (answer : Result Outcome RunFault) → IsAnswer scope ROWS_MAX records answer
         → IsOwnAnswer answer
-        → IsNoUpTo (profile_of scope.begins) (length (events_of shown.pieces) + 1) fault answer
+        → IsNoUpTo (profile_of scope.begins) (length shown.rows + 1) fault answer
     verdict_up_to (Ok (Yes report)) is own =
-        elim (compared records shown.shown.done [] (shown.fields ∷ shown.rest) is.rows
-        (events_of shown.pieces) is.told shown.shown.told
-        (append-nil records ∙ shown.shown.split)) [
+        elim (compared records shown.read.done [] (shown.fields ∷ shown.rest) is.rows shown.rows
+        is.told shown.read.told (append-nil records ∙ shown.read.split)) [
           | inl same ↦ cc (same.1)
           | inr (inl on) ↦ cc (on.record_is)
-          | inr (inr on) ↦ none_beyond is.rows on is.is.reached
+          | inr (inr on) ↦ none_beyond is.rows on is.has.0.reached
         ]
     verdict_up_to (Ok (No offence)) is own = no_up_to offence is
     verdict_up_to (Err (BadRow row why)) is own =
-        let (event, told, at) = next is.rows is.fields is.stops in
+        let (event, told, at) = next is.rows is.fields is.rest is.read is.has in
         row_not_refused is.fields event why told is.refused
     verdict_up_to (Err TooLong) is own =
-        let (event, told, at) = next is.rows is.fields is.stops in
+        let (event, told, at) = next is.rows is.fields is.rest is.read is.has in
         elim at [
           | inl same ↦ omega (arith, ap length same.0, is.full, shown.few)
           | inr on ↦ omega (

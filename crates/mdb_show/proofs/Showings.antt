@@ -1,8 +1,10 @@
 -- What the showing is, by how the reading of rows ended.
-use Rattle.mdb_show.proofs.Words.{AreRead, AreShown, BadRow, Err, Event, HasAdded, HasEnded, HasFaultLine, HasLines, HasShown, HasStopped, HasTakenOrStoppedAt, IsActList, IsAdded, IsNotTaken, IsOfOutput, IsRow, IsShowingIn, IsShownInPartIn, IsShownToFaultIn, IsShownWholeIn, IsStop, IsStopped, IsTakenWhole, LineForm, Lines, LinkFault, List, Memory, None, Ok, Option, Output, Piece, Puts, PutsShowing, ROWS_MAX, Read, Result, RunFault, Scope, Some, StandsFor, TooLong, Write, [], ap, arith, begun, break_both, closed_pieces, cut_text, inl, inr, length, lines_of, output, put_begun, put_both, refl, scope_of, sym, ℕ, ◌++◌, ◌∙◌, ◌∷◌, ◌≡◌, ◌≤◌}
+use Rattle.mdb_show.proofs.Words.{AreRead, BadRow, Err, Event, HasAdded, HasLines, HasShown, HasStopped, HasTakenOrStoppedAt, IsAdded, IsNotTaken, IsOfOutput, IsRow, IsShowingIn, IsShownWholeIn, IsStop, IsStopped, IsTakenWhole, IsUnanswered, LineForm, Lines, LinkFault, List, Memory, None, Ok, Option, Output, Puts, PutsShowing, ROWS_MAX, Read, Result, RunFault, Scope, Some, StandsFor, TooLong, Write, [], ap, arith, begun, break_both, closed_pieces, cut_text, inl, inr, length, lines_of, output, put_begun, put_both, refl, scope_of, sym, ℕ, ◌++◌, ◌∙◌, ◌≡◌}
 use Rattle.mdb_words.specs.Refusals.{IsRefusal}
 use Rattle.std.specs.Result.{result_transpose}
+use Rattle.mdb_verdict.proofs.Ends.{drawn, part_of_whole, stopped_as, whole_as}
 use Rattle.mdb_verdict.proofs.Rows.{read_with}
+use Rattle.mdb_show.proofs.ShowSteps.{its_list}
 use Rattle.mdb_show.proofs.ShowTexts.{all_shown}
 
 -- before the first row
@@ -35,24 +37,12 @@ added form scope lines before after rows row answer stop is adds = rw is adds
 
 module _ (form : LineForm) (scope : Scope) (all : List (List (List ℕ))) (lines : Lines)
     (before now : Output) where
-  -- the pieces of the rows that were read
-  shown_of : {rows : List Event} {rest : List (List (List ℕ))}
-      (has : HasShown form scope lines before now rows) → AreRead IsRow all rows rest
-      → AreShown scope all has.pieces rest
-  shown_of {rows = rows} has read = record {
-    done = read.done;
-    split = read.split;
-    told = rw has.are read.told;
-    in_order = rw has.in_scope at has.stands.in_order;
-  }
-
-  -- the lines of some first records
-  in_part : {rows : List Event} {rest : List (List (List ℕ))}
-      → HasShown form scope lines before now rows → AreRead IsRow all rows rest
-      → (text : List ℕ) × IsShownInPartIn form scope all text × Puts before now text
-  in_part {rest = rest} has read = (
+  -- the lines of rows that were taken
+  has_lines : (rows : List Event) → HasShown form scope lines before now rows → (text : List ℕ)
+      × HasLines form scope rows text × Puts before now text
+  has_lines rows has = (
     lines_of form (closed_pieces has.pieces),
-    record { pieces = has.pieces; rest = rest; shown = shown_of has read; lines = refl },
+    record { pieces = has.pieces; list = its_list has; lines = refl },
     has.written,
   )
 
@@ -62,16 +52,15 @@ module _ (form : LineForm) (scope : Scope) (all : List (List (List ℕ))) (lines
       (lines_of form (closed_pieces ended.has.pieces) ++ cut_text form lines.shown lines.rows)
   whole_showing ended =
       let has = ended.has in
-      record {
+      whole_as ended (record {
         pieces = has.pieces;
-        shown = shown_of has ended.read;
-        few = rw has.are ended.few;
+        list = its_list has;
         lines = rw (
           all_shown form (scope_of lines.bus) has.pieces has.stands.in_order,
           has.closed,
           ap length has.are ∙ has.counted,
         );
-      }
+      })
 
   -- the text ends
   pub whole : (later : Output)
@@ -84,6 +73,14 @@ module _ (form : LineForm) (scope : Scope) (all : List (List (List ℕ))) (lines
     put_both before now later (lines_of form (closed_pieces ended.has.pieces))
         (cut_text form lines.shown lines.rows) ended.has.written cut,
   )
+
+  -- a record isn't taken, or can't be read
+  pub refused_by : (fault : RunFault)
+      → IsUnanswered IsRow IsRefusal (HasShown form scope lines before now) ROWS_MAX all fault
+      → PutsShowing form scope all before now (Err fault)
+  refused_by fault ended = inl
+      (drawn (λ text rows. HasLines form scope rows text) (Puts before now) has_lines
+      IsRow IsRefusal ROWS_MAX all fault ended)
 
   -- the line of a tail isn't put there
   pub untaken : (later : Output)
@@ -101,89 +98,26 @@ module _ (form : LineForm) (scope : Scope) (all : List (List (List ℕ))) (lines
           (cut_text form lines.shown lines.rows) ended.has.written not_taken;
     },
   )
-  untaken later ended Memory not_taken = rw not_taken (inl (in_part ended.has ended.read))
+  untaken later ended Memory not_taken =
+      rw not_taken (refused_by Memory (part_of_whole ended))
   untaken later ended fault not_taken = absurd not_taken
-
-  -- a record isn't taken, or can't be read
-  pub refused_by : (fault : RunFault)
-      → HasEnded IsRow IsRefusal (HasShown form scope lines before now)
-      (HasStopped form scope lines before now) ROWS_MAX all (Err fault)
-      → PutsShowing form scope all before now (Err fault)
-  refused_by (BadRow row fault) ended = inl (
-    lines_of form (closed_pieces ended.has.pieces),
-    record {
-      pieces = ended.has.pieces;
-      fields = ended.fields;
-      rest = ended.rest;
-      shown = shown_of ended.has ended.read;
-      few = rw ended.has.are ended.few;
-      number = rw ended.has.are ended.number;
-      refused = ended.refused;
-      lines = refl;
-    },
-    ended.has.written,
-  )
-  refused_by TooLong ended = inl (
-    lines_of form (closed_pieces ended.has.pieces),
-    record {
-      pieces = ended.has.pieces;
-      fields = ended.fields;
-      rest = ended.rest;
-      shown = shown_of ended.has ended.read;
-      full = rw ended.has.are ended.full;
-      lines = refl;
-    },
-    ended.has.written,
-  )
-  refused_by Read ended = inl (in_part ended.has ended.read)
-  refused_by Memory ended = inl (in_part ended.has ended.read)
-  refused_by Write ended = absurd ended
 
 -- Where a row is stopped at.
 module _ (form : LineForm) (scope : Scope) (all : List (List (List ℕ))) where
-  -- the pieces of rows that were read
-  listed : {rows : List Event} {pieces : List Piece} {rest : List (List (List ℕ))}
-      → AreRead IsRow all rows rest → IsActList scope pieces rows → AreShown scope all pieces rest
-  listed read list = record {
-    done = read.done;
-    split = read.split;
-    told = rw list.whole read.told;
-    in_order = list.in_order;
-  }
-
-  -- their lines are those of a part of the records
+  -- lines of rows that were read are those of a part of the records
   part_showing : {rows : List Event} {rest : List (List (List ℕ))} → AreRead IsRow all rows rest
-      → (text : List ℕ) → HasLines form scope rows text → IsShownInPartIn form scope all text
-  part_showing {rest = rest} read text its = record {
-    pieces = its.pieces;
-    rest = rest;
-    shown = listed read its.list;
-    lines = its.lines;
-  }
+      → {text : List ℕ} → HasLines form scope rows text
+      → IsShowingIn form scope all (Err Memory) text
+  part_showing {rows = rows} {rest = rest} read its =
+      record { rows = rows; rest = rest; read = read; has = its }
 
-  module _ {Stops : List Event → Event → Type 0} (ended : IsStopped IsRow Stops ROWS_MAX all) where
-    -- and so are those up to a row that breaks a rule of the link
-    fault_showing : (fault : LinkFault) (text : List ℕ)
-        → HasFaultLine form scope ended.rows ended.row fault text
-        → IsShownToFaultIn form scope all fault text
-    fault_showing fault text its = record {
-      pieces = its.pieces;
-      fields = ended.fields;
-      rest = ended.rest;
-      shown = listed ended.read its.list;
-      few = rw its.list.whole ended.few;
-      row = ended.row;
-      row_told = ended.told;
-      is = its.is;
-      lines = rw its.list.whole its.lines;
-    }
-
-    -- a text that the row may come to is one of the records
-    showing_of : (text : List ℕ) → IsAdded form scope ended.rows ended.row text
-        → (answer : Result (Option LinkFault) RunFault) × IsShowingIn form scope all answer text
-    showing_of text (inl part) =
-        (Err Memory, part_showing (read_with IsRow ended.read ended.told) text part)
-    showing_of text (inr (fault, its)) = (Ok (Some fault), fault_showing fault text its)
+  -- a text that the row may come to is one of the records
+  showing_of : {Stops : List Event → Event → Type 0} (ended : IsStopped IsRow Stops ROWS_MAX all)
+      (text : List ℕ) → IsAdded form scope ended.rows ended.row text
+      → (answer : Result (Option LinkFault) RunFault) × IsShowingIn form scope all answer text
+  showing_of ended text (inl part) =
+      (Err Memory, part_showing (read_with IsRow ended.read ended.told) part)
+  showing_of ended text (inr (fault, its)) = (Ok (Some fault), stopped_as ended its)
 
   module _ (lines : Lines) (before after : Output) where
     -- a row breaks a rule of the link
@@ -191,8 +125,7 @@ module _ (form : LineForm) (scope : Scope) (all : List (List (List ℕ))) where
         (λ rows row. HasStopped form scope lines before after rows row (Ok fault)) ROWS_MAX all
         → PutsShowing form scope all before after (Ok (Some fault))
     at_fault fault ended =
-        let (text, its, written) = ended.stops in
-        inl (text, fault_showing ended fault text its, written)
+        let (text, its, written) = ended.stops in inl (text, stopped_as ended its, written)
 
     -- a line isn't taken
     pub untaken_by : (fault : RunFault) → IsStopped IsRow
@@ -204,7 +137,7 @@ module _ (form : LineForm) (scope : Scope) (all : List (List (List ℕ))) where
         inr (refl, record { answer = would.0; text = text; is = would.1; broken = broken })
     untaken_by Memory ended =
         let (text, its, written) = ended.stops in
-        inl (text, part_showing ended.read text its, written)
+        inl (text, part_showing ended.read its, written)
     untaken_by fault ended = absurd ended.stops
 
 -- A fault at a row is one of the output.

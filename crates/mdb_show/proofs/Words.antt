@@ -20,18 +20,19 @@ pub use Rattle.mdb_bus.specs.declared.scope.Profile.{Profile}
 pub use Rattle.mdb_bus.specs.declared.scope.Scope.{Scope}
 pub use Rattle.mdb_follow.specs.declared.follower.TheConstants.{ROWS_MAX}
 pub use Rattle.mdb_text.specs.declared.form.Form.{Form}
-pub use Rattle.mdb_verdict.proofs.OneAnswer.{compared, Ending, EndsBy, one_ending, row_not_refused, row_one, SaysOne}
+pub use Rattle.mdb_verdict.proofs.OneAnswer.{compared, Ending, of_stop, of_unanswered, of_whole, one_ending, row_not_refused, row_one, SaysOne}
 pub use Rattle.mdb_verdict.proofs.Tellings.{not_taken_of_output, reads_all, reads_fault, reads_finished, reads_output, told}
 pub use Rattle.mdb_verdict.proofs.Verdicts.{is_fault}
-pub use Rattle.mdb_verdict.specs.Ending.{AreRead, HasEnded, HasTakenOrStoppedAt, IsStop, IsStopped, IsTakenWhole}
-pub use Rattle.mdb_verdict.specs.Telling.{IsNotTaken, IsOfOutput}
-pub use Rattle.mdb_verdict.specs.Verdict.{IsAnswer, IsImpossible, IsOwnAnswer, LeadUpTo}
+pub use Rattle.mdb_verdict.specs.Ending.{HasTakenOrStoppedAt, IsStop}
+pub use Rattle.mdb_verdict.specs.Unanswered.{IsUnanswered}
+pub use Rattle.mdb_verdict.specs.Telling.{IsNotTaken, IsOfOutput, IsOwnAnswer}
+pub use Rattle.mdb_verdict.specs.Verdict.{AreRead, IsAnswer, IsImpossible, IsStopped, IsTakenWhole}
 pub use Rattle.mdb_verdict.specs.declared.fault.RunFault.{RunFault}
 pub use Rattle.mdb_verdict.specs.declared.fault.RunFault.TheVariants.{BadRow, Memory, Read, TooLong, Write}
 pub use Rattle.mdb_show.specs.Lines.{LineForm, lines_of, piece_line}
-pub use Rattle.mdb_show.specs.Show.{AreShown, IsNotWhole, IsShowingIn, IsShownInPartIn, IsShownToFaultIn, IsShownWholeIn, lines_in}
+pub use Rattle.mdb_show.specs.Show.{HasAllLines, HasFaultLine, HasLines, IsNotWhole, IsShowingIn, IsShownToFaultIn, IsShownWholeIn, lines_in}
 pub use Rattle.mdb_show.specs.ShowJson.{act_data, block_members, cut_data, deed_data, device_members, fault_data, hex_text, json_lines, rows_members}
 pub use Rattle.mdb_show.specs.ShowText.{bytes_text}
 pub use Rattle.mdb_show.specs.declared.showing.Lines.{Lines}
 pub use Rattle.mdb_show.specs.inner.JsonLines.{act_json, blame_json, block_json, bytes_json, deed_json, device_json, fault_json, head_json, rows_json, rows_only_json, rule_json}
-pub use Rattle.mdb_show.specs.inner.ShowSteps.{cut_text, ended_text, HasAdded, HasFaultLine, HasLines, HasPieces, HasShown, HasStopped, IsAdded, PutsShowing}
+pub use Rattle.mdb_show.specs.inner.ShowSteps.{cut_text, ended_text, HasAdded, HasPieces, HasShown, HasStopped, IsAdded, PutsShowing}

@@ -3,7 +3,6 @@
 
 ghost use Rattle.std.specs.Prelude.{◌≡◌, ◌+◌, ℕ, List, None, Option, Result, Ok, Some, length};
 ghost use Rattle.mdb_msgs.specs.declared.command.Device.{Device};
-ghost use Rattle.mdb_bus.specs.ActLists.{events_of};
 ghost use Rattle.mdb_bus.specs.declared.fault.LinkFault.{LinkFault};
 ghost use Rattle.mdb_bus.specs.LeavingOut.{LeavesOutMore};
 ghost use Rattle.mdb_bus.specs.LinkFaults.{blame_on};
@@ -15,7 +14,8 @@ ghost use Rattle.mdb_verdict.specs.declared.fault.RunFault.{RunFault};
 ghost use Rattle.mdb_show.specs.Lines.{LineForm};
 ghost use Rattle.mdb_show.specs.Show.{IsShowingIn, IsShownToFaultIn};
 ghost use Rattle.mdb_show.specs.ShownFault.{IsNoUpTo};
-ghost use Rattle.mdb_verdict.specs.Verdict.{IsAnswer, IsOwnAnswer};
+ghost use Rattle.mdb_verdict.specs.Telling.{IsOwnAnswer};
+ghost use Rattle.mdb_verdict.specs.Verdict.{IsAnswer};
 
 use mdb_bus::laws as links;
 
@@ -51,7 +51,7 @@ pub fn shown_faults_are_those_of_verdicts()
         (text : List ℕ) (answer : Result Outcome RunFault)
         → (shown : IsShownToFaultIn form scope records fault text)
         → IsAnswer scope ROWS_MAX records answer → IsOwnAnswer answer
-        → IsNoUpTo (profile_of scope.begins) (length (events_of shown.pieces) + 1) fault answer }
+        → IsNoUpTo (profile_of scope.begins) (length shown.rows + 1) fault answer }
 {
     links::fronts_of_act_lists_have_act_lists();
     links::transcripts_have_one_act_list();

@@ -1,7 +1,11 @@
 -- The records of a text are surveyed in one way.
-use Rattle.mdb_survey.proofs.Words.{Err, List, Ok, Result, [], ap, ap₂, arith, length, refl, sym, ℕ, ◌++◌, ◌∙◌, ◌∷◌, ◌≡◌, ◌≤◌, Scope, ROWS_MAX, IsSurvey, summary_of, Ended, Stretch, Summary, AreSurveyed, IsSurveying, LineForm, lines_of, RunFault, BadRow, Memory, Read, TooLong, Write, Event}
-use Rattle.mdb_verdict.proofs.OneAnswer.{Ending, EndsBy, SaysOne, one_ending}
-use Rattle.mdb_verdict.specs.Verdict.{IsOwnAnswer}
+use Rattle.mdb_survey.proofs.Words.{BadRow, Ended, Err, Event, HasAllLines, HasLines, IsSurvey, IsSurveying, LineForm, List, Memory, Ok, ROWS_MAX, Read, Result, RunFault, Scope, Stretch, Summary, TooLong, Write, [], ap₂, length, lines_of, refl, summary_of, sym, ℕ, ◌++◌, ◌∙◌, ◌∷◌, ◌≡◌, ◌≤◌}
+use Rattle.mdb_words.specs.Refusals.{IsRefusal}
+use Rattle.mdb_words.specs.Row.{IsRow}
+use Rattle.mdb_verdict.specs.Unanswered.{IsUnanswered}
+use Rattle.mdb_verdict.proofs.Ends.{drawn, drawn_in_part, whole_as}
+use Rattle.mdb_verdict.proofs.OneAnswer.{Ending, SaysOne, of_unanswered, of_whole, one_ending}
+use Rattle.mdb_verdict.specs.Telling.{IsOwnAnswer}
 
 -- rows have at most one survey
 abbrev pub HaveOneSurvey : Scope → Type 0
@@ -34,50 +38,45 @@ module _ (scope : Scope) (law : HaveOneSurvey scope) where
       one rows (fields ∷ after) a b p q = absurd p
 
   module _ (form : LineForm) (records : List (List (List ℕ))) where
-    -- the text of an answer
-    abbrev text_of : List Ended → Stretch → Result Summary RunFault → List ℕ
-    text_of ended last (Ok summary) =
-        lines_of form ended ++ form.stretch last ++ form.summary summary
-    text_of ended last (Err fault) = lines_of form ended ++ form.stretch last
+    -- the text of an answer, by its rows
+    abbrev Lines : List Event → Result Summary RunFault → List ℕ → Type 0
+    Lines rows (Ok summary) text = HasAllLines form scope summary rows text
+    Lines rows (Err fault) text = HasLines form scope rows text
+
+    -- it is one
+    one_text : (rows : List Event) (answer : Result Summary RunFault) (s t : List ℕ)
+        → Lines rows answer s → Lines rows answer t → s ≡ t
+    one_text rows (Ok summary) s t one other =
+        let same = law rows one.ended other.ended one.last other.last one.survey other.survey in
+        one.lines ∙ (ap₂ (λ (e : List Ended) (l : Stretch).
+        lines_of form e ++ form.stretch l ++ form.summary summary) same.0 same.1 ∙ sym other.lines)
+    one_text rows (Err fault) s t one other =
+        let same = law rows one.ended other.ended one.last other.last one.survey other.survey in
+        one.lines ∙ (ap₂ (λ (e : List Ended) (l : Stretch). lines_of form e ++ form.stretch l)
+        same.0 same.1 ∙ sym other.lines)
 
     record Surveyed (answer : Result Summary RunFault) (text : List ℕ) : Type 0 where
-      ended : List Ended
-      last : Stretch
       ending : Ending Says ROWS_MAX Any records answer
-      survey : IsSurvey scope ending.rows ended last
-      lines : text ≡ text_of ended last answer
+      lines : Lines ending.rows answer text
 
-    surveyed_by : {answer : Result Summary RunFault} {text : List ℕ} {ended : List Ended}
-        {last : Stretch} {rest : List (List (List ℕ))}
-        (its : AreSurveyed scope records ended last rest) → length its.rows ≤ ROWS_MAX
-        → EndsBy Says ROWS_MAX its.rows rest answer → text ≡ text_of ended last answer
-        → Surveyed answer text
-    surveyed_by {ended = ended} {last = last} {rest = rest} its few by lines = record {
-      ended = ended;
-      last = last;
-      ending = record {
-        rows = its.rows;
-        rest = rest;
-        done = its.done;
-        split = its.split;
-        told = its.told;
-        can = tt;
-        few = few;
-        by = by;
-      };
-      survey = its.survey;
-      lines = lines;
-    }
+    unanswered : (fault : RunFault) (text : List ℕ)
+        → IsUnanswered IsRow IsRefusal (λ rows. HasLines form scope rows text) ROWS_MAX records
+        fault → IsOwnAnswer {Answer = Summary} (Err fault) → Surveyed (Err fault) text
+    unanswered fault text is own =
+        let it = of_unanswered Says ROWS_MAX Any {Has = λ rows. HasLines form scope rows text}
+        (λ rows has. tt) fault is own in
+        record { ending = it.0; lines = it.1 }
 
     surveyed : (read : ℕ) (answer : Result Summary RunFault) (text : List ℕ)
         → IsSurveying form scope records read answer text → IsOwnAnswer answer
         → Surveyed answer text
-    surveyed read (Ok summary) text is own = surveyed_by is.surveyed is.few
-        (is.ended, is.last, is.surveyed.survey, is.comes_to) is.lines
-    surveyed read (Err (BadRow row fault)) text is own = surveyed_by is.surveyed
-        (omega (arith, is.few)) (is.refused, is.few, is.number) is.lines
-    surveyed read (Err TooLong) text is own =
-        surveyed_by is.surveyed (omega (arith, is.full)) is.full is.lines
+    surveyed read (Ok summary) text is own = record {
+      ending = of_whole Says ROWS_MAX Any is tt
+          (is.has.ended, is.has.last, is.has.survey, is.has.comes_to);
+      lines = is.has;
+    }
+    surveyed read (Err (BadRow row fault)) text is own = unanswered (BadRow row fault) text is own
+    surveyed read (Err TooLong) text is own = unanswered TooLong text is own
     surveyed read (Err fault) text is own = absurd own
 
     -- the survey of a text is one
@@ -87,75 +86,59 @@ module _ (scope : Scope) (law : HaveOneSurvey scope) where
     one_surveying read more a b s t p q own also =
         let one = surveyed read a s p own in
         let other = surveyed more b t q also in
-        let ends = one_ending says_one one.ending other.ending in
-        let same = law other.ending.rows one.ended other.ended one.last other.last
-        (rw ends.0 at one.survey) other.survey in (
+        let ends = one_ending says_one one.ending other.ending in (
           ends.1,
-          one.lines ∙ (ap₂ (λ (e : List Ended) (l : Stretch). text_of e l a) same.0 same.1
-              ∙ (ap (text_of other.ended other.last) ends.1 ∙ sym other.lines)),
+          one_text other.ending.rows b s t (rw ends.1 at (rw ends.0 at one.lines)) other.lines,
         )
 
 -- and so it is in each form
-pub in_other_form : (form other : LineForm) (scope : Scope) (records : List (List (List ℕ)))
-    (read : ℕ) (answer : Result Summary RunFault) (text : List ℕ)
-    → IsSurveying form scope records read answer text
-    → (same : List ℕ) × IsSurveying other scope records read answer same
-in_other_form form other scope records read (Ok summary) text is = (
-  lines_of other is.ended ++ other.stretch is.last ++ other.summary summary,
-  record {
-    ended = is.ended;
-    last = is.last;
-    surveyed = is.surveyed;
-    few = is.few;
-    comes_to = is.comes_to;
-    lines = refl;
-  },
-)
-in_other_form form other scope records read (Err (BadRow row fault)) text is = (
-  lines_of other is.ended ++ other.stretch is.last,
-  record {
-    ended = is.ended;
-    last = is.last;
-    fields = is.fields;
-    rest = is.rest;
-    surveyed = is.surveyed;
-    few = is.few;
-    number = is.number;
-    refused = is.refused;
-    lines = refl;
-  },
-)
-in_other_form form other scope records read (Err TooLong) text is = (
-  lines_of other is.ended ++ other.stretch is.last,
-  record {
-    ended = is.ended;
-    last = is.last;
-    fields = is.fields;
-    rest = is.rest;
-    surveyed = is.surveyed;
-    full = is.full;
-    lines = refl;
-  },
-)
-in_other_form form other scope records read (Err Read) text is = (
-  lines_of other is.ended ++ other.stretch is.last,
-  record {
-    ended = is.ended;
-    last = is.last;
-    rest = is.rest;
-    surveyed = is.surveyed;
-    none_left_out = is.none_left_out;
-    lines = refl;
-  },
-)
-in_other_form form other scope records read (Err Write) text is = absurd is
-in_other_form form other scope records read (Err Memory) text is = (
-  lines_of other is.ended,
-  record {
-    ended = is.ended;
-    last = is.last;
-    rest = is.rest;
-    surveyed = is.surveyed;
-    lines = refl;
-  },
-)
+module _ (form other : LineForm) (scope : Scope) (records : List (List (List ℕ))) where
+  other_lines : (text : List ℕ) (rows : List Event) → HasLines form scope rows text
+      → (same : List ℕ) × HasLines other scope rows same × Unit {0}
+  other_lines text rows has = (
+    lines_of other has.ended ++ other.stretch has.last,
+    record { ended = has.ended; last = has.last; survey = has.survey; lines = refl },
+    tt,
+  )
+
+  in_other : (fault : RunFault) (text : List ℕ)
+      → IsUnanswered IsRow IsRefusal (λ rows. HasLines form scope rows text) ROWS_MAX records fault
+      → (same : List ℕ)
+      × IsUnanswered IsRow IsRefusal (λ rows. HasLines other scope rows same) ROWS_MAX records fault
+  in_other fault text is =
+      let it = drawn {Has = λ rows. HasLines form scope rows text}
+      (λ same rows. HasLines other scope rows same) (λ same. Unit {0}) (other_lines text)
+      IsRow IsRefusal ROWS_MAX records fault is in (it.0, it.1)
+
+  pub in_other_form : (read : ℕ) (answer : Result Summary RunFault) (text : List ℕ)
+      → IsSurveying form scope records read answer text
+      → (same : List ℕ) × IsSurveying other scope records read answer same
+  in_other_form read (Ok summary) text is =
+      let its = is.has in (
+        lines_of other its.ended ++ other.stretch its.last ++ other.summary summary,
+        whole_as is (record {
+          ended = its.ended;
+          last = its.last;
+          survey = its.survey;
+          comes_to = its.comes_to;
+          lines = refl;
+        }),
+      )
+  in_other_form read (Err (BadRow row fault)) text is = in_other (BadRow row fault) text is
+  in_other_form read (Err TooLong) text is = in_other TooLong text is
+  in_other_form read (Err Read) text is =
+      let it = drawn_in_part {Has = λ rows. (read ≤ length rows) × HasLines form scope rows text}
+      (λ same rows. (read ≤ length rows) × HasLines other scope rows same) (λ same. Unit {0})
+      (λ rows has. let (same, lines, done) = other_lines text rows has.1 in
+      (same, (has.0, lines), done)) is in (it.0, it.1)
+  in_other_form read (Err Memory) text is =
+      let its = is.has in (
+        lines_of other its.ended,
+        record {
+          rows = is.rows;
+          rest = is.rest;
+          read = is.read;
+          has = record { ended = its.ended; last = its.last; survey = its.survey; lines = refl };
+        },
+      )
+  in_other_form read (Err Write) text is = absurd is

@@ -1,7 +1,11 @@
 -- What the survey is, by how the reading of rows ended.
-use Rattle.mdb_survey.proofs.Words.{Err, IfErr, List, Ok, Result, [], append_assoc, arith, inl, inr, refl, ℕ, ◌++◌, ◌+◌, ◌-◌, ◌∙◌, ◌∷◌, ◌≡◌, Scope, ROWS_MAX, IsSurvey, summary_of, rows_of, Ended, Stretch, Summary, Surveyor, AreSurveyed, IsSurveyedInPart, IsSurveying, HasAddedEnd, HasAddedLast, HasStopped, HasSurveyed, LeadInto, PutsSurveying, LineForm, lines_of, not_taken_of_output, IsNotTaken, IsOfOutput, RunFault, BadRow, Memory, Read, TooLong, Write, Event, break_both, put_both, Output, Puts}
+use Rattle.mdb_survey.proofs.Words.{BadRow, Ended, Err, Event, HasAddedEnd, HasAddedLast, HasFaultLines, HasLines, HasStopped, HasSurveyed, IfErr, IsNotTaken, IsOfOutput, IsSurvey, IsSurveying, LeadInto, LineForm, List, Memory, Ok, Output, Puts, PutsSurveying, ROWS_MAX, Read, Result, RunFault, Scope, Stretch, Summary, Surveyor, TooLong, Write, append_assoc, arith, break_both, inl, inr, length, lines_of, not_taken_of_output, put_both, refl, rows_of, summary_of, ℕ, ◌++◌, ◌+◌, ◌-◌, ◌∙◌, ◌∷◌, ◌≡◌, ◌≤◌}
 use Rattle.mdb_surveyor.specs.Surveyor.{StandsFor}
-use Rattle.mdb_verdict.specs.Ending.{AreRead, FindsUpTo, HasEnded, IsStop, IsStopped, IsTakenInPart, IsTakenWhole}
+use Rattle.mdb_verdict.specs.Ending.{FindsUpTo, IsStop}
+use Rattle.mdb_verdict.specs.Unanswered.{IsTakenInPart, IsUnanswered}
+use Rattle.mdb_verdict.specs.Verdict.{AreRead, IsStopped, IsTakenWhole}
+use Rattle.mdb_writing.specs.Output.{Breaks}
+use Rattle.mdb_verdict.proofs.Ends.{drawn, drawn_in_part, part_of_whole, whole_as}
 use Rattle.mdb_words.specs.Refusals.{IsRefusal}
 use Rattle.mdb_words.specs.Row.{IsRow}
 use Rattle.mdb_verdict.proofs.Rows.{read_before, read_with}
@@ -9,42 +13,29 @@ use Rattle.mdb_survey.proofs.NoRows.{NoneAreReached}
 use Rattle.mdb_survey.proofs.Surveys.{lead_into}
 
 module _ (form : LineForm) (scope : Scope) (all : List (List (List ℕ))) where
-  -- the survey of the rows that were read
-  abbrev surveyed_of : (rows : List Event) (rest : List (List (List ℕ))) (ended : List Ended)
-      (last : Stretch) → AreRead IsRow all rows rest → IsSurvey scope rows ended last
-      → AreSurveyed scope all ended last rest
-  surveyed_of rows rest ended last read survey = record {
-    done = read.done;
-    split = read.split;
-    rows = rows;
-    told = read.told;
-    survey = survey;
-  }
-
   -- the lines of faults alone are those of a part of the records
   part_of : {rows : List Event} {rest : List (List (List ℕ))} (ended : List Ended)
       → AreRead IsRow all rows rest → LeadInto scope rows ended
-      → IsSurveyedInPart form scope all (lines_of form ended)
+      → IsTakenInPart IsRow (λ rows. HasFaultLines form scope rows (lines_of form ended)) all
   part_of {rest = rest} ended read lead =
       let before = read_before IsRow all lead.front lead.rest rest (rw lead.parts at read) in
       record {
-        ended = ended;
-        last = lead.last;
+        rows = lead.front;
         rest = before.after ++ before.rest;
-        surveyed = surveyed_of lead.front (before.after ++ before.rest) ended lead.last before.read
-            lead.survey;
-        lines = refl;
+        read = before.read;
+        has = record { ended = ended; last = lead.last; survey = lead.survey; lines = refl };
       }
 
   module _ (surveyor : Surveyor) (before now : Output) where
-    -- those of all rows that were taken, where no rows are reached
-    part_taken : NoneAreReached → {rows : List Event} {rest : List (List (List ℕ))}
-        → HasSurveyed form scope surveyor before now rows → AreRead IsRow all rows rest
-        → (text : List ℕ) × IsSurveyedInPart form scope all text × Puts before now text
-    part_taken law {rows = rows} has read = (
-      lines_of form has.ended,
-      part_of has.ended read (lead_into law scope surveyor rows has.ended has.stands),
-      has.written,
+    -- memory is refused
+    pub out_of_memory : NoneAreReached → (read : ℕ)
+        → IsTakenInPart IsRow (HasSurveyed form scope surveyor before now) all
+        → PutsSurveying form scope all read before now (Err Memory)
+    out_of_memory law read it = inl (
+      lines_of form it.has.ended,
+      part_of it.has.ended it.read
+          (lead_into law scope surveyor it.rows it.has.ended it.has.stands),
+      it.has.written,
     )
 
     -- The text ends.
@@ -57,14 +48,13 @@ module _ (form : LineForm) (scope : Scope) (all : List (List (List ℕ))) where
           (lines_of form it.has.ended ++ form.stretch adds.last ++ form.summary adds.summary)
       whole_by answer adds summary is =
           let both = adds.survey scope it.rows it.has.ended it.has.stands in
-          record {
+          whole_as it (record {
             ended = it.has.ended;
             last = adds.last;
-            surveyed = surveyed_of it.rows [] it.has.ended adds.last it.read both.0;
-            few = it.few;
+            survey = both.0;
             comes_to = is ∙ both.1;
             lines = rw is;
-          }
+          })
 
       pub whole : NoneAreReached → (answer : Result Summary RunFault)
           → HasAddedEnd form surveyor now later answer
@@ -88,123 +78,86 @@ module _ (form : LineForm) (scope : Scope) (all : List (List (List ℕ))) where
               it.has.written adds.refused);
         },
       )
-      whole law (Err Memory) adds = rw adds.refused (inl (part_taken law it.has it.read))
+      whole law (Err Memory) adds =
+          rw adds.refused (out_of_memory law read (part_of_whole it))
       whole law (Err fault) adds = absurd adds.refused
 
-    -- A record isn't taken, or can't be read.
-
-    -- so many rows are taken, and with the lines of the stretch that runs this is the answer
-    record TakenUpTo (read : ℕ) (fault : RunFault) : Type 0 where
-      taken : IsTakenInPart IsRow (HasSurveyed form scope surveyor before now) all
-      answers : (last : Stretch) → IsSurvey scope taken.rows taken.has.ended last
-          → IsSurveying form scope all read (Err fault)
-          (lines_of form taken.has.ended ++ form.stretch last)
-
-    -- the reading ended at a fault that isn't want of memory
+    -- The reading ended at a fault that isn't want of memory.
     module _ (start found : ℕ) (fault : RunFault) (not : fault ≡ Memory → ⊥)
-        (ended : HasEnded IsRow IsRefusal (HasSurveyed form scope surveyor before now)
-        (HasStopped form scope before now) ROWS_MAX all (Err fault))
-        (most : FindsUpTo fault (start + rows_of surveyor) found) where
-      taken_up_to : TakenUpTo (found - start) fault
-      taken_up_to = by fault not ended most
-        where
-          by : (fault : RunFault) → (fault ≡ Memory → ⊥)
-              → HasEnded IsRow IsRefusal (HasSurveyed form scope surveyor before now)
-              (HasStopped form scope before now) ROWS_MAX all (Err fault)
-              → FindsUpTo fault (start + rows_of surveyor) found
-              → TakenUpTo (found - start) fault
-          by (BadRow row fault) not it most = record {
-            taken = record {
-              rows = it.rows;
-              rest = it.fields ∷ it.rest;
-              read = it.read;
-              has = it.has;
-            };
-            answers = λ last survey. record {
-              ended = it.has.ended;
-              last = last;
-              fields = it.fields;
-              rest = it.rest;
-              surveyed = surveyed_of it.rows (it.fields ∷ it.rest) it.has.ended last it.read survey;
-              few = it.few;
-              number = it.number;
-              refused = it.refused;
-              lines = refl;
-            };
-          }
-          by TooLong not it most = record {
-            taken = record {
-              rows = it.rows;
-              rest = it.fields ∷ it.rest;
-              read = it.read;
-              has = it.has;
-            };
-            answers = λ last survey. record {
-              ended = it.has.ended;
-              last = last;
-              fields = it.fields;
-              rest = it.rest;
-              surveyed = surveyed_of it.rows (it.fields ∷ it.rest) it.has.ended last it.read survey;
-              full = it.full;
-              lines = refl;
-            };
-          }
-          by Read not it most = record {
-            taken = it;
-            answers = λ last survey. record {
-              ended = it.has.ended;
-              last = last;
-              rest = it.rest;
-              surveyed = surveyed_of it.rows it.rest it.has.ended last it.read survey;
-              none_left_out = omega (arith, it.has.counted, most);
-              lines = refl;
-            };
-          }
-          by Write not it most = absurd it
-          by Memory not it most = absurd (not refl)
+        (ended : IsUnanswered IsRow IsRefusal (HasSurveyed form scope surveyor before now) ROWS_MAX
+        all fault) (most : FindsUpTo fault (start + rows_of surveyor) found) where
+      -- some rows were taken
+      taken : (fault : RunFault)
+          → IsUnanswered IsRow IsRefusal (HasSurveyed form scope surveyor before now) ROWS_MAX all
+          fault → IsTakenInPart IsRow (HasSurveyed form scope surveyor before now) all
+      taken (BadRow row fault) it =
+          record { rows = it.rows; rest = it.fields ∷ it.rest; read = it.read; has = it.has }
+      taken TooLong it =
+          record { rows = it.rows; rest = it.fields ∷ it.rest; read = it.read; has = it.has }
+      taken Read it = it
+      taken Memory it = it
+      taken Write it = absurd it
+
+      -- with the lines of the stretch that runs this is the answer
+      module _ {later : Output} {answer : Result Unit RunFault}
+          (adds : HasAddedLast form surveyor now later answer) (Also : List ℕ → Type 0)
+          (also : (ended : List Ended) → Puts before now (lines_of form ended)
+          → Also (lines_of form ended ++ form.stretch adds.last)) where
+        with_last : (rows : List Event) → HasSurveyed form scope surveyor before now rows
+            → (text : List ℕ) × HasLines form scope rows text × Also text
+        with_last rows has = (
+          lines_of form has.ended ++ form.stretch adds.last,
+          record {
+            ended = has.ended;
+            last = adds.last;
+            survey = adds.survey scope rows has.ended has.stands;
+            lines = refl;
+          },
+          also has.ended has.written,
+        )
+
+        answered : (text : List ℕ) × IsSurveying form scope all (found - start) (Err fault) text
+            × Also text
+        answered = by fault not ended most
+          where
+            by : (fault : RunFault) → (fault ≡ Memory → ⊥)
+                → IsUnanswered IsRow IsRefusal (HasSurveyed form scope surveyor before now)
+                ROWS_MAX all fault → FindsUpTo fault (start + rows_of surveyor) found
+                → (text : List ℕ) × IsSurveying form scope all (found - start) (Err fault) text
+                × Also text
+            by (BadRow row fault) not it most = drawn
+                (λ text rows. HasLines form scope rows text) Also with_last IsRow
+                IsRefusal ROWS_MAX all (BadRow row fault) it
+            by TooLong not it most =
+                drawn (λ text rows. HasLines form scope rows text) Also with_last IsRow IsRefusal
+                ROWS_MAX all TooLong it
+            by Read not it most = drawn_in_part {Has = HasSurveyed form scope surveyor before now}
+                (λ text rows. (found - start ≤ length rows) × HasLines form scope rows text) Also
+                (λ rows has. let (text, lines, put) = with_last rows has in
+                (text, (omega (arith, has.counted, most), lines), put)) it
+            by Write not it most = absurd it
+            by Memory not it most = absurd (not refl)
 
       -- the lines of the stretch that runs are added
       pub told_with_last : (later : Output) (done : Unit)
           → HasAddedLast form surveyor now later (Ok done)
           → PutsSurveying form scope all (found - start) before later (Err fault)
-      told_with_last later done adds =
-          let has = taken_up_to.taken.has in inl (
-            lines_of form has.ended ++ form.stretch adds.last,
-            taken_up_to.answers adds.last
-                (adds.survey scope taken_up_to.taken.rows has.ended has.stands),
-            put_both before now later (lines_of form has.ended) (form.stretch adds.last)
-                has.written adds.added,
-          )
+      told_with_last later done adds = inl (answered adds (Puts before later) (λ ended written.
+          put_both before now later (lines_of form ended) (form.stretch adds.last) written
+          adds.added))
 
       -- they aren't taken
       pub last_refused : NoneAreReached → (later : Output) (other : RunFault)
           → HasAddedLast form surveyor now later (Err other)
           → PutsSurveying form scope all (found - start) before later (Err other)
       last_refused law later Write adds =
-          let has = taken_up_to.taken.has in inr (
-            refl,
-            record {
-              answer = Err fault;
-              text = lines_of form has.ended ++ form.stretch adds.last;
-              is = taken_up_to.answers adds.last
-                  (adds.survey scope taken_up_to.taken.rows has.ended has.stands);
-              broken = break_both before now later (lines_of form has.ended)
-                  (form.stretch adds.last) has.written adds.refused;
-            },
-          )
-      last_refused law later Memory adds = rw adds.refused
-          (inl (part_taken law taken_up_to.taken.has taken_up_to.taken.read))
+          let it = answered adds (Breaks before later) (λ ended written.
+          break_both before now later (lines_of form ended) (form.stretch adds.last) written
+          adds.refused) in
+          inr (refl, record { answer = Err fault; text = it.0; is = it.1; broken = it.2 })
+      last_refused law later Memory adds =
+          rw adds.refused (out_of_memory law (found - start) (taken fault ended))
       last_refused law later other adds = absurd adds.refused
-
-    -- memory is refused
-    pub out_of_memory : NoneAreReached → (read : ℕ) (fault : RunFault) → fault ≡ Memory
-        → HasEnded IsRow IsRefusal (HasSurveyed form scope surveyor before now)
-        (HasStopped form scope before now) ROWS_MAX all (Err fault)
-        → PutsSurveying form scope all read before now (Err fault)
-    out_of_memory law read fault is ended =
-        let it : IsTakenInPart IsRow (HasSurveyed form scope surveyor before now) all =
-        rw is at ended in
-        rw is (inl (part_taken law it.has it.read))
 
   -- The lines of a fault and its stretch aren't taken.
   pub lines_untaken : (read : ℕ) (before now : Output) (fault : RunFault)

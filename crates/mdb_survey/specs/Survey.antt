@@ -1,7 +1,7 @@
 -- What `survey` answers to the records of a text, and what it writes of them, in whatever form.
-use Rattle.std.specs.Prelude.{◌≡◌, ◌+◌, ◌<◌, ◌≤◌, ℕ, List, [], ◌∷◌, ◌++◌, length, Option, Result, Ok, Err}
+use Rattle.std.specs.Prelude.{◌≡◌, ◌≤◌, ℕ, List, ◌++◌, length, Option, Result, Ok, Err}
 use Rattle.mdb_words.specs.declared.event.Event.{Event}
-use Rattle.mdb_words.specs.declared.row.RowFault.{RowFault}
+use Rattle.mdb_words.specs.Row.{IsRow}
 use Rattle.mdb_words.specs.Refusals.{IsRefusal}
 use Rattle.mdb_bus.specs.declared.scope.Profile.{Profile}
 use Rattle.mdb_bus.specs.declared.scope.Scope.{Scope}
@@ -11,10 +11,11 @@ use Rattle.mdb_surveyor.specs.declared.stretch.Stretch.{Stretch}
 use Rattle.mdb_surveyor.specs.Stretches.{IsSurvey}
 use Rattle.mdb_surveyor.specs.Summaries.{summary_of}
 use Rattle.mdb_verdict.specs.declared.fault.RunFault.{RunFault}
-use Rattle.mdb_verdict.specs.declared.fault.RunFault.TheVariants.{BadRow, TooLong, Read, Write, Memory}
+use Rattle.mdb_verdict.specs.declared.fault.RunFault.TheVariants.{Read, Memory}
 use Rattle.mdb_text.specs.declared.form.Form.{Form}
 use Rattle.mdb_text.specs.declared.form.Form.TheVariants.{Text, Json}
-use Rattle.mdb_verdict.specs.Rows.{AreRows}
+use Rattle.mdb_verdict.specs.Unanswered.{IsTakenInPart, IsUnanswered}
+use Rattle.mdb_verdict.specs.Verdict.{IsTakenWhole}
 use Rattle.mdb_verdict.specs.Telling.{Tells}
 use Rattle.mdb_writing.specs.Answers as answers
 use Rattle.mdb_surveyor.specs.declared.summary.Summary.{Summary}
@@ -22,86 +23,50 @@ use Rattle.mdb_surveyor.specs.Lines.{LineForm, lines_of}
 use Rattle.mdb_survey.specs.SurveyJson.{json_lines}
 use Rattle.mdb_surveyor.specs.SurveyText.{text_lines}
 
--- The records up to the rest are rows, and this is their survey.
-pub record AreSurveyed (scope : Scope) (records : List (List (List ℕ))) (ended : List Ended)
-    (last : Stretch) (rest : List (List (List ℕ))) : Type 0 where
-  pub done : List (List (List ℕ))
-  pub split : records ≡ done ++ rest
-  pub rows : List Event
-  pub told : AreRows done rows
-  pub survey : IsSurvey scope rows ended last
-
--- All records are rows. The text is the lines of their survey: those of each fault with the stretch
--- before it, of the last stretch, and of the whole.
-pub record IsSurveyedWhole (form : LineForm) (scope : Scope) (records : List (List (List ℕ)))
-    (summary : Summary) (text : List ℕ) : Type 0 where
+-- These rows have a survey. The text is its lines: those of each fault with the stretch before it,
+-- of the last stretch, and of the whole.
+pub record HasAllLines (form : LineForm) (scope : Scope) (summary : Summary) (rows : List Event)
+    (text : List ℕ) : Type 0 where
   pub ended : List Ended
   pub last : Stretch
-  pub surveyed : AreSurveyed scope records ended last []
-  pub few : length surveyed.rows ≤ ROWS_MAX
+  pub survey : IsSurvey scope rows ended last
   pub comes_to : summary ≡ summary_of ended last
   pub lines : text ≡ lines_of form ended ++ form.stretch last ++ form.summary summary
 
--- A record is no row, after so many rows. The text is the lines of the faults and stretches before
--- it, of the stretch that ran too.
-pub record IsSurveyedToBadRow (form : LineForm) (scope : Scope) (records : List (List (List ℕ)))
-    (row : ℕ) (fault : RowFault) (text : List ℕ) : Type 0 where
+-- The same without those of the whole.
+pub record HasLines (form : LineForm) (scope : Scope) (rows : List Event) (text : List ℕ)
+    : Type 0 where
   pub ended : List Ended
   pub last : Stretch
-  pub fields : List (List ℕ)
-  pub rest : List (List (List ℕ))
-  pub surveyed : AreSurveyed scope records ended last (fields ∷ rest)
-  pub few : length surveyed.rows < ROWS_MAX
-  pub number : row ≡ length surveyed.rows + 1
-  pub refused : IsRefusal fields fault
+  pub survey : IsSurvey scope rows ended last
   pub lines : text ≡ lines_of form ended ++ form.stretch last
 
--- There is a record after as many rows as there may be. The text is as before a record that is no
--- row.
-pub record IsSurveyedTooLong (form : LineForm) (scope : Scope) (records : List (List (List ℕ)))
-    (text : List ℕ) : Type 0 where
+-- The same without those of the last stretch.
+pub record HasFaultLines (form : LineForm) (scope : Scope) (rows : List Event) (text : List ℕ)
+    : Type 0 where
   pub ended : List Ended
   pub last : Stretch
-  pub fields : List (List ℕ)
-  pub rest : List (List (List ℕ))
-  pub surveyed : AreSurveyed scope records ended last (fields ∷ rest)
-  pub full : length surveyed.rows ≡ ROWS_MAX
-  pub lines : text ≡ lines_of form ended ++ form.stretch last
-
--- Some first records are rows, and the reading ended after them. So many were read, and none of
--- these is left out. The text is as before a record that is no row.
-pub record IsSurveyedToStop (form : LineForm) (scope : Scope) (records : List (List (List ℕ)))
-    (read : ℕ) (text : List ℕ) : Type 0 where
-  pub ended : List Ended
-  pub last : Stretch
-  pub rest : List (List (List ℕ))
-  pub surveyed : AreSurveyed scope records ended last rest
-  pub none_left_out : read ≤ length surveyed.rows
-  pub lines : text ≡ lines_of form ended ++ form.stretch last
-
--- Some first records are rows. The text is the lines of their faults, each with the stretch that it
--- ended.
-pub record IsSurveyedInPart (form : LineForm) (scope : Scope) (records : List (List (List ℕ)))
-    (text : List ℕ) : Type 0 where
-  pub ended : List Ended
-  pub last : Stretch
-  pub rest : List (List (List ℕ))
-  pub surveyed : AreSurveyed scope records ended last rest
+  pub survey : IsSurvey scope rows ended last
   pub lines : text ≡ lines_of form ended
 
+-- All records are rows, and the text is all lines of their survey.
+abbrev pub IsSurveyedWhole : LineForm → Scope → List (List (List ℕ)) → Summary → List ℕ → Type 0
+IsSurveyedWhole form scope records summary text =
+    IsTakenWhole IsRow (λ rows. HasAllLines form scope summary rows text) ROWS_MAX records
+
 -- The answer to the records of a text, of which so many were read, and the text that is written of
--- them. A refused read or memory may come after any row. That the writer failed is none of these
--- answers.
+-- them. Where a record can't be read, none that was read before is left out. Memory may be refused
+-- after any row. That the writer failed is none of these answers.
 abbrev pub IsSurveying : LineForm → Scope → List (List (List ℕ)) → ℕ → Result Summary RunFault
     → List ℕ → Type 0
 IsSurveying form scope records read (Ok summary) text =
     IsSurveyedWhole form scope records summary text
-IsSurveying form scope records read (Err (BadRow row fault)) text =
-    IsSurveyedToBadRow form scope records row fault text
-IsSurveying form scope records read (Err TooLong) text = IsSurveyedTooLong form scope records text
-IsSurveying form scope records read (Err Read) text = IsSurveyedToStop form scope records read text
-IsSurveying form scope records read (Err Memory) text = IsSurveyedInPart form scope records text
-IsSurveying form scope records read (Err Write) text = ⊥
+IsSurveying form scope records read (Err Read) text =
+    IsTakenInPart IsRow (λ rows. (read ≤ length rows) × HasLines form scope rows text) records
+IsSurveying form scope records read (Err Memory) text =
+    IsTakenInPart IsRow (λ rows. HasFaultLines form scope rows text) records
+IsSurveying form scope records read (Err fault) text =
+    IsUnanswered IsRow IsRefusal (λ rows. HasLines form scope rows text) ROWS_MAX records fault
 
 -- the same of the bytes that a writer held before and after
 abbrev pub SurveysIn : LineForm → Scope → List (List (List ℕ)) → ℕ → Option (List ℕ)

@@ -7,7 +7,7 @@ ghost use Rattle.mdb_surveyor.specs.declared.summary.Summary.{Summary};
 ghost use Rattle.mdb_verdict.specs.declared.fault.RunFault.{RunFault};
 ghost use Rattle.mdb_surveyor.specs.Lines.{LineForm};
 ghost use Rattle.mdb_survey.specs.Survey.{IsSurveying};
-ghost use Rattle.mdb_verdict.specs.Verdict.{IsOwnAnswer};
+ghost use Rattle.mdb_verdict.specs.Telling.{IsOwnAnswer};
 
 use mdb_surveyor::laws as stretches;
 

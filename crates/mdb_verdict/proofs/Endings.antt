@@ -1,5 +1,5 @@
 -- How far the reading of rows has come, and how it ends.
-use Rattle.mdb_verdict.proofs.Words.{AreRead, ComesAfter, EndsAfter, Err, FindsAtMost, FindsUpTo, FitsIn, HasEnded, HasFirst, HasRead, IfErr, IfSome, IsErrOf, IsHeard, IsMet, IsStopped, IsTakenInPart, IsTakenWhole, IsToldEnd, List, Memory, Next, None, Ok, Option, Read, ReadFault, Records, RowFault, RunFault, Some, StopsAmong, ToCome, TooLong, [], ap, append_assoc, arith, false, goes_on_by, inl, inr, length, length-append, refl, run_fault_of, sym, true, ℕ, ◌++◌, ◌+◌, ◌∙◌, ◌≡◌, ◌≤◌, ◌⊎◌}
+use Rattle.mdb_verdict.proofs.Words.{AreRead, ComesAfter, EndsAfter, Err, FindsAtMost, FindsUpTo, FitsIn, HasEnded, HasFirst, HasRead, IfErr, IfSome, IsErrOf, IsHeard, IsMet, IsStopped, IsTakenInPart, IsTakenWhole, IsToldEnd, List, Memory, Next, None, Ok, Option, Read, ReadFault, Records, RowFault, RunFault, Some, StopsAmong, ToCome, TooLong, [], ap, append-nil, append_assoc, arith, false, goes_on_by, inl, inr, length, length-append, refl, run_fault_of, sym, true, ℕ, ◌++◌, ◌+◌, ◌∙◌, ◌≡◌, ◌≤◌, ◌⊎◌}
 use Rattle.mdb_records.specs.declared.ReadFault.TheVariants as reading
 use Rattle.mdb_verdict.specs.declared.batch.Next.TheVariants as next
 use Rattle.mdb_verdict.proofs.Batches as batches
@@ -124,12 +124,14 @@ module _ {R Row : Type 0} {Is : List (List ℕ) → Row → Type 0}
     pub whole : {limit : ℕ}
         → ((rest : List (List (List ℕ))) → ComesAfter Refuses remaining records rest after
         → rest ≡ []) → count ≤ limit → IsTakenWhole Is Has limit all
-    whole none few = record {
-      rows = progress.rows;
-      read = are_read (none read.rest read.after);
-      few = omega (arith, progress.number, few);
-      has = progress.has;
-    }
+    whole none few =
+        let same : all ≡ read.done = rw (none read.rest read.after, append-nil) at read.split in
+        record {
+          rows = progress.rows;
+          told = rw same read.told;
+          few = omega (arith, progress.number, few);
+          has = progress.has;
+        }
 
     module _ {Stop : Type 0} (Stops : List Row → Row → Stop → Type 0) (limit : ℕ) where
       -- a record isn't taken, or can't be read

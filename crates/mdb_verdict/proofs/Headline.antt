@@ -1,5 +1,5 @@
 -- A verdict says what the headline has of it.
-use Rattle.mdb_verdict.proofs.Words.{AllSums, AreRows, Event, IsAnswer, IsImpossible, IsReached, IsReport, IsRow, List, No, Offence, Ok, Outcome, Report, Run, Scope, Yes, [], ap, append_assoc, arith, drop, length, length-append, length-take, length-take-le, refl, suc, sym, take, take-append-drop, take-take, take_all, take_at, zero, ℕ, ◌++◌, ◌∙◌, ◌∷◌, ◌≡◌, ◌≤◌}
+use Rattle.mdb_verdict.proofs.Words.{AllSums, AreRows, Event, IsAnswer, IsImpossible, IsReached, IsReport, IsRow, List, No, Offence, Ok, Outcome, Report, Run, Scope, Yes, [], ap, arith, drop, length, length-append, length-take, length-take-le, refl, suc, sym, take, take-append-drop, take-take, take_all, take_at, zero, ℕ, ◌++◌, ◌∷◌, ◌≡◌, ◌≤◌}
 use Rattle.mdb_follow.specs.declared.account_name.AccountName.{AccountName}
 use Rattle.mdb_follow.specs.declared.account.Account.{Account}
 use Rattle.mdb_follow.specs.AccountNames.{account_of, sums_of}
@@ -11,7 +11,7 @@ use Rattle.mdb_follow.specs.declared.goal.AccountSide.TheVariants as sides
 use Rattle.mdb_follow.specs.Ends.{side_range, side_value}
 use Rattle.mdb_verdict.specs.Headline.{AreFirstRows, HaveRun, Headline, NamesFirstRow}
 use Rattle.mdb_verdict.proofs.OneAnswer.{row_one}
-use Rattle.mdb_verdict.proofs.Rows.{all_append}
+use Rattle.mdb_verdict.proofs.Rows.{read_with}
 
 -- what the law of the first rows of reached rows says
 abbrev pub FrontsAreReached : Scope → Type 0
@@ -73,24 +73,21 @@ module _ (scope : Scope) (limit : ℕ) (records : List (List (List ℕ))) where
     -- the records up to the row that is named, and these rows
     there : AreFirstRows records offence.row (is.rows ++ is.row ∷ [])
     there =
-        let upto : List (List (List ℕ)) = is.stops.done ++ is.fields ∷ [] in
-        let many = as_many is.stops.done is.rows is.stops.told in
-        let last = length-append is.stops.done (is.fields ∷ []) in
-        let long : length upto ≡ offence.row = omega (arith, last, many, is.is.number) in
-        let split : records ≡ upto ++ is.stops.rest =
-        is.stops.split ∙ sym (append_assoc is.stops.done (is.fields ∷ []) is.stops.rest) in
+        let upto = read_with IsRow is.read is.told in
+        let many = as_many upto.done (is.rows ++ is.row ∷ []) upto.told in
+        let number = length-append is.rows (is.row ∷ []) in
+        let long : length upto.done ≡ offence.row =
+        omega (arith, many, number, is.stops.number) in
         record {
-          told = rw (split, take_at upto is.stops.rest offence.row long)
-              (all_append IsRow is.stops.done is.rows (is.fields ∷ []) (is.row ∷ []) is.stops.told
-              (is.told, tt));
-          number = omega (arith, length-append is.rows (is.row ∷ []), is.is.number);
+          told = rw (upto.split, take_at upto.done is.rest offence.row long) upto.told;
+          number = omega (arith, number, is.stops.number);
         }
 
     -- they have no run
     no_run : HaveRun scope records offence.row → ⊥
     no_run has =
         let reached : IsReached scope has.rows = (has.sums, has.run) in
-        is.is.not_reached (rw (one_list (take offence.row records) has.rows
+        is.stops.not_reached (rw (one_list (take offence.row records) has.rows
         (is.rows ++ is.row ∷ []) has.are.told there.told) at reached)
 
     -- fewer rows than any that some run reaches are reached
@@ -108,11 +105,11 @@ module _ (scope : Scope) (limit : ℕ) (records : List (List (List ℕ))) where
     -- the rows before the one that is named are reached
     before_reached : HaveRun scope records (length is.rows)
     before_reached =
-        let many = as_many is.stops.done is.rows is.stops.told in
-        let front : take (length is.rows) records ≡ is.stops.done =
-        rw is.stops.split (take_at is.stops.done (is.fields ∷ is.stops.rest) (length is.rows)
+        let many = as_many is.read.done is.rows is.read.told in
+        let front : take (length is.rows) records ≡ is.read.done =
+        rw is.read.split (take_at is.read.done (is.fields ∷ is.rest) (length is.rows)
         (sym many)) in
-        first_rows (length is.rows) is.rows (rw front is.stops.told) refl is.stops.possible
+        first_rows (length is.rows) is.rows (rw front is.read.told) refl is.stops.reached
 
     -- the runs end before the row that is named
     names_first : NamesFirstRow scope records offence
@@ -122,8 +119,8 @@ module _ (scope : Scope) (limit : ℕ) (records : List (List (List ℕ))) where
       there = there;
       no_run = no_run;
       fewer = λ count below. fewer_reached (length is.rows) count
-          (omega (arith, below, is.is.number)) before_reached;
-      why = is.is;
+          (omega (arith, below, is.stops.number)) before_reached;
+      why = is.stops;
     }
 
     -- not all the records have a run
@@ -147,13 +144,13 @@ headline_of scope fronts accounts limit records (Yes report) is =
         λ said. (
           rw many at is.few,
           first_rows scope limit records (length records) is.rows
-              (rw (take_all (length records) records (omega arith)) is.told) many is.is.reached,
+              (rw (take_all (length records) records (omega arith)) is.told) many is.has.0.reached,
         ),
         λ has. tt,
       );
-      sales = λ rows told. rw (one rows told) at is.sales;
+      sales = λ rows told. rw (one rows told) at is.has.1;
       bounds = λ rows told account side. rw (one rows told) at (on_side (sums_of account)
-          (account_of account report) (accounts is.rows report is.is account) side);
+          (account_of account report) (accounts is.rows report is.has.0 account) side);
       first_row = tt;
     }
 headline_of scope fronts accounts limit records (No offence) is = record {

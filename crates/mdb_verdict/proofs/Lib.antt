@@ -1,5 +1,6 @@
 pub mod Batches
 pub mod Endings
+pub mod Ends
 pub mod Fields
 pub mod Headline
 pub mod OneAnswer

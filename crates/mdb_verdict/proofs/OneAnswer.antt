@@ -1,5 +1,5 @@
 -- The records of a text have one answer of their own.
-use Rattle.mdb_verdict.proofs.Words.{AreRows, BadRow, Err, Event, IsAnswer, IsOwnAnswer, IsReached, IsRefusal, IsReport, IsRow, LeadUpTo, List, No, Offence, Ok, Outcome, Report, Result, RowFault, RunFault, Scope, TooLong, Yes, [], ap, append-nil, append_assoc, arith, inl, inr, length, length-append, refl, sym, ℕ, ◌++◌, ◌+◌, ◌<◌, ◌∙◌, ◌∷◌, ◌≡◌, ◌≤◌, ◌⊎◌}
+use Rattle.mdb_verdict.proofs.Words.{AreRead, AreRows, BadRow, Err, Event, IsAnswer, IsOwnAnswer, IsReached, IsRefusal, IsReport, IsRow, IsStopped, IsTakenWhole, IsUnanswered, List, No, Offence, Ok, Outcome, Report, Result, RowFault, RunFault, Scope, TooLong, Yes, [], ap, append-nil, append_assoc, arith, inl, inr, length, length-append, refl, sym, ℕ, ◌++◌, ◌+◌, ◌<◌, ◌∙◌, ◌∷◌, ◌≡◌, ◌≤◌, ◌⊎◌}
 use Rattle.std.proofs.lemmas.Grind.{common_steps}
 pub use Rattle.mdb_words.proofs.Rows.{row_not_refused, row_one}
 use Rattle.mdb_follow.specs.Offences.{IsOffence}
@@ -92,12 +92,64 @@ module _ {Said : Type 0} (Says : List Event → Records → Said → Type 0) (li
     pub record Ending (records : Records) (answer : Result Said RunFault) : Type 0 where
       pub rows : List Event
       pub rest : Records
-      pub done : Records
-      pub split : records ≡ done ++ rest
-      pub told : AreRows done rows
+      pub read : AreRead IsRow records rows rest
       pub can : Can rows
       pub few : length rows ≤ limit
       pub by : EndsBy rows rest answer
+
+    module _ {records : Records} where
+      -- so a reading ends with the text, at a row, and without an answer
+      abbrev pub of_whole : {Has : List Event → Type 0} {said : Said}
+          (is : IsTakenWhole IsRow Has limit records) → Can is.rows → Says is.rows [] said
+          → Ending records (Ok said)
+      of_whole is can says = record {
+        rows = is.rows;
+        rest = [];
+        read = record { done = records; split = sym (append-nil records); told = is.told };
+        can = can;
+        few = is.few;
+        by = says;
+      }
+
+      abbrev pub of_stop : {Stops : List Event → Event → Type 0} {said : Said}
+          (is : IsStopped IsRow Stops limit records) → Can is.rows
+          → Says is.rows (is.fields ∷ is.rest) said → Ending records (Ok said)
+      of_stop is can says = record {
+        rows = is.rows;
+        rest = is.fields ∷ is.rest;
+        read = is.read;
+        can = can;
+        few = omega (arith, is.few);
+        by = says;
+      }
+
+      pub of_unanswered : {Has : List Event → Type 0} → ((rows : List Event) → Has rows → Can rows)
+          → (fault : RunFault) → IsUnanswered IsRow IsRefusal Has limit records fault
+          → IsOwnAnswer {Answer = Said} (Err fault)
+          → (ending : Ending records (Err fault)) × Has ending.rows
+      of_unanswered can (BadRow number fault) is own = (
+        record {
+          rows = is.rows;
+          rest = is.fields ∷ is.rest;
+          read = is.read;
+          can = can is.rows is.has;
+          few = omega (arith, is.few);
+          by = (is.refused, is.few, is.number);
+        },
+        is.has,
+      )
+      of_unanswered can TooLong is own = (
+        record {
+          rows = is.rows;
+          rest = is.fields ∷ is.rest;
+          read = is.read;
+          can = can is.rows is.has;
+          few = omega (arith, is.full);
+          by = is.full;
+        },
+        is.has,
+      )
+      of_unanswered can fault is own = absurd own
 
     -- One thing may be said of a rest. Where it has a record, that is a row which cannot be.
     pub record SaysOne : Type 0 where
@@ -163,8 +215,8 @@ module _ {Said : Type 0} {Says : List Event → Records → Said → Type 0} {li
       (one : Ending Says limit Can records a) (other : Ending Says limit Can records b)
       → (one.rows ≡ other.rows) × (a ≡ b)
   one_ending {a = a} {b = b} one other =
-      elim (compared one.done other.done one.rest other.rest one.rows other.rows one.told
-      other.told (sym one.split ∙ other.split)) [
+      elim (compared one.read.done other.read.done one.rest other.rest one.rows other.rows
+      one.read.told other.read.told (sym one.read.split ∙ other.read.split)) [
         | inl same ↦ (
           same.0,
           one_end other.rows other.rest a b (rw (same.0, same.1) at one.by) other.by,
@@ -199,38 +251,17 @@ module _ (scope : Scope) (laws : RunLaws scope) (limit : ℕ) where
       stops_at rows fields after (Yes report) says = absurd says
 
   module _ (records : Records) where
-    stopped : {rows : List Event} {fields : List (List ℕ)} {answer : Result Outcome RunFault}
-        (stops : LeadUpTo scope records rows fields) → length rows ≤ limit
-        → EndsBy Says limit rows (fields ∷ stops.rest) answer
-        → Ending Says limit (IsReached scope) records answer
-    stopped {rows = rows} {fields = fields} stops few by = record {
-      rows = rows;
-      rest = fields ∷ stops.rest;
-      done = stops.done;
-      split = stops.split;
-      told = stops.told;
-      can = stops.possible;
-      few = few;
-      by = by;
-    }
-
     ending : (answer : Result Outcome RunFault) → IsAnswer scope limit records answer
         → IsOwnAnswer answer → Ending Says limit (IsReached scope) records answer
-    ending (Ok (Yes report)) is own = record {
-      rows = is.rows;
-      rest = [];
-      done = records;
-      split = sym (append-nil records);
-      told = is.told;
-      can = is.is.reached;
-      few = is.few;
-      by = is.is;
-    }
-    ending (Ok (No offence)) is own =
-        stopped is.stops (omega (arith, is.few)) (is.row, is.told, is.few, is.is)
+    ending (Ok (Yes report)) is own =
+        of_whole Says limit (IsReached scope) is is.has.0.reached is.has.0
+    ending (Ok (No offence)) is own = of_stop Says limit (IsReached scope) is is.stops.reached
+        (is.row, is.told, is.few, is.stops)
     ending (Err (BadRow number fault)) is own =
-        stopped is.stops (omega (arith, is.few)) (is.refused, is.few, is.number)
-    ending (Err TooLong) is own = stopped is.stops (omega (arith, is.full)) is.full
+        (of_unanswered Says limit (IsReached scope) (λ rows reached. reached)
+        (BadRow number fault) is own).0
+    ending (Err TooLong) is own = (of_unanswered Says limit (IsReached scope)
+        (λ rows reached. reached) TooLong is own).0
     ending (Err fault) is own = absurd own
 
     -- the answer to the records of a text is one

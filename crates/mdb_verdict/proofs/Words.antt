@@ -18,10 +18,12 @@ pub use Rattle.mdb_words.specs.Refusals.{IsRefusal}
 pub use Rattle.mdb_words.specs.Row.{IsRow}
 pub use Rattle.mdb_words.specs.declared.event.Event.{Event}
 pub use Rattle.mdb_words.specs.declared.row.RowFault.{RowFault}
-pub use Rattle.mdb_verdict.specs.Batch.{AreAll, ComesAfter, FindsAtMost, FitsIn, HasRead, IsMet}
-pub use Rattle.mdb_verdict.specs.Ending.{AreRead, EndsAfter, FindsUpTo, HasEnded, HasFirst, HasFollowedRows, HasTakenOrStopped, IsHeard, IsStopped, IsTakenInPart, IsTakenWhole, IsToldEnd, StopsAmong, goes_on_by}
+pub use Rattle.mdb_verdict.specs.Batch.{ComesAfter, FindsAtMost, FitsIn, HasRead, IsMet}
+pub use Rattle.mdb_verdict.specs.Ending.{EndsAfter, FindsUpTo, HasEnded, HasFirst, HasFollowedRows, HasTakenOrStopped, IsHeard, IsToldEnd, IsYes, StopsAmong, goes_on_by, run_fault_of}
 pub use Rattle.mdb_verdict.specs.Rows.{AreRows}
-pub use Rattle.mdb_verdict.specs.Verdict.{HasCause, IsAnswer, IsImpossible, IsNoYes, IsOwnAnswer, IsPossible, IsYes, LeadUpTo, run_fault_of}
+pub use Rattle.mdb_verdict.specs.Telling.{HasCause, IsOwnAnswer}
+pub use Rattle.mdb_verdict.specs.Unanswered.{IsTakenInPart, IsUnanswered}
+pub use Rattle.mdb_verdict.specs.Verdict.{AreAll, AreRead, IsAnswer, IsImpossible, IsNoYes, IsPossible, IsStopped, IsTakenToBadRow, IsTakenToLimit, IsTakenWhole}
 pub use Rattle.mdb_verdict.specs.declared.batch.Next.{Next}
 pub use Rattle.mdb_verdict.specs.declared.fault.RunFault.{RunFault}
 pub use Rattle.mdb_verdict.specs.declared.fault.RunFault.TheVariants.{BadRow, Memory, Read, TooLong, Write}

@@ -6,16 +6,9 @@ use Rattle.mdb_words.specs.declared.row.RowFault.{RowFault}
 use Rattle.mdb_records.specs.declared.ReadFault.{ReadFault}
 use Rattle.mdb_records.specs.declared.Records.{Records}
 use Rattle.mdb_records.specs.ToCome.{IsOverLimit, ToCome}
+use Rattle.mdb_verdict.specs.Verdict.{AreAll}
 use Rattle.mdb_verdict.specs.declared.batch.Next.{Next}
 use Rattle.mdb_verdict.specs.declared.batch.Next.TheVariants.{More, End, BadRow, Failed}
-
--- each record is a row, and these are the rows
-abbrev pub AreAll : {Row : Type 0} → (List (List ℕ) → Row → Type 0) → List (List (List ℕ))
-    → List Row → Type 0
-AreAll Is [] [] = ⊤
-AreAll Is (fields ∷ records) (row ∷ rows) = Is fields row × AreAll Is records rows
-AreAll Is [] (row ∷ rows) = ⊥
-AreAll Is (fields ∷ records) [] = ⊥
 
 -- After the rows of a batch comes the rest of the records: all of it is to come, or there is none,
 -- or it begins with a record that is no row. Of a refused read nothing is said.

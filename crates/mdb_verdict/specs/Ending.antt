@@ -13,8 +13,11 @@ use Rattle.mdb_verdict.specs.declared.batch.Next.{Next}
 use Rattle.mdb_verdict.specs.declared.batch.Next.TheVariants as next
 use Rattle.mdb_verdict.specs.declared.fault.RunFault.{RunFault}
 use Rattle.mdb_verdict.specs.declared.fault.RunFault.TheVariants.{BadRow, TooLong, Read, Write, Memory}
-use Rattle.mdb_verdict.specs.Batch.{AreAll}
-use Rattle.mdb_verdict.specs.Verdict.{run_fault_of}
+use Rattle.mdb_verdict.specs.Unanswered.{IsUnanswered}
+use Rattle.mdb_verdict.specs.Verdict.{IsStopped, IsTakenWhole}
+use Rattle.mdb_follow.specs.Report.{IsReport}
+use Rattle.mdb_text.specs.declared.outcome.Outcome.{Outcome}
+use Rattle.mdb_text.specs.declared.outcome.Outcome.TheVariants.{Yes, No}
 use Rattle.mdb_bus.specs.declared.scope.Scope.{Scope}
 
 -- a row was taken after the earlier ones, or was stopped at
@@ -49,68 +52,8 @@ pub record HasFollowedRows (scope : Scope) (follower : Follower) (rows : List Ev
   pub stands : StandsFor follower rows
   pub counted : rows_of follower ≡ length rows
 
--- The first of the records are these rows, and the rest stands after them.
-pub record AreRead {Row : Type 0} (Is : List (List ℕ) → Row → Type 0)
-    (records : List (List (List ℕ))) (rows : List Row) (rest : List (List (List ℕ)))
-    : Type 0 where
-  pub done : List (List (List ℕ))
-  pub split : records ≡ done ++ rest
-  pub told : AreAll Is done rows
-
--- All records are rows, which were taken.
-pub record IsTakenWhole {Row : Type 0} (Is : List (List ℕ) → Row → Type 0)
-    (Has : List Row → Type 0) (limit : ℕ) (records : List (List (List ℕ))) : Type 0 where
-  pub rows : List Row
-  pub read : AreRead Is records rows []
-  pub few : length rows ≤ limit
-  pub has : Has rows
-
--- The row after some that were read was stopped at.
-pub record IsStopped {Row : Type 0} (Is : List (List ℕ) → Row → Type 0)
-    (Stops : List Row → Row → Type 0) (limit : ℕ) (records : List (List (List ℕ)))
-    : Type 0 where
-  pub rows : List Row
-  pub row : Row
-  pub fields : List (List ℕ)
-  pub rest : List (List (List ℕ))
-  pub read : AreRead Is records rows (fields ∷ rest)
-  pub told : Is fields row
-  pub few : length rows < limit
-  pub stops : Stops rows row
-
--- The record after the rows that were taken is no row.
-pub record IsTakenToBadRow {Row : Type 0} (Is : List (List ℕ) → Row → Type 0)
-    (Refuses : List (List ℕ) → RowFault → Type 0) (Has : List Row → Type 0) (limit : ℕ)
-    (records : List (List (List ℕ))) (row : ℕ) (fault : RowFault) : Type 0 where
-  pub rows : List Row
-  pub fields : List (List ℕ)
-  pub rest : List (List (List ℕ))
-  pub read : AreRead Is records rows (fields ∷ rest)
-  pub few : length rows < limit
-  pub number : row ≡ length rows + 1
-  pub refused : Refuses fields fault
-  pub has : Has rows
-
--- There is a record after as many rows as there may be, which were taken.
-pub record IsTakenToLimit {Row : Type 0} (Is : List (List ℕ) → Row → Type 0)
-    (Has : List Row → Type 0) (limit : ℕ) (records : List (List (List ℕ))) : Type 0 where
-  pub rows : List Row
-  pub fields : List (List ℕ)
-  pub rest : List (List (List ℕ))
-  pub read : AreRead Is records rows (fields ∷ rest)
-  pub full : length rows ≡ limit
-  pub has : Has rows
-
--- Some first records are rows, which were taken.
-pub record IsTakenInPart {Row : Type 0} (Is : List (List ℕ) → Row → Type 0)
-    (Has : List Row → Type 0) (records : List (List (List ℕ))) : Type 0 where
-  pub rows : List Row
-  pub rest : List (List (List ℕ))
-  pub read : AreRead Is records rows rest
-  pub has : Has rows
-
--- what the reading of records came to: at the end of the text, at a row that was stopped at, at a
--- record that isn't taken, and where a record can't be read
+-- what the reading of records came to: at the end of the text, at a row that was stopped at, or
+-- without an answer
 abbrev pub HasEnded : {Row Stop : Type 0} → (List (List ℕ) → Row → Type 0)
     → (List (List ℕ) → RowFault → Type 0) → (List Row → Type 0)
     → (List Row → Row → Stop → Type 0) → ℕ → List (List (List ℕ))
@@ -118,12 +61,30 @@ abbrev pub HasEnded : {Row Stop : Type 0} → (List (List ℕ) → Row → Type 
 HasEnded Is Refuses Has Stops limit records (Ok None) = IsTakenWhole Is Has limit records
 HasEnded Is Refuses Has Stops limit records (Ok (Some stop)) =
     IsStopped Is (λ rows row. Stops rows row stop) limit records
-HasEnded Is Refuses Has Stops limit records (Err (BadRow row fault)) =
-    IsTakenToBadRow Is Refuses Has limit records row fault
-HasEnded Is Refuses Has Stops limit records (Err TooLong) = IsTakenToLimit Is Has limit records
-HasEnded Is Refuses Has Stops limit records (Err Read) = IsTakenInPart Is Has records
-HasEnded Is Refuses Has Stops limit records (Err Memory) = IsTakenInPart Is Has records
-HasEnded Is Refuses Has Stops limit records (Err Write) = ⊥
+HasEnded Is Refuses Has Stops limit records (Err fault) =
+    IsUnanswered Is Refuses Has limit records fault
+
+-- the fault of a run whose reading failed
+abbrev pub run_fault_of : ReadFault → RunFault
+run_fault_of reading.Read = Read
+run_fault_of reading.Memory = Memory
+
+-- a fault of reading is one that the reading of records has met
+abbrev pub HasMet : Option ReadFault → RunFault → Type 0
+HasMet met Read = met ≡ Some reading.Read
+HasMet met Memory = met ≡ Some reading.Memory
+HasMet met _ = ⊤
+
+-- a fault of reading that was met is the answer, or a row before it can't be
+abbrev pub IsToldAs : ReadFault → Result Outcome RunFault → Type 0
+IsToldAs met (Ok (Yes report)) = ⊥
+IsToldAs met (Ok (No offence)) = ⊤
+IsToldAs met (Err fault) = fault ≡ run_fault_of met
+
+-- a yes with the report on these rows
+abbrev pub IsYes : Scope → List Event → Outcome → Type 0
+IsYes scope rows (Yes report) = IsReport scope rows report
+IsYes scope rows (No offence) = ⊥
 
 -- a fault of reading is one that the reading of records has met, and no writer fails
 abbrev pub IsHeard : Option ReadFault → RunFault → Type 0

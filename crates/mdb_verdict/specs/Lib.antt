@@ -5,4 +5,5 @@ pub mod Forms
 pub mod Headline
 pub mod Rows
 pub mod Telling
+pub mod Unanswered
 pub mod Verdict

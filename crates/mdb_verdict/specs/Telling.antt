@@ -1,16 +1,39 @@
 -- What is told of records while they are read, where `Is` says which text goes with which answer.
-use Rattle.std.specs.Prelude.{◌≡◌, ◌≢◌, ◌⊎◌, ℕ, List, ⊤, Option, None, Result, Err, IfErr, IfSome, IsSome}
+use Rattle.std.specs.Prelude.{◌≡◌, ◌≢◌, ◌⊎◌, ℕ, List, ⊤, Option, Some, None, Result, Ok, Err, IfErr, IfSome, IsSome}
 use Rattle.std.specs.Io.KnownBytes.{Appends}
 use Rattle.mdb_records.specs.declared.ReadFault.{ReadFault}
 use Rattle.mdb_records.specs.declared.ReadFault.TheVariants as reading
 use Rattle.mdb_records.specs.declared.Records.{Records}
 use Rattle.mdb_records.specs.ToCome.{IsOverLimit, fault_of}
+use Rattle.mdb_bus.specs.declared.scope.Scope.{Scope}
+use Rattle.mdb_text.specs.declared.outcome.Outcome.{Outcome}
 use Rattle.mdb_verdict.specs.declared.fault.RunFault.{RunFault}
 use Rattle.mdb_verdict.specs.declared.fault.RunFault.TheVariants.{BadRow, TooLong, Read, Write, Memory}
-use Rattle.mdb_verdict.specs.Verdict.{HasCause}
+use Rattle.mdb_verdict.specs.Verdict.{IsAnswer}
 use Rattle.mdb_writing.specs.Answers.{IsCutShort}
 use Rattle.mdb_writing.specs.Output.{Breaks, Output}
 use Rattle.mdb_writing.specs.Written.{HasTaken}
+
+-- an answer that the records themselves have: every one but a refused read, write or memory
+abbrev pub IsOwnAnswer : {Answer : Type 0} → Result Answer RunFault → Type 0
+IsOwnAnswer (Ok answer) = ⊤
+IsOwnAnswer (Err (BadRow row fault)) = ⊤
+IsOwnAnswer (Err TooLong) = ⊤
+IsOwnAnswer (Err Read) = ⊥
+IsOwnAnswer (Err Write) = ⊥
+IsOwnAnswer (Err Memory) = ⊥
+
+-- an input is answered that it can't be read only where the reading of its records met that
+abbrev pub HasCause : Option ReadFault → RunFault → Type 0
+HasCause met fault = fault ≡ Read → met ≡ Some reading.Read
+
+-- What is known of records to which it is answered that memory is out: their reading met that, or
+-- they have a verdict. So records without a verdict are answered so for their reading alone. Of
+-- those that have one this says nothing. The contracts of std say where no more memory is needed,
+-- but not that it was refused.
+abbrev pub HasNoRoom : Scope → ℕ → List (List (List ℕ)) → Option ReadFault → Type 0
+HasNoRoom scope limit records met = (met ≡ Some reading.Memory)
+    ⊎ ((outcome : Outcome) × IsAnswer scope limit records (Ok outcome))
 
 -- By the bytes that a writer held before and after: it took the text of the answer; or the answer
 -- is that it failed, and it took a front of a text.

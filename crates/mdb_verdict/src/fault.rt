@@ -35,7 +35,7 @@ pub enum RunFault {
 
 impl From<ReadFault> for RunFault {
     ghost use Rattle.std.specs.Prelude.{◌≡◌};
-    ghost use Rattle.mdb_verdict.specs.Verdict.{run_fault_of};
+    ghost use Rattle.mdb_verdict.specs.Ending.{run_fault_of};
 
     ghost from_gives = { λ fault told. told ≡ run_fault_of fault };
 

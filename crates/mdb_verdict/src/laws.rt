@@ -16,7 +16,8 @@ ghost use Rattle.mdb_text.specs.declared.outcome.Outcome.{Outcome};
 ghost use Rattle.mdb_text.specs.declared.outcome.Outcome.TheVariants.{No, Yes};
 ghost use Rattle.mdb_verdict.specs.declared.fault.RunFault.{RunFault};
 ghost use Rattle.mdb_verdict.specs.Headline.{Headline};
-ghost use Rattle.mdb_verdict.specs.Verdict.{IsAnswer, IsOwnAnswer};
+ghost use Rattle.mdb_verdict.specs.Telling.{IsOwnAnswer};
+ghost use Rattle.mdb_verdict.specs.Verdict.{IsAnswer};
 
 use mdb_follow::laws;
 

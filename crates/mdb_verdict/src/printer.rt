@@ -29,7 +29,8 @@ impl Printer {
         }
     }
 
-    /// Adds what stands in `next`.
+    /// Writes what stands in `next`. Nothing waits here, so that a line never waits for the next
+    /// row: a writer for which many writes are dear gathers them itself.
     ///
     /// # Errors
     ///
@@ -41,7 +42,7 @@ impl Printer {
             (output (W.contents writer.old) self.old.page)
             (output (W.contents writer.new) self.new.page) self.old.next.items) }
     {
-        Ok(self.page.add(writer, self.next.as_slice())?)
+        Ok(self.page.put(writer, self.next.as_slice())?)
     }
 
     /// Writes what waits, unless the answer is that the writer has failed, and hands it on.

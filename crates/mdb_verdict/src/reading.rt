@@ -3,8 +3,7 @@
 ghost use Rattle.std.specs.Prelude.{◌≡◌, ◌+◌, ◌^◌, ◌<◌, ◌≤◌, ◌≢◌, List, ℕ, [], IfErr, IfOk, IfSome, IsErr, IsErrOf, None, Ok, Option, length};
 ghost use Rattle.mdb_records.specs.ToCome.{IsOverLimit, ToCome, fault_of, found_by};
 ghost use Rattle.mdb_bus.specs.declared.scope.Scope.{Scope};
-ghost use Rattle.mdb_verdict.specs.Ending.{EndsAfter, FindsUpTo, HasEnded, HasTakenOrStopped, HasTakenOrStoppedAt, IsHeard, IsStop, IsToldEnd, goes_on_by};
-ghost use Rattle.mdb_verdict.specs.Verdict.{run_fault_of};
+ghost use Rattle.mdb_verdict.specs.Ending.{EndsAfter, FindsUpTo, HasEnded, HasTakenOrStopped, HasTakenOrStoppedAt, IsHeard, IsStop, IsToldEnd, goes_on_by, run_fault_of};
 
 use super::batch::{Batch, Next};
 use super::fault::RunFault;

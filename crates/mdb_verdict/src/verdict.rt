@@ -3,7 +3,7 @@
 ghost use Rattle.std.specs.Prelude.{◌≡◌, ◌<◌, ◌≤◌, List, IfSome, None, length};
 ghost use Rattle.csv.specs.Reading.{default_config, records, strip_bom};
 ghost use Rattle.mdb_records.specs.ToCome.{IsOverLimit, IsUncut, ToCome, fault_of, limit_of};
-ghost use Rattle.mdb_verdict.specs.Verdict.{IsYes};
+ghost use Rattle.mdb_verdict.specs.Ending.{IsYes};
 ghost use Rattle.mdb_follow.specs.Follower.{StandsFor, scope_of};
 ghost use Rattle.mdb_words.specs.declared.event.Event.{Event};
 

@@ -71,6 +71,23 @@ impl Page {
         Ok(())
     }
 
+    /// Writes what waits and then a text, and leaves the page empty: for a text that must not wait.
+    ///
+    /// # Errors
+    ///
+    /// The writer failed. It took a front of what waited and of the text.
+    #[inline(always)]
+    pub fn put<W: Write>(&mut self, writer: &mut W, text: &[u8]) -> Result<(), WriteFailed>
+        ensures added { OnOk result (Puts (output (W.contents writer.old) self.old)
+            (output (W.contents writer.new) self.new) text.now) }
+        ensures broken { OnErr result (Breaks (output (W.contents writer.old) self.old)
+            (output (W.contents writer.new) self.new) text.now) }
+        ensures empty { OnOk result (self.new ≡ []) }
+    {
+        self.write_out(writer)?;
+        write_text(writer, text)
+    }
+
     /// Makes room for so many bytes. If there isn't as much, what waits is written.
     ///
     /// # Errors

@@ -1,10 +1,10 @@
-//! `mdbcheck`: reads a recording of a vending bus from standard input, and writes to standard
-//! output whether the recording is possible.
+//! `mdbcheck`: reads a recording of a vending bus from standard input or a file, and writes to
+//! standard output whether the recording is possible.
 #![tactic(auto)]
 
-use mdb_progress::Progress;
-use mdbcheck_run::run_words;
-use std::io::BufReader;
+use mdb_progress::{Input, Live, Progress};
+use mdbcheck_run::{file_named, refuse_file, run_words};
+use std::io::{BufReader, Read, Write};
 use std::process::ExitCode;
 use std::{env, io};
 
@@ -20,23 +20,55 @@ fn words(rt: &HostRuntime) -> io::Result<Vec<String>> {
     Ok(env::args(rt)?.collect(rt.alloc())?)
 }
 
-/// Hands the words and the standard streams to `mdbcheck_run::run_words`, and answers its status.
-/// Where there is no memory for what is asked at once, a line says so, as of any other want of
-/// memory. A long run shows how far it is where standard error is a terminal.
-fn run(rt: &HostRuntime, words: &[String]) -> u8 {
-    let progress = Progress::new(rt, rt.stderr(), "mdbcheck");
-    match BufReader::with_capacity(rt.alloc(), READ_SIZE, progress.reader(rt.stdin())) {
-        Ok(input) => {
-            let mut out = progress.output(rt.stdout());
-            let mut err = progress.writer(rt.stderr());
-            let status = run_words(rt.alloc(), words, input, &mut out, &mut err);
-            progress.end();
-            status
-        }
+/// Hands the words and the streams to `mdbcheck_run::run_words`, and answers its status. The only
+/// file that is opened is the one that the words name. A long run shows how far it is where standard
+/// error is a terminal.
+fn run(rt: &HostRuntime, words: &[String], file: Option<&str>) -> u8 {
+    let input = match Input::open(rt, rt.stdin(), file) {
+        Ok(input) => input,
         Err(error) => {
-            let _ = eprintln!(rt; "mdbcheck: {error}");
-            NOT_BEGUN
+            refuse_file(words, file.unwrap_or(""), &error, &mut rt.stderr());
+            return NOT_BEGUN;
         }
+    };
+    let progress = Progress::new(rt, rt.stderr(), "mdbcheck", file);
+    let output = Live::new(progress.output(rt.stdout()));
+    let reader = progress.reader(input);
+    let status = run_live(rt, words, reader, &output, progress.writer(rt.stderr()));
+    progress.end();
+    output.end(status, "mdbcheck", &mut rt.stderr())
+}
+
+/// Runs the program over its words and streams. Where there is no memory for what is asked at once,
+/// a line says so, as of any other want of memory.
+fn run_live<R: Read + Drop, W: Write, E: Write + Drop>(
+    rt: &HostRuntime,
+    words: &[String],
+    reader: R,
+    output: &Live<W>,
+    err: E,
+) -> u8 {
+    match BufReader::with_capacity(rt.alloc(), READ_SIZE, output.reader(reader)) {
+        Ok(input) => {
+            let mut out = output;
+            let mut err = output.beside(err);
+            run_words(rt.alloc(), words, input, &mut out, &mut err)
+        }
+        Err(error) => refuse(rt, "", error),
+    }
+}
+
+/// Refuses what hasn't begun, for this reason, by one line on standard error.
+fn refuse(rt: &HostRuntime, reason: &str, error: io::Error) -> u8 {
+    let _ = eprintln!(rt; "mdbcheck: {reason}{error}");
+    NOT_BEGUN
+}
+
+/// Runs the program over its words, and over the file that they name, if they name one.
+fn run_named(rt: &HostRuntime, words: &[String]) -> u8 {
+    match file_named(rt.alloc(), words) {
+        Ok(file) => run(rt, words, file),
+        Err(error) => refuse(rt, "", io::Error::from(error)),
     }
 }
 
@@ -44,11 +76,8 @@ fn run(rt: &HostRuntime, words: &[String]) -> u8 {
 /// refused like words that are no command of the program: status 2 and one line.
 fn main(rt: HostRuntime) -> ExitCode {
     let status = match words(&rt) {
-        Ok(words) => run(&rt, words.as_slice()),
-        Err(error) => {
-            let _ = eprintln!(rt; "mdbcheck: the command line can't be read: {error}");
-            NOT_BEGUN
-        }
+        Ok(words) => run_named(&rt, words.as_slice()),
+        Err(error) => refuse(&rt, "the command line can't be read: ", error),
     };
     ExitCode::from(status)
 }

@@ -1,16 +1,19 @@
 -- What standard error is told where there is an answer.
-use Rattle.std.specs.Prelude.{◌≡◌, ◌++◌, ◌+◌, ◌/◌, ◌%◌, ◌==◌, ℕ, List, codes, Option, Some, None}
-use Rattle.std.specs.Prelude.{Bool, true, false, if◌then◌else◌, IfSome, Result, Ok, Err}
+use Rattle.std.specs.Prelude.{◌≡◌, ◌++◌, ◌+◌, ◌/◌, ◌%◌, ◌==◌, ◌&&◌, ℕ, List, codes, Option, Some, None}
+use Rattle.std.specs.Prelude.{Bool, true, false, if◌then◌else◌, is_some, IfSome, Result, Ok, Err}
 use Rattle.std.specs.Fmt.{decimal}
 use Rattle.csv.specs.Reading.{default_config, records, strip_bom}
-use Rattle.mdb_msgs.specs.declared.command.Device.TheVariants.{Reader}
+use Rattle.mdb_msgs.specs.declared.command.Device.{Device}
+use Rattle.mdb_msgs.specs.declared.command.Device.TheVariants.{Bill, Reader}
 use Rattle.mdb_msgs.specs.declared.command.ReaderUnit.{ReaderUnit}
 use Rattle.mdb_msgs.specs.Devices.{device_word}
 use Rattle.mdb_bus.specs.declared.fault.Blame.{Blame}
 use Rattle.mdb_bus.specs.declared.fault.Blame.TheVariants as blames
 use Rattle.mdb_bus.specs.declared.fault.Rule.{Rule}
 use Rattle.mdb_bus.specs.declared.fault.Rule.TheVariants as rules
+use Rattle.mdb_bus.specs.ExtendedLevels.{levels_in}
 use Rattle.mdb_bus.specs.declared.levels.Levels.{Levels}
+use Rattle.mdb_bus.specs.declared.levels.ReaderLevels.{ReaderLevels}
 use Rattle.mdb_bus.specs.declared.scope.Beginning.{Beginning}
 use Rattle.mdb_bus.specs.declared.scope.Beginning.TheVariants.{PowerOn, Joined}
 use Rattle.mdb_bus.specs.declared.scope.Profile.TheVariants.{Base, Extended}
@@ -21,6 +24,8 @@ use Rattle.mdb_follow.specs.declared.offence.Offence.{Offence}
 use Rattle.mdb_text.specs.Text.{line}
 use Rattle.mdb_text.specs.declared.outcome.Outcome.{Outcome}
 use Rattle.mdb_text.specs.declared.outcome.Outcome.TheVariants.{Yes, No}
+use Rattle.mdb_check.specs.declared.beside.Beside.{Beside}
+use Rattle.mdb_check.specs.declared.beside.Spared.{Spared}
 use Rattle.mdb_check.specs.declared.checking.Checked.{Checked}
 use Rattle.mdb_check.specs.Verdict.{IsJudgedNo}
 use Rattle.mdb_verdict.specs.declared.fault.RunFault.{RunFault}
@@ -37,42 +42,61 @@ unjudged_line unit =
     ++ codes " and the controller speak feature level 1: add --extended (or leave it out:"
     ++ codes " --without " ++ device_word (Reader unit) ++ codes ")")
 
--- what may help where a row isn't followed: the extended profile, where the base profile ends; and
--- in mid-session the level of a reader, which may decide how it is read
-abbrev pub remedy_for : Beginning → Remedy
-remedy_for (PowerOn Base) = Extend
-remedy_for (Joined setups Base) = Extend
-remedy_for (Joined setups Extended) = TellLevel
-remedy_for (PowerOn Extended) = LeaveOut
+-- whether the level of a reader is given: as both sides reported it
+abbrev pub is_given : ReaderLevels → Bool
+is_given levels = is_some levels.asked && is_some levels.told
 
--- that a reader isn't followed, which may hang on its level
-abbrev pub level_text : List ℕ → List ℕ
-level_text reader =
-    reader ++ codes " sends a message that isn't followed, at least while its level isn't known:"
-    ++ codes " tell it, as in --setup '" ++ reader
-    ++ codes " level 3' (or leave it out: --without " ++ reader ++ codes ")"
+-- what may help where a message of a device isn't followed: the extended profile, where the base
+-- profile ends; and in mid-session the level of a reader, which may decide how it is read, unless
+-- it is given
+abbrev pub remedy_for : Beginning → Device → Remedy
+remedy_for (PowerOn Base) device = Extend
+remedy_for (Joined setups Base) device = Extend
+remedy_for (Joined setups Extended) (Reader unit) =
+    if is_given (levels_in setups unit) then LeaveOut else TellLevel
+remedy_for (Joined setups Extended) device = LeaveOut
+remedy_for (PowerOn Extended) device = LeaveOut
 
--- why a row isn't followed, and the words to type: by what may help, and by who sent the row
-abbrev pub beyond_text : Remedy → Blame → List ℕ
-beyond_text Extend blames.Bill = codes "bill may report a recycler: add --extended"
-beyond_text Extend blames.Cashless = codes "cashless goes beyond feature level 1: add --extended"
-beyond_text Extend blames.Cashless2 = codes "cashless-2 goes beyond feature level 1: add --extended"
-beyond_text TellLevel blames.Cashless = level_text (codes "cashless")
-beyond_text TellLevel blames.Cashless2 = level_text (codes "cashless-2")
-beyond_text remedy blames.Controller =
-    codes "the controller sends a command that isn't followed (leave out the device that it is sent"
-    ++ codes " to: --without DEVICE)"
-beyond_text remedy blames.Other =
-    codes "a device sends a message that isn't followed (leave it out: --without DEVICE)"
-beyond_text remedy sender =
-    blame_word sender ++ codes " sends a message that isn't followed (leave it out: --without "
-    ++ blame_word sender ++ codes ")"
+-- the words to type that leave out a device
+abbrev pub leave_text : List ℕ → List ℕ
+leave_text device = codes "leave it out: --without " ++ device ++ codes ")"
+
+-- that a message of a device isn't followed, and the words to type, by what may help
+abbrev pub message_text : Remedy → Device → List ℕ
+message_text Extend Bill = codes "bill may report a recycler: add --extended"
+message_text Extend (Reader unit) =
+    device_word (Reader unit) ++ codes " goes beyond feature level 1: add --extended"
+message_text TellLevel (Reader unit) =
+    device_word (Reader unit)
+    ++ codes " sends a message that isn't followed, at least while its level isn't known:"
+    ++ codes " tell it, as in --setup '" ++ device_word (Reader unit) ++ codes " level 3' (or "
+    ++ leave_text (device_word (Reader unit))
+message_text remedy device =
+    device_word device ++ codes " sends a message that isn't followed ("
+    ++ leave_text (device_word device)
+
+-- the same of a command to a device
+abbrev pub command_text : List ℕ → List ℕ
+command_text device =
+    codes "the controller sends " ++ device ++ codes " a command that isn't followed ("
+    ++ leave_text device
+
+-- a device by its word; which it is, is always known
+abbrev pub device_text : Option Device → List ℕ
+device_text (Some device) = device_word device
+device_text None = codes "DEVICE"
+
+-- why a row isn't followed, and the words to type: by who sent the row, and by the device
+abbrev pub beyond_text : Beginning → Blame → Option Device → List ℕ
+beyond_text begins blames.Controller device = command_text (device_text device)
+beyond_text begins sender (Some device) = message_text (remedy_for begins device) device
+beyond_text begins sender None = codes "a device sends a message that isn't followed"
 
 -- the line on a row that isn't followed
-abbrev pub beyond_line : Beginning → Offence → List ℕ
-beyond_line begins offence =
+abbrev pub beyond_line : Beginning → Offence → Option Device → List ℕ
+beyond_line begins offence device =
     line (codes "mdbcheck: row " ++ decimal offence.row ++ codes ": "
-    ++ beyond_text (remedy_for begins) offence.blame)
+    ++ beyond_text begins offence.blame device)
 
 -- whether a row that breaks a rule isn't followed
 abbrev pub is_beyond : Rule → Bool
@@ -85,19 +109,20 @@ sender_text blames.Controller = codes "the controller"
 sender_text blames.Other = codes "a device"
 sender_text sender = blame_word sender
 
--- what a row out of its time did: before its time and after it (RET counts as a command)
+-- what a row out of its time did: before its time and after it
 abbrev pub did_text : Rule → List ℕ
 did_text rules.Early = codes " sent a command "
 did_text rules.Late = codes " answered "
 did_text rules.Spacing = codes " sent a word "
 did_text broken = codes " sent a break of "
 
-abbrev pub since_text : Rule → Blame → List ℕ
-since_text rules.Early sender = codes " after the row before it"
-since_text rules.Late blames.Controller = codes " after the reply"
-since_text rules.Late sender = codes " after the command"
-since_text rules.Spacing sender = codes " after the word before it"
-since_text broken sender = codes ""
+abbrev pub since_text : Rule → Blame → Bool → List ℕ
+since_text rules.Early sender after_ret = codes " after the row before it"
+since_text rules.Late blames.Controller after_ret = codes " after the reply"
+since_text rules.Late sender false = codes " after the command"
+since_text rules.Late sender true = codes " after the controller asked again"
+since_text rules.Spacing sender after_ret = codes " after the word before it"
+since_text broken sender after_ret = codes ""
 
 -- tenths of a millisecond: what is too long is rounded up, and what is too short down
 abbrev pub tenths : Rule → ℕ → ℕ
@@ -110,24 +135,29 @@ abbrev pub time_text : ℕ → List ℕ
 time_text time = decimal (time / 10) ++ codes "." ++ decimal (time % 10) ++ codes " ms"
 
 -- what a row out of its time did, and how long it took
-abbrev pub deed_text : Rule → Blame → ℕ → List ℕ
-deed_text broken sender time =
-    sender_text sender ++ did_text broken ++ time_text time ++ since_text broken sender
+abbrev pub deed_text : Rule → Blame → ℕ → Bool → List ℕ
+deed_text broken sender time after_ret =
+    sender_text sender ++ did_text broken ++ time_text time ++ since_text broken sender after_ret
 
--- the line on a row whose time, so many microseconds, the extended profile's times spare
-abbrev pub spared_line : Offence → ℕ → List ℕ
-spared_line offence micros =
+-- the line on a row whose time the extended profile's times spare
+abbrev pub spared_line : Offence → Spared → List ℕ
+spared_line offence it =
     line (codes "mdbcheck: row " ++ decimal offence.row ++ codes ": "
-    ++ deed_text offence.rule offence.blame (tenths offence.rule micros)
+    ++ deed_text offence.rule offence.blame (tenths offence.rule it.micros) it.after_ret
     ++ codes "; --extended counts that and goes on")
 
 -- the line on a no: on the reader for which it isn't judged, else on a row whose time is spared,
 -- else on a row that isn't followed; any other no has none
-abbrev pub aside_line : Beginning → Offence → Option ReaderUnit → Option ℕ → Option (List ℕ)
-aside_line begins offence (Some unit) spared = Some (unjudged_line unit)
-aside_line begins offence None (Some micros) = Some (spared_line offence micros)
-aside_line begins offence None None =
-    if is_beyond offence.rule then Some (beyond_line begins offence) else None
+abbrev pub aside_by : Beginning → Offence → Option ReaderUnit → Option Spared → Option Device
+    → Option (List ℕ)
+aside_by begins offence (Some unit) spared device = Some (unjudged_line unit)
+aside_by begins offence None (Some it) device = Some (spared_line offence it)
+aside_by begins offence None None device =
+    if is_beyond offence.rule then Some (beyond_line begins offence device) else None
+
+abbrev pub aside_line : Beginning → Offence → Beside → Option (List ℕ)
+aside_line begins offence beside =
+    aside_by begins offence beside.unjudged beside.spared beside.unfollowed
 
 -- a writer was told nothing, or this line, or a front of it
 abbrev pub HasHeard : {E : Type 0} → (E → Option (List ℕ)) → E → E → Option (List ℕ) → Type 0
@@ -147,10 +177,9 @@ pub record IsAsideOfCheck (scope : Scope) (readers : Levels) (text : Option (Lis
     (aside : Option (List ℕ)) : Type 0 where
   pub possible : status ≡ 0 → aside ≡ None
   pub impossible : status ≡ 1 → IfSome text (λ bytes. (offence : Offence)
-      × (reader : Option ReaderUnit) × (spared : Option ℕ)
-      × IsJudgedNo scope readers ROWS_MAX (records default_config (strip_bom bytes)) offence reader
-      spared
-      × (aside ≡ aside_line scope.begins offence reader spared))
+      × (beside : Beside)
+      × IsJudgedNo scope readers ROWS_MAX (records default_config (strip_bom bytes)) offence beside
+      × (aside ≡ aside_line scope.begins offence beside))
 
 -- The same of a task. The others have none.
 abbrev pub IsAside : Task → Option (List ℕ) → ℕ → Option (List ℕ) → Type 0
@@ -159,10 +188,10 @@ IsAside (Check scope readers form) text status aside =
 IsAside task text status aside = aside ≡ None
 
 -- The rest serves private functions: the line on an answer of `check`.
-abbrev pub aside_on : Beginning → Outcome → Option ReaderUnit → Option ℕ → Option (List ℕ)
-aside_on begins (No offence) reader spared = aside_line begins offence reader spared
-aside_on begins (Yes report) reader spared = None
+abbrev pub aside_on : Beginning → Outcome → Beside → Option (List ℕ)
+aside_on begins (No offence) beside = aside_line begins offence beside
+aside_on begins (Yes report) beside = None
 
 abbrev pub aside_of : Beginning → Result Checked RunFault → Option (List ℕ)
-aside_of begins (Ok checked) = aside_on begins checked.outcome checked.unjudged checked.spared
+aside_of begins (Ok checked) = aside_on begins checked.outcome checked.beside
 aside_of begins (Err fault) = None

@@ -1,17 +1,16 @@
 //! What standard error is told of a no by which perhaps nobody did wrong.
 
-ghost use Rattle.std.specs.Prelude.{◌≡◌, ◌≤◌, ◌+◌, ◌++◌, codes, length};
-ghost use Rattle.std.specs.Fmt.{decimal};
-ghost use Rattle.mdb_text.specs.Text.{line};
+ghost use Rattle.std.specs.Prelude.{◌≡◌, ◌≤◌, ◌+◌, ◌++◌, length};
+ghost use Rattle.mdb_bus.specs.ExtendedLevels.{levels_in};
 ghost use Rattle.mdb_writing.specs.Written.{HasTaken};
 ghost use Rattle.mdbcheck_run.specs.Aside as spec;
-ghost use Rattle.mdbcheck_run.specs.Aside.{HasHeard, aside_of, beyond_text, spared_line, unjudged_line};
+ghost use Rattle.mdbcheck_run.specs.Aside.{HasHeard, aside_of, beyond_line, spared_line, unjudged_line};
 
 use super::complaint::tell;
-use mdb_bus::{Beginning, Blame, Profile, Rule};
-use mdb_check::Checked;
+use mdb_bus::{Beginning, Blame, Levels, Profile, Rule};
+use mdb_check::{Checked, Spared};
 use mdb_follow::Offence;
-use mdb_msgs::ReaderUnit;
+use mdb_msgs::{Device, ReaderUnit, Setups};
 use mdb_text::Outcome;
 use mdb_verdict::RunFault;
 use mdb_writing::Page;
@@ -19,8 +18,8 @@ use std::io::Write;
 
 /// Writes one line on a no by which perhaps nobody did wrong, in a recording that begins so. If it
 /// isn't judged, the line names the reader. Else, if the extended profile's times spare the row, it
-/// says how long the row took. Else, if the row isn't followed, it says why, and which words to
-/// type. On any other answer nothing is written.
+/// says how long the row took. Else, if the row isn't followed, it names the device, and has the
+/// words to type. On any other answer nothing is written.
 pub(crate) fn tell_aside<E: Write>(
     begins: &Beginning,
     checked: &Result<Checked, RunFault>,
@@ -31,31 +30,26 @@ pub(crate) fn tell_aside<E: Write>(
     let Ok(
         Checked {
             outcome: Outcome::No(offence),
-            unjudged,
-            spared,
+            beside,
         },
     ) = checked
     else {
         return;
     };
-    match (*unjudged, *spared) {
+    match (beside.unjudged, beside.spared) {
         (Some(unit), _) => tell(err, text_of_unjudged(unit)),
-        (None, Some(micros)) => tell_spared(*offence, micros, err),
+        (None, Some(spared)) => tell_spared(*offence, spared, err),
         (None, None) => {
             if matches!(offence.rule, Rule::Profile) {
-                tell_beyond(
-                    offence.row,
-                    text_of_beyond(remedy_for(begins), offence.blame),
-                    err,
-                );
+                tell_beyond(begins, *offence, beside.unfollowed, err);
             }
         }
     }
 }
 
 /// Writes the line on a row that takes so long, where the extended profile's times spare it.
-fn tell_spared<E: Write>(offence: Offence, micros: u64, err: &mut E)
-    ensures { HasTaken (E.contents err.old) (E.contents err.new) (spared_line offence micros) }
+fn tell_spared<E: Write>(offence: Offence, spared: Spared, err: &mut E)
+    ensures { HasTaken (E.contents err.old) (E.contents err.new) (spared_line offence spared) }
 {
     let mut page = Page::new();
     page.push(b"mdbcheck: row ");
@@ -65,7 +59,8 @@ fn tell_spared<E: Write>(offence: Offence, micros: u64, err: &mut E)
         &mut page,
         offence.rule,
         offence.blame,
-        tenths(offence.rule, micros),
+        tenths(offence.rule, spared.micros),
+        spared.after_ret,
     );
     page.push(b"; --extended counts that and goes on");
     page.push(b"\n");
@@ -73,15 +68,15 @@ fn tell_spared<E: Write>(offence: Offence, micros: u64, err: &mut E)
 }
 
 /// Adds what a row out of its time did, and how long it took, in tenths of a millisecond.
-fn push_deed(page: &mut Page, rule: Rule, sender: Blame, time: u64)
+fn push_deed(page: &mut Page, rule: Rule, sender: Blame, time: u64, after_ret: bool)
     requires { length page.old ≤ 100 }
-    ensures text { page.new ≡ page.old ++ spec.deed_text rule sender time }
+    ensures text { page.new ≡ page.old ++ spec.deed_text rule sender time after_ret }
     ensures few { length page.new ≤ length page.old + 120 }
 {
     page.push(sender_text(sender).as_bytes());
     page.push(did_text(rule).as_bytes());
     push_time(page, time);
-    page.push(since_text(rule, sender).as_bytes());
+    page.push(since_text(rule, sender, after_ret).as_bytes());
 }
 
 /// Adds a time in tenths of a millisecond.
@@ -122,7 +117,7 @@ fn sender_text(sender: Blame) -> &'static str
     }
 }
 
-/// What a row out of its time did, before its time. RET counts as a command.
+/// What a row out of its time did, before its time.
 fn did_text(rule: Rule) -> &'static str
     ensures text { result.now ≡ spec.did_text rule }
     ensures short { length result.now ≤ 20 }
@@ -136,32 +131,114 @@ fn did_text(rule: Rule) -> &'static str
 }
 
 /// The same after its time.
-fn since_text(rule: Rule, sender: Blame) -> &'static str
-    ensures text { result.now ≡ spec.since_text rule sender }
-    ensures short { length result.now ≤ 30 }
+fn since_text(rule: Rule, sender: Blame, after_ret: bool) -> &'static str
+    ensures text { result.now ≡ spec.since_text rule sender after_ret }
+    ensures short { length result.now ≤ 40 }
 {
     match (rule, sender) {
         (Rule::Early, _) => " after the row before it",
         (Rule::Late, Blame::Controller) => " after the reply",
-        (Rule::Late, _) => " after the command",
+        (Rule::Late, _) => {
+            if after_ret {
+                " after the controller asked again"
+            } else {
+                " after the command"
+            }
+        }
         (Rule::Spacing, _) => " after the word before it",
         _ => "",
     }
 }
 
-/// Writes the line on a row that isn't followed for this reason.
-fn tell_beyond<E: Write>(row: u64, why: &str, err: &mut E)
-    requires short { length why.now ≤ 200 }
+/// Writes the line on a row of this device that isn't followed.
+fn tell_beyond<E: Write>(begins: &Beginning, offence: Offence, device: Option<Device>, err: &mut E)
     ensures { HasTaken (E.contents err.old) (E.contents err.new)
-        (line (codes "mdbcheck: row " ++ decimal row ++ codes ": " ++ why.now)) }
+        (beyond_line begins.now offence device) }
 {
     let mut page = Page::new();
     page.push(b"mdbcheck: row ");
-    page.push_number(row);
+    page.push_number(offence.row);
     page.push(b": ");
-    page.push(why.as_bytes());
+    page.push(text_of_beyond(begins, offence.blame, device).as_bytes());
     page.push(b"\n");
     let _ = page.write_out(err);
+}
+
+/// Why a row isn't followed that this side sent, and the words to type.
+fn text_of_beyond(begins: &Beginning, sender: Blame, device: Option<Device>) -> &'static str
+    ensures text { result.now ≡ spec.beyond_text begins.now sender device }
+    ensures short { length result.now ≤ 250 }
+{
+    match (sender, device) {
+        (Blame::Controller, _) => text_of_command(device),
+        (_, Some(device)) => text_of_message(remedy_for(begins, device), device),
+        (_, None) => "a device sends a message that isn't followed",
+    }
+}
+
+/// That a command to a device isn't followed, and the words to type.
+fn text_of_command(device: Option<Device>) -> &'static str
+    ensures text { result.now ≡ spec.command_text (spec.device_text device) }
+    ensures short { length result.now ≤ 250 }
+{
+    match device {
+        Some(Device::Changer) => {
+            "the controller sends changer a command that isn't followed \
+             (leave it out: --without changer)"
+        }
+        Some(Device::Bill) => {
+            "the controller sends bill a command that isn't followed \
+             (leave it out: --without bill)"
+        }
+        Some(Device::Reader(ReaderUnit::First)) => {
+            "the controller sends cashless a command that isn't followed \
+             (leave it out: --without cashless)"
+        }
+        Some(Device::Reader(ReaderUnit::Second)) => {
+            "the controller sends cashless-2 a command that isn't followed \
+             (leave it out: --without cashless-2)"
+        }
+        None => {
+            "the controller sends DEVICE a command that isn't followed \
+             (leave it out: --without DEVICE)"
+        }
+    }
+}
+
+/// That a message of a device isn't followed, and the words to type, by what may help.
+fn text_of_message(remedy: Remedy, device: Device) -> &'static str
+    ensures text { result.now ≡ spec.message_text remedy device }
+    ensures short { length result.now ≤ 250 }
+{
+    match (remedy, device) {
+        (Remedy::Extend, Device::Bill) => "bill may report a recycler: add --extended",
+        (Remedy::Extend, Device::Reader(ReaderUnit::First)) => {
+            "cashless goes beyond feature level 1: add --extended"
+        }
+        (Remedy::Extend, Device::Reader(ReaderUnit::Second)) => {
+            "cashless-2 goes beyond feature level 1: add --extended"
+        }
+        (Remedy::TellLevel, Device::Reader(ReaderUnit::First)) => {
+            "cashless sends a message that isn't followed, at least while its level isn't known: \
+             tell it, as in --setup 'cashless level 3' (or leave it out: --without cashless)"
+        }
+        (Remedy::TellLevel, Device::Reader(ReaderUnit::Second)) => {
+            "cashless-2 sends a message that isn't followed, at least while its level isn't known: \
+             tell it, as in --setup 'cashless-2 level 3' (or leave it out: --without cashless-2)"
+        }
+        (_, Device::Changer) => {
+            "changer sends a message that isn't followed (leave it out: --without changer)"
+        }
+        (_, Device::Bill) => {
+            "bill sends a message that isn't followed (leave it out: --without bill)"
+        }
+        (_, Device::Reader(ReaderUnit::First)) => {
+            "cashless sends a message that isn't followed (leave it out: --without cashless)"
+        }
+        (_, Device::Reader(ReaderUnit::Second)) => {
+            "cashless-2 sends a message that isn't followed (leave it out: --without cashless-2)"
+        }
+    }
 }
 
 /// What may help where a row isn't followed.
@@ -175,56 +252,35 @@ pub enum Remedy {
     LeaveOut,
 }
 
-/// What may help where a row isn't followed, in a recording that begins so.
-fn remedy_for(begins: &Beginning) -> Remedy
-    ensures { result ≡ spec.remedy_for begins.now }
+/// What may help where a message of a device isn't followed, in a recording that begins so.
+fn remedy_for(begins: &Beginning, device: Device) -> Remedy
+    ensures { result ≡ spec.remedy_for begins.now device }
 {
-    match begins {
-        Beginning::PowerOn(Profile::Base) | Beginning::Joined(_, Profile::Base) => Remedy::Extend,
-        Beginning::Joined(_, Profile::Extended) => Remedy::TellLevel,
-        Beginning::PowerOn(Profile::Extended) => Remedy::LeaveOut,
+    match (begins, device) {
+        (Beginning::PowerOn(Profile::Base) | Beginning::Joined(_, Profile::Base), _) => {
+            Remedy::Extend
+        }
+        (Beginning::Joined(setups, Profile::Extended), Device::Reader(unit)) => {
+            if is_given(setups, unit) {
+                Remedy::LeaveOut
+            } else {
+                Remedy::TellLevel
+            }
+        }
+        _ => Remedy::LeaveOut,
     }
 }
 
-/// Why a row isn't followed that this side sent, and which words to type.
-fn text_of_beyond(remedy: Remedy, sender: Blame) -> &'static str
-    ensures text { result.now ≡ beyond_text remedy sender }
-    ensures short { length result.now ≤ 200 }
+/// Whether setup data give the level of a reader, as both sides reported it.
+fn is_given(setups: &Setups, unit: ReaderUnit) -> bool
+    ensures { result ≡ spec.is_given (levels_in setups.now unit) }
 {
-    match (remedy, sender) {
-        (Remedy::Extend, Blame::Bill) => "bill may report a recycler: add --extended",
-        (Remedy::Extend, Blame::Cashless) => "cashless goes beyond feature level 1: add --extended",
-        (Remedy::Extend, Blame::Cashless2) => {
-            "cashless-2 goes beyond feature level 1: add --extended"
-        }
-        (Remedy::TellLevel, Blame::Cashless) => {
-            "cashless sends a message that isn't followed, at least while its level isn't known: \
-             tell it, as in --setup 'cashless level 3' (or leave it out: --without cashless)"
-        }
-        (Remedy::TellLevel, Blame::Cashless2) => {
-            "cashless-2 sends a message that isn't followed, at least while its level isn't known: \
-             tell it, as in --setup 'cashless-2 level 3' (or leave it out: --without cashless-2)"
-        }
-        (_, Blame::Controller) => {
-            "the controller sends a command that isn't followed (leave out the device that it is \
-             sent to: --without DEVICE)"
-        }
-        (_, Blame::Other) => {
-            "a device sends a message that isn't followed (leave it out: --without DEVICE)"
-        }
-        (_, Blame::Changer) => {
-            "changer sends a message that isn't followed (leave it out: --without changer)"
-        }
-        (_, Blame::Bill) => {
-            "bill sends a message that isn't followed (leave it out: --without bill)"
-        }
-        (_, Blame::Cashless) => {
-            "cashless sends a message that isn't followed (leave it out: --without cashless)"
-        }
-        (_, Blame::Cashless2) => {
-            "cashless-2 sends a message that isn't followed (leave it out: --without cashless-2)"
-        }
-    }
+    let known = Levels::known(setups);
+    let levels = match unit {
+        ReaderUnit::First => known.first,
+        ReaderUnit::Second => known.second,
+    };
+    levels.asked.is_some() && levels.told.is_some()
 }
 
 /// The line on a no that isn't judged.

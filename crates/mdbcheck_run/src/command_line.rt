@@ -2,15 +2,19 @@
 
 use super::goal_words::{account_of, bound_of, side_of};
 use super::manual;
-use super::refusal::{Refusal, line_on};
+use super::refusal::{Refusal, SetupFault, line_on};
 use super::setup_value::{Given, given_by};
 use super::task::Task;
-use command_words::{CommandRow, Line, Named, Program, line_on_refused, manual_asked, read};
+use command_words::{
+    CommandRow, FILE, Line, Named, Program, line_on_refused, line_on_unopened, manual_asked, read,
+    read_accepted,
+};
 use mdb_bus::{Levels, Profile, Scope};
 use mdb_follow::Goal;
 use mdb_msgs::{Device, DeviceSet};
 use mdb_text::Form;
-use std::alloc::Global;
+use std::alloc::{AllocError, Global};
+use std::io::{self, Write};
 
 /// The program's version.
 const VERSION: &str = "0.13.1";
@@ -52,10 +56,10 @@ const PROGRAM: Program<'static> = Program {
             options: &[SETUP, WITHOUT],
             flags: &[JOINED, EXTENDED, JSON],
             words: &[],
-            further: &[],
+            further: &[FILE],
             // (so short that a line of 200 has room for a refused value before it)
             usage: "check [--joined] [--extended] [--setup 'DEVICE ..'].. [--without ..].. \
-[--json] < FILE",
+[--json] [FILE]",
             manual: manual::CHECK,
         },
         CommandRow {
@@ -63,9 +67,9 @@ const PROGRAM: Program<'static> = Program {
             options: &[SETUP, WITHOUT],
             flags: &[JOINED, EXTENDED, JSON],
             words: &[],
-            further: &[],
+            further: &[FILE],
             usage: "survey [--joined] [--extended] [--setup 'DEVICE ..'].. [--without ..].. \
-[--json] < FILE",
+[--json] [FILE]",
             manual: manual::SURVEY,
         },
         CommandRow {
@@ -73,9 +77,9 @@ const PROGRAM: Program<'static> = Program {
             options: &[SETUP, WITHOUT],
             flags: &[JOINED, EXTENDED, JSON],
             words: &[],
-            further: &[],
+            further: &[FILE],
             usage: "show [--extended [--joined [--setup 'DEVICE ..']..]] [--without ..].. \
-[--json] < FILE",
+[--json] [FILE]",
             manual: manual::SHOW,
         },
         CommandRow {
@@ -83,8 +87,8 @@ const PROGRAM: Program<'static> = Program {
             options: &[WITHOUT],
             flags: &[EXTENDED],
             words: &[ACCOUNT, SIDE, BOUND],
-            further: &[],
-            usage: "explain ACCOUNT SIDE BOUND [--extended] [--without ..] < FILE",
+            further: &[FILE],
+            usage: "explain ACCOUNT SIDE BOUND [--extended] [--without ..] [FILE]",
             manual: manual::EXPLAIN,
         },
         CommandRow {
@@ -92,8 +96,8 @@ const PROGRAM: Program<'static> = Program {
             options: &[WITHOUT],
             flags: &[EXTENDED, JSON],
             words: &[],
-            further: &[],
-            usage: "replay [--extended] [--without DEVICE].. [--json] < EXPLANATION",
+            further: &[FILE],
+            usage: "replay [--extended] [--without DEVICE].. [--json] [FILE]",
             manual: manual::REPLAY,
         },
         CommandRow {
@@ -115,6 +119,28 @@ replay (explanation); all: mdbcheck manual",
 /// The same, by reference: what names the table itself is proved with a copy of it.
 pub(crate) fn program() -> &'static Program<'static> {
     &PROGRAM
+}
+
+/// The file that the words name, the program's name first: what is read in place of standard input.
+/// `None` where they name none, and where they are refused.
+///
+/// # Errors
+///
+/// Memory was refused.
+pub fn file_named<'a>(alloc: Global, words: &'a [String]) -> Result<Option<&'a str>, AllocError> {
+    let Some(found) = read_accepted(alloc, program(), words)? else {
+        return Ok(None);
+    };
+    match asked_by(alloc, &found) {
+        Ok(_) => Ok(found.file()),
+        Err(Refusal::Setup(_, SetupFault::Memory)) => Err(AllocError),
+        Err(_) => Ok(None),
+    }
+}
+
+/// Writes the line on the file that the words name, which can't be opened for this reason.
+pub fn refuse_file<E: Write>(words: &[String], file: &str, error: &io::Error, err: &mut E) {
+    line_on_unopened(program(), words, file, error).tell(err);
 }
 
 /// What the words of a command line ask for.

@@ -16,5 +16,6 @@ mod refusal;
 mod setup_value;
 mod task;
 
+pub use command_line::{file_named, refuse_file};
 pub use program::{run, run_words};
 pub use task::Task;

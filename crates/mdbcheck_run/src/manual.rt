@@ -6,28 +6,29 @@ NAME
     mdbcheck - check the recorded bus traffic of a vending machine
 
 SYNOPSIS
-        mdbcheck check < TRANSCRIPT
-        mdbcheck survey < TRANSCRIPT
-        mdbcheck show < TRANSCRIPT
-        mdbcheck explain ACCOUNT SIDE BOUND < TRANSCRIPT
-        mdbcheck replay < EXPLANATION
+        mdbcheck check [FILE]
+        mdbcheck survey [FILE]
+        mdbcheck show [FILE]
+        mdbcheck explain ACCOUNT SIDE BOUND [FILE]
+        mdbcheck replay [FILE]
         mdbcheck manual [COMMAND]
 
 DESCRIPTION
     The controller of a vending machine talks to its coin changer, bill
     validator and card readers over a serial bus, MDB/ICP 4.3. mdbcheck
-    reads a recording of that bus, a transcript, from standard input. It
-    reports whether the recording is possible. If it is possible, mdbcheck
-    prints how much money moved: the least and the most. If it isn't,
-    mdbcheck names the first impossible row, the rule that the row breaks,
-    and who sent it. Verdict and bounds are proved.
+    reads a recording of that bus, a transcript, from FILE. Without FILE, or
+    if it is -, it reads standard input. It reports whether the recording is
+    possible. If it is possible, mdbcheck prints how much money moved: the
+    least and the most. If it isn't, mdbcheck names the first impossible row,
+    the rule that the row breaks, and who sent it. Verdict and bounds are
+    proved.
 
     A yes doesn't mean honest money. It means that an honest explanation of
     the recording exists. Blame is who sent the row, and not what to
     replace.
 
     Options stand after the command. --without=DEVICE, in one word, means
-    the same as two words. mdbcheck opens no file itself. It reads no
+    the same as two words. mdbcheck opens no file but FILE. It reads no
     configuration and no environment variable.
 
     If standard error is a terminal, a run that takes longer than a second
@@ -39,7 +40,7 @@ DESCRIPTION
 pub const CHECK: &str = "\
 CHECK
         mdbcheck check [--joined] [--extended] [--setup 'DEVICE BYTES']..
-            [--without DEVICE].. [--json] < TRANSCRIPT
+            [--without DEVICE].. [--json] [FILE]
 
     Prints the verdict. The first line is \"verdict yes\" or \"verdict no\".
 
@@ -78,7 +79,7 @@ CHECK
 pub const SURVEY: &str = "\
 SURVEY
         mdbcheck survey [--joined] [--extended] [--setup 'DEVICE BYTES']..
-            [--without DEVICE].. [--json] < TRANSCRIPT
+            [--without DEVICE].. [--json] [FILE]
 
     Goes on after an impossible row. check stops there; survey prints every
     such row as a fault, and the report on each stretch of rows between.
@@ -119,7 +120,7 @@ SURVEY
 pub const SHOW: &str = "\
 SHOW
         mdbcheck show [--extended [--joined [--setup 'DEVICE BYTES']..]]
-            [--without DEVICE].. [--json] < TRANSCRIPT
+            [--without DEVICE].. [--json] [FILE]
 
     Prints what was said: one line for each command, answer and
     acknowledgement, with its rows, its device and its bytes. It knows the
@@ -142,7 +143,7 @@ SHOW
 pub const EXPLAIN: &str = "\
 EXPLAIN
         mdbcheck explain ACCOUNT SIDE BOUND [--extended]
-            [--without DEVICE].. < TRANSCRIPT
+            [--without DEVICE].. [FILE]
 
     Shows how a bound of check can have come about. It writes the fewest
     marks that lead to it, and after them the rows of the transcript. replay
@@ -162,7 +163,7 @@ EXPLAIN
 pub const REPLAY: &str = "\
 REPLAY
         mdbcheck replay [--extended] [--without DEVICE].. [--json]
-            < EXPLANATION
+            [FILE]
 
     Prints the verdict on the one course of events that the marks before a
     transcript describe. In its report both ends of each range are the same.
@@ -283,8 +284,12 @@ EXIT STATUS
                      perhaps if it says that --extended goes on.
     2                There is no verdict. A line on standard error says why: a
                      row isn't a row, a mark stands where none may, the input
-                     is too long, input or output failed, memory was refused,
-                     or the words aren't a command.
+                     is too long, input or output failed, FILE can't be
+                     opened, memory was refused, or the words aren't a
+                     command.
+
+    141              Nobody reads the output any more, as with | head.
+                     Nothing is said.
 
     A signal isn't a verdict. A shell reports it as a status of 128 or more.
 

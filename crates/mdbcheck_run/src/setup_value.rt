@@ -13,8 +13,8 @@ use std::alloc::Global;
 pub(crate) struct Given {
     /// The setup data.
     pub(crate) setups: Setups,
-    /// The feature levels (Z2) of the readers whose answer begins with a config message of level 1.
-    /// Other levels aren't among them.
+    /// The feature levels (Z2) of the readers whose answer begins with a config message of level 1,
+    /// or of level 0, which counts as 1. Other levels aren't among them.
     pub(crate) readers: Levels,
 }
 
@@ -103,8 +103,8 @@ fn add_answer(
         return Err(SetupFault::NoAnswer);
     }
     match (device, bytes) {
-        (Device::Reader(ReaderUnit::First), [1, 1, ..]) => given.readers.first.told = Some(1),
-        (Device::Reader(ReaderUnit::Second), [1, 1, ..]) => given.readers.second.told = Some(1),
+        (Device::Reader(ReaderUnit::First), [1, 0 | 1, ..]) => given.readers.first.told = Some(1),
+        (Device::Reader(ReaderUnit::Second), [1, 0 | 1, ..]) => given.readers.second.told = Some(1),
         _ => {}
     }
     Ok(())

@@ -1,7 +1,7 @@
 //! The program's commands, and what their words may be.
 
 use super::manual;
-use command_words::{CommandRow, Program};
+use command_words::{CommandRow, FILE, Program};
 
 /// The program's version.
 pub(crate) const VERSION: &str = "0.13.1";
@@ -55,9 +55,9 @@ const PROGRAM: Program<'static> = Program {
             options: &[UNIT, CONTROLLER, PERIPHERAL, FROM, UNTIL],
             flags: &[DECIMAL],
             words: &[],
-            further: &[],
+            further: &[FILE],
             usage: "rows [--unit s|ms|us|ns] [--controller N] [--peripheral N] [--decimal] \
-[--from T] [--until T]",
+[--from T] [--until T] [FILE]",
             manual: manual::ROWS,
         },
         CommandRow {
@@ -65,8 +65,8 @@ const PROGRAM: Program<'static> = Program {
             options: &[FROM, UNTIL],
             flags: &[SWAP, SKIP_DAMAGED],
             words: &[],
-            further: &[],
-            usage: "sigrok [--swap] [--skip-damaged] [--from T] [--until T] < TRACE",
+            further: &[FILE],
+            usage: "sigrok [--swap] [--skip-damaged] [--from T] [--until T] [FILE]",
             manual: manual::SIGROK,
         },
         CommandRow {
@@ -74,9 +74,9 @@ const PROGRAM: Program<'static> = Program {
             options: &[CONTROLLER, PERIPHERAL, BREAK, FROM, UNTIL],
             flags: &[SKIP_DAMAGED],
             words: &[],
-            further: &[],
+            further: &[FILE],
             usage: "saleae [--controller N] [--peripheral N] [--break T] [--skip-damaged] \
-[--from T] [--until T]",
+[--from|until T] [FILE]",
             manual: manual::SALEAE,
         },
         CommandRow {
@@ -84,9 +84,9 @@ const PROGRAM: Program<'static> = Program {
             options: &[UNIT, CONTROLLER, PERIPHERAL, INVERT_LINE, FROM, UNTIL],
             flags: &[INVERT, SKIP_DAMAGED],
             words: &[],
-            further: &[],
-            usage: "edges [--unit U] [--controller N] [--peripheral N] [--invert[-line N]] \
-[--skip-damaged] [--from|--until T]",
+            further: &[FILE],
+            usage: "edges [--unit U] [--controller|--peripheral N] [--invert[-line N]] \
+[--skip-damaged] [--from|until T] [FILE]",
             manual: manual::EDGES,
         },
         CommandRow {
@@ -94,9 +94,9 @@ const PROGRAM: Program<'static> = Program {
             options: &[CONTROLLER, PERIPHERAL, INVERT_LINE, FROM, UNTIL],
             flags: &[INVERT, SKIP_DAMAGED],
             words: &[],
-            further: &[],
+            further: &[FILE],
             usage: "vcd [--controller N] [--peripheral N] [--invert[-line N]] [--skip-damaged] \
-[--from T] [--until T] < DUMP",
+[--from T] [--until T] [FILE]",
             manual: manual::VCD,
         },
         CommandRow {
@@ -104,9 +104,9 @@ const PROGRAM: Program<'static> = Program {
             options: &[UNIT, CONTROLLER, PERIPHERAL, TIME_OF, FROM, UNTIL],
             flags: &[DECIMAL],
             words: &[],
-            further: &[],
+            further: &[FILE],
             usage: "messages [--unit U] [--controller N] [--peripheral N] [--time-of last] \
-[--decimal] [--from|--until T]",
+[--decimal] [--from|until T] [FILE]",
             manual: manual::MESSAGES,
         },
         CommandRow {

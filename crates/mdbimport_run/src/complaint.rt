@@ -1,9 +1,10 @@
 //! What standard error is told of an import that is refused.
 
 use super::hint::hint_of;
-use mdb_import_levels::{EdgesFault, EdgesOptions, FormFault};
-use mdb_import_records::{ImportFault, SaleaeFault};
-use mdb_import_shared::{Kind, RecordFault};
+use mdb_import_levels::{DumpFault, EdgesFault, FormFault, VcdFault};
+use mdb_import_records::{ImportFault, MessagesFault, SaleaeFault};
+use mdb_import_shared::{Kind, Options, RecordFault};
+use mdb_import_sigrok::{FormFault as TraceFault, SigrokFault};
 use mdb_records::{ReadCause, Record, Records};
 use mdb_words::Time;
 use mdb_writing::Excerpt;
@@ -29,7 +30,7 @@ pub(crate) fn complain<R: Read + Drop, E: Write>(
             return last.is_none();
         }
         ImportFault::Read => complain_of(&text_of_cause(records.cause()), None, "", err),
-        ImportFault::Write | ImportFault::Memory => complain_of(&fault, None, "", err),
+        ImportFault::Write(_) | ImportFault::Memory => complain_of(&fault, None, "", err),
     }
     false
 }
@@ -91,7 +92,7 @@ pub(crate) fn complain_of_table<R: Read + Drop, E: Write>(
         | SaleaeFault::BadRecord { .. }
         | SaleaeFault::BadRow { .. } => complain_of(&fault, Some(&records.row()), "", err),
         SaleaeFault::Read => complain_of(&text_of_cause(records.cause()), None, "", err),
-        SaleaeFault::NoHeader { .. } | SaleaeFault::Write | SaleaeFault::Memory => {
+        SaleaeFault::NoHeader { .. } | SaleaeFault::Write(_) | SaleaeFault::Memory => {
             complain_of(&fault, None, "", err)
         }
     }
@@ -104,7 +105,7 @@ pub(crate) fn complain_of_table<R: Read + Drop, E: Write>(
 /// Writes a line on a fault of a table of edges, as [`complain`] does. At a record that is refused
 /// by itself it adds the likely cause. It answers whether the header is refused.
 pub(crate) fn complain_of_edges<R: Read + Drop, E: Write>(
-    options: &EdgesOptions,
+    options: &Options,
     fault: EdgesFault,
     records: &Records<R>,
     err: &mut E,
@@ -129,6 +130,31 @@ pub(crate) fn complain_of_edges<R: Read + Drop, E: Write>(
             ..
         }
     )
+}
+
+/// Writes a line on a fault of a trace, but for its end. It answers whether the first line is
+/// refused.
+pub(crate) fn complain_of_trace<E: Write>(fault: &SigrokFault, err: &mut E) -> bool {
+    say_fault(fault, err);
+    let SigrokFault::Form { fault, .. } = fault else {
+        return false;
+    };
+    *fault == TraceFault::NoTrace
+}
+
+/// Does so with a fault of a dump.
+pub(crate) fn complain_of_dump<E: Write>(fault: &VcdFault, err: &mut E) -> bool {
+    say_fault(fault, err);
+    let VcdFault::Form { fault, .. } = fault else {
+        return false;
+    };
+    *fault == DumpFault::NoCommand
+}
+
+/// Does so with a fault of a log.
+pub(crate) fn complain_of_log<E: Write>(fault: &MessagesFault, err: &mut E) -> bool {
+    say_fault(fault, err);
+    matches!(fault, MessagesFault::BadLine { is_first: true, .. })
 }
 
 /// Ends a line: with what another command reads, if it is that.

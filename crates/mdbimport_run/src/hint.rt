@@ -1,7 +1,7 @@
 //! What a header or record of a table of edges is likely to be refused for.
 
-use mdb_import_levels::{EdgesOptions, FormFault};
-use mdb_import_shared::bare;
+use mdb_import_levels::FormFault;
+use mdb_import_shared::{Options, bare};
 use mdb_records::Record;
 
 /// How many fields the records of a table have at least: a time and two levels.
@@ -10,7 +10,7 @@ const FEWEST: usize = 3;
 /// The likely cause of a misformed record, as it is reported after the fields; an empty text if no
 /// cause is known. Semicolons or tabs part the fields, a column's name differs in the case of its
 /// letters, or a decimal comma isn't in quotes.
-pub(crate) fn hint_of(options: &EdgesOptions, fault: FormFault, row: &Record<'_>) -> &'static str {
+pub(crate) fn hint_of(options: &Options, fault: FormFault, row: &Record<'_>) -> &'static str {
     if has(row, b';') {
         "; are its fields parted by semicolons, and not by commas?"
     } else if has(row, b'\t') {

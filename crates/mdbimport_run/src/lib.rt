@@ -16,3 +16,5 @@ mod refused;
 mod task;
 
 pub use program::run;
+pub use refused::refuse_file;
+pub use task::file_named;

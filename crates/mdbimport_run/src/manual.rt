@@ -6,18 +6,19 @@ NAME
     mdbimport - rows of a recorded vending bus, from what recorders write
 
 SYNOPSIS
-        mdbimport sigrok < TRACE > ROWS
-        mdbimport rows < EXPORT > ROWS
-        mdbimport saleae < CSV > ROWS
-        mdbimport edges < CSV > ROWS
-        mdbimport vcd < DUMP > ROWS
-        mdbimport messages < LOG > ROWS
+        mdbimport sigrok [FILE] > ROWS
+        mdbimport rows [FILE] > ROWS
+        mdbimport saleae [FILE] > ROWS
+        mdbimport edges [FILE] > ROWS
+        mdbimport vcd [FILE] > ROWS
+        mdbimport messages [FILE] > ROWS
         mdbimport manual [COMMAND]
 
 DESCRIPTION
-    mdbimport reads the export of a recorder from standard input, and writes
-    the rows that mdbcheck(1) reads to standard output. It guesses nothing,
-    and leaves nothing out without a word. What it can't be sure of is
+    mdbimport reads the export of a recorder from FILE, and writes the rows
+    that mdbcheck(1) reads to standard output. Without FILE, or if it is -, it
+    reads standard input. It opens no other file. It guesses nothing, and
+    leaves nothing out without a word. What it can't be sure of is
     refused, with the number of the record and, if it can be read, its time.
 
     A pulse shorter than half a bit is passed over, and reported. The decoder
@@ -37,7 +38,7 @@ pub const ROWS: &str = "\
 ROWS
         mdbimport rows [--unit s|ms|us|ns] [--controller NAME]
             [--peripheral NAME] [--decimal] [--from T] [--until T]
-            < EXPORT > ROWS
+            [FILE] > ROWS
 
     Imports rows in other forms: with comments and a header, semicolons or
     tabs, in seconds, milliseconds or nanoseconds, with a decimal comma, times
@@ -70,7 +71,7 @@ ROWS
 pub const SIGROK: &str = "\
 SIGROK
         mdbimport sigrok [--swap] [--skip-damaged] [--from T] [--until T]
-            < TRACE > ROWS
+            [FILE] > ROWS
 
     Imports the trace that sigrok-cli writes of its decoder uart.
     sigrok-trace.md has the command for it.
@@ -90,7 +91,7 @@ pub const SALEAE: &str = "\
 SALEAE
         mdbimport saleae [--controller NAME] [--peripheral NAME]
             [--break T] [--skip-damaged] [--from T] [--until T]
-            < CSV > ROWS
+            [FILE] > ROWS
 
     Imports the table that Logic 2 exports of its analyser Async Serial, with
     nine bits a word. saleae.md has its form.
@@ -111,7 +112,7 @@ pub const EDGES: &str = "\
 EDGES
         mdbimport edges [--unit s|ms|us|ns] [--controller NAME]
             [--peripheral NAME] [--invert] [--invert-line NAME]
-            [--skip-damaged] [--from T] [--until T] < CSV > ROWS
+            [--skip-damaged] [--from T] [--until T] [FILE] > ROWS
 
     Decodes a table of the times at which each channel changed. edges.md has
     its form.
@@ -138,7 +139,7 @@ pub const VCD: &str = "\
 VCD
         mdbimport vcd [--controller NAME] [--peripheral NAME] [--invert]
             [--invert-line NAME] [--skip-damaged] [--from T] [--until T]
-            < DUMP > ROWS
+            [FILE] > ROWS
 
     Decodes a value change dump, which most logic analysers and sigrok-cli
     write. vcd.md has its form.
@@ -160,7 +161,7 @@ pub const MESSAGES: &str = "\
 MESSAGES
         mdbimport messages [--unit s|ms|us|ns] [--controller NAME]
             [--peripheral NAME] [--time-of first|last] [--decimal] [--from T]
-            [--until T] < LOG > ROWS
+            [--until T] [FILE] > ROWS
 
     Imports the text log of a sniffer, with one message a line: a time, who
     spoke, and the words, as bytes of two hexadecimal digits, perhaps with a *
@@ -205,6 +206,8 @@ EXIT STATUS
                      row, and mdbcheck refuses it. Only --help and --version
                      write nothing there. If another command reads what was
                      given, the line names it.
+    141              Nobody reads the output any more, as with | head.
+                     Nothing is said.
 
 EXAMPLES
     Check a trace of sigrok-cli, with no file in between:

@@ -1,127 +1,92 @@
 //! What standard error is told of an import that has its rows.
 
-use mdb_import_records::MessagesImported;
-use mdb_import_shared::{Imported, Place, Places};
-use mdb_words::Line;
+use mdb_import_shared::{Imported, Place, Places, letter_of};
 use std::io::Write;
 
-/// What the recorder's user should know about the imported rows.
-#[derive(Clone, Copy)]
-pub(crate) struct Notes<'a> {
-    // What is told of an optional header that was passed over; nothing if none was.
-    header: &'static str,
-    // What every import reports.
-    imported: &'a Imported,
-    // How many messages were moved, and by how much at most, if a log was read.
-    moved: Option<(u64, u64)>,
+/// Writes a line for each note that the recorder's user should know: a header that was passed over,
+/// midnights, rows, pulses and damaged words that were left out, and the likely cause if no word is
+/// marked or a line has no word. Where no row was written, the last line says so in place of that
+/// cause.
+///
+/// It answers whether a row was written.
+pub(crate) fn tell<E: Write>(imported: &Imported, err: &mut E) -> bool {
+    if let Some(line) = imported.turned {
+        let line = letter_of(&line);
+        let _ = writeln!(
+            err,
+            "mdbimport: line {line} is low at rest, and is read upside down"
+        );
+    }
+    say(text_on_header(imported), err);
+    let _ = tell_midnights(imported.midnights, err);
+    let _ = tell_left_out(imported, err);
+    if let Some((moved, most)) = imported.moved {
+        let _ = tell_moved(moved, most, err);
+    }
+    let _ = tell_pulses(&imported.pulses, err);
+    let _ = tell_damaged(&imported.damaged, err);
+    if let Some(low) = imported.low {
+        let _ = writeln!(err, "mdbimport: {low}");
+    }
+    if imported.rows == 0 {
+        let _ = tell_no_row(imported.ends, err);
+        return false;
+    }
+    say(text_on_lines(imported), err);
+    say(text_on_marks(imported), err);
+    true
 }
 
-impl<'a> Notes<'a> {
-    /// The notes on rows in another form.
-    pub(crate) fn of_rows(imported: &'a Imported) -> Notes<'a> {
-        let mut notes = Notes::of(imported);
-        if imported.header {
-            notes.header = "the first record is taken for a header";
-        }
-        notes
+/// Writes the lines on what is outside the part: rows before and after it, and records that are
+/// passed over.
+fn tell_left_out<E: Write>(imported: &Imported, err: &mut E) -> std::io::Result<()> {
+    let (before, after, passed) = (imported.before, imported.after, imported.passed);
+    if before > 0 || after > 0 {
+        let rows = if before == 1 { "row" } else { "rows" };
+        writeln!(
+            err,
+            "mdbimport: left out {before} {rows} before the part and {after} after it"
+        )?;
     }
-
-    /// The notes on a log.
-    pub(crate) fn of_messages(log: &'a MessagesImported) -> Notes<'a> {
-        let mut notes = Notes::of(&log.imported);
-        if log.imported.header {
-            notes.header = "the first line is taken for a header";
-        }
-        notes.moved = Some((log.moved, log.most));
-        notes
-    }
-
-    /// The notes on any other export: where it has a header, that must be there.
-    pub(crate) fn of(imported: &'a Imported) -> Notes<'a> {
-        Notes {
-            header: "",
-            imported,
-            moved: None,
-        }
-    }
-
-    /// Writes a line for each note: a header that was passed over, midnights, rows, pulses and
-    /// damaged words that were left out, and the likely cause if no word is marked or a line has no
-    /// word. Where no row was written, the last line says so in place of that cause.
-    ///
-    /// It answers whether a row was written.
-    pub(crate) fn tell<E: Write>(self, err: &mut E) -> bool {
-        let Imported {
-            rows,
-            ends,
-            midnights,
-            before,
-            after,
-            passed,
-            ..
-        } = *self.imported;
-        say(text_on_turned(self.imported.turned), err);
-        say(self.header, err);
-        let _ = tell_midnights(midnights, err);
-        if before > 0 || after > 0 {
-            let _ = writeln!(
-                err,
-                "mdbimport: left out {before} rows before the part and {after} after it"
-            );
-        }
-        if passed > 0 {
-            let _ = writeln!(
-                err,
-                "mdbimport: left out {passed} records outside the part that are no rows, \
-                or not in order"
-            );
-        }
-        if let Some((moved, most)) = self.moved {
-            let _ = tell_moved(moved, most, err);
-        }
-        let _ = tell_pulses(&self.imported.pulses, err);
-        let _ = tell_damaged(&self.imported.damaged, err);
-        if let Some(low) = self.imported.low {
-            let _ = writeln!(err, "mdbimport: {low}");
-        }
-        if rows == 0 {
-            let _ = tell_no_row(ends, err);
-            return false;
-        }
-        say(self.text_on_lines(), err);
-        say(self.text_on_marks(), err);
-        true
-    }
-
-    /// The note on a line without a word.
-    fn text_on_lines(self) -> &'static str {
-        match (self.imported.controller, self.imported.peripheral) {
-            (false, false) => "there is no word on either line",
-            (true, false) =>
-                "no word of a peripheral (S): was only the controller's line recorded?",
-            (false, true) => {
-                "no word of the controller (M): was only the peripherals' line recorded?"
-            }
-            (true, true) => "",
-        }
-    }
-
-    /// The note on a recording without a marked word.
-    fn text_on_marks(self) -> &'static str {
-        if !self.imported.marked && (self.imported.controller || self.imported.peripheral) {
-            "no word has its mode bit set: was it recorded with 8 bits and not 9?"
-        } else {
-            ""
-        }
+    match passed {
+        0 => Ok(()),
+        1 => writeln!(
+            err,
+            "mdbimport: left out 1 record outside the part that is no row, or not in order"
+        ),
+        _ => writeln!(
+            err,
+            "mdbimport: left out {passed} records outside the part that are no rows, \
+            or not in order"
+        ),
     }
 }
 
-/// The note on a line that is read upside down, though no option says so.
-fn text_on_turned(turned: Option<Line>) -> &'static str {
-    match turned {
-        Some(Line::Controller) => "line M is low at rest, and is read upside down",
-        Some(Line::Peripheral) => "line S is low at rest, and is read upside down",
-        None => "",
+/// The note on an optional header that was passed over.
+fn text_on_header(imported: &Imported) -> &'static str {
+    match (imported.header, imported.moved) {
+        (false, _) => "",
+        (true, None) => "the first record is taken for a header",
+        (true, Some(_)) => "the first line is taken for a header",
+    }
+}
+
+/// The note on a line without a word.
+fn text_on_lines(imported: &Imported) -> &'static str {
+    match (imported.controller, imported.peripheral) {
+        (false, false) => "there is no word on either line",
+        (true, false) => "no word of a peripheral (S): was only the controller's line recorded?",
+        (false, true) => "no word of the controller (M): was only the peripherals' line recorded?",
+        (true, true) => "",
+    }
+}
+
+/// The note on a recording without a marked word.
+fn text_on_marks(imported: &Imported) -> &'static str {
+    if !imported.marked && (imported.controller || imported.peripheral) {
+        "no word has its mode bit set: was it recorded with 8 bits and not 9?"
+    } else {
+        ""
     }
 }
 
@@ -218,10 +183,6 @@ fn tell_damaged<E: Write>(damaged: &Places, err: &mut E) -> std::io::Result<()> 
 
 /// Writes a text, and when and on which line something began.
 fn write_place<E: Write>(mark: &str, place: &Place, err: &mut E) -> std::io::Result<()> {
-    let time = place.at.value();
-    let line = match place.line {
-        Line::Controller => "M",
-        Line::Peripheral => "S",
-    };
+    let (time, line) = (place.at.value(), letter_of(&place.line));
     write!(err, "{mark}{time} on {line}")
 }

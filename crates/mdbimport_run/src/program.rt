@@ -1,21 +1,19 @@
 //! The program over its words.
 
 use super::command_line::program;
-use super::complaint::{complain, complain_of_edges, complain_of_table, end_line, say_fault};
+use super::complaint::{
+    complain, complain_of_dump, complain_of_edges, complain_of_log, complain_of_table,
+    complain_of_trace, end_line, say_fault,
+};
 use super::front::Fronted;
-use super::notes::Notes;
+use super::notes::tell;
 use super::refused::refuse;
 use super::task::{Task, task_of};
 use command_words::write_manual;
-use mdb_import_levels::{
-    DumpFault, EdgesOptions, VcdFault, VcdOptions, import_edge_records, import_vcd,
-};
-use mdb_import_records::{
-    MessagesFault, MessagesOptions, RowsOptions, SaleaeOptions, import_messages, import_records,
-    import_table,
-};
-use mdb_import_shared::{Kind, records_of, write_refusal};
-use mdb_import_sigrok::{FormFault as TraceFault, SigrokFault, SigrokOptions, import_sigrok};
+use mdb_import_levels::{import_edge_records, import_vcd};
+use mdb_import_records::{import_messages, import_records, import_table};
+use mdb_import_shared::{Imported, Kind, Options, records_of, write_refusal};
+use mdb_import_sigrok::import_sigrok;
 use std::alloc::Global;
 use std::io::{Read, Write};
 
@@ -35,31 +33,26 @@ const NOT_DONE: u8 = 2;
 /// refuses a line, the answer is the same.
 pub fn run<R: Read + Drop, W: Write, E: Write>(
     alloc: Global,
-    words: Vec<String>,
+    words: &[String],
     reader: R,
     out: &mut W,
     err: &mut E,
 ) -> u8 {
-    let done = match task_of(alloc, words.as_slice()) {
-        Ok(Task::Rows(options)) => run_rows(alloc, &options, reader, out, err),
-        Ok(Task::Sigrok(options)) => run_sigrok(alloc, &options, reader, out, err),
-        Ok(Task::Saleae(options)) => run_saleae(alloc, &options, reader, out, err),
-        Ok(Task::Edges(options)) => run_edges(alloc, &options, reader, out, err),
-        Ok(Task::Vcd(options)) => run_vcd(alloc, &options, reader, out, err),
-        Ok(Task::Messages(options)) => run_messages(alloc, &options, reader, out, err),
+    let done = match task_of(alloc, words) {
+        Ok(Task::Import(kind, options)) => run_import(alloc, kind, &options, reader, out, err),
         Ok(Task::Manual(part)) => run_manual(part, out, err),
         Err(refusal) => {
-            refuse(alloc, refusal, words.as_slice(), out, err);
+            refuse(alloc, refusal, words, out, err);
             false
         }
     };
     if done { DONE } else { NOT_DONE }
 }
 
-/// Ends an import of which these are the notes, and answers whether it has a row. If not, the last
-/// line of its output is that of a refused export.
-fn end<W: Write, E: Write>(notes: Notes<'_>, out: &mut W, err: &mut E) -> bool {
-    if notes.tell(err) {
+/// Ends an import that reports this, and answers whether it has a row. If not, the last line of its
+/// output is that of a refused export.
+fn end<W: Write, E: Write>(imported: &Imported, out: &mut W, err: &mut E) -> bool {
+    if tell(imported, err) {
         return true;
     }
     if let Err(fault) = write_refusal(out) {
@@ -69,188 +62,80 @@ fn end<W: Write, E: Write>(notes: Notes<'_>, out: &mut W, err: &mut E) -> bool {
     false
 }
 
-/// Imports the rows of the text that the reader has left, and answers whether that was done.
-fn run_rows<R: Read + Drop, W: Write, E: Write>(
+/// Imports what the reader has left as an export of a kind, and answers whether that was done.
+/// Where it may be for another command, the line on a refusal says so.
+fn run_import<R: Read + Drop, W: Write, E: Write>(
     alloc: Global,
-    options: &RowsOptions,
+    kind: Kind,
+    options: &Options,
     reader: R,
     out: &mut W,
     err: &mut E,
 ) -> bool {
     let mut front = Fronted::new(reader);
-    match read_rows(alloc, options, &mut front, out, err) {
-        Ok(done) => done,
-        Err(is_other) => refuse_other(is_other, &mut front, Kind::Rows, err),
-    }
-}
-
-/// Does that, but for the end of the line on a refusal.
-///
-/// # Errors
-///
-/// It is refused: whether another command may read it.
-fn read_rows<R: Read + Drop, W: Write, E: Write>(
-    alloc: Global,
-    options: &RowsOptions,
-    reader: R,
-    out: &mut W,
-    err: &mut E,
-) -> Result<bool, bool> {
-    let mut records = records_of(alloc, reader);
-    match import_records(alloc, options, &mut records, out) {
-        Ok(imported) => Ok(end(Notes::of_rows(&imported), out, err)),
-        Err(fault) => Err(complain(fault, &records, err)),
-    }
-}
-
-/// Imports the trace that the reader has left.
-fn run_sigrok<R: Read + Drop, W: Write, E: Write>(
-    alloc: Global,
-    options: &SigrokOptions,
-    reader: R,
-    out: &mut W,
-    err: &mut E,
-) -> bool {
-    let mut front = Fronted::new(reader);
-    let fault = match import_sigrok(alloc, options, &mut front, out) {
-        Ok(imported) => return end(Notes::of(&imported), out, err),
-        Err(fault) => fault,
+    let other = match read_import(alloc, kind, options, &mut front, out, err) {
+        Ok(imported) => return end(&imported, out, err),
+        Err(true) => front.other_kind(kind),
+        Err(false) => None,
     };
-    say_fault(&fault, err);
-    let is_other = matches!(
-        fault,
-        SigrokFault::Form {
-            fault: TraceFault::NoTrace,
-            ..
-        }
-    );
-    refuse_other(is_other, &mut front, Kind::Trace, err)
-}
-
-/// Imports the table of an analyser that the reader has left, and answers whether that was done.
-fn run_saleae<R: Read + Drop, W: Write, E: Write>(
-    alloc: Global,
-    options: &SaleaeOptions,
-    reader: R,
-    out: &mut W,
-    err: &mut E,
-) -> bool {
-    let mut front = Fronted::new(reader);
-    match read_saleae(alloc, options, &mut front, out, err) {
-        Ok(done) => done,
-        Err(is_other) => refuse_other(is_other, &mut front, Kind::Table, err),
-    }
-}
-
-/// Does that, but for the end of the line on a refusal.
-///
-/// # Errors
-///
-/// It is refused: whether another command may read it.
-fn read_saleae<R: Read + Drop, W: Write, E: Write>(
-    alloc: Global,
-    options: &SaleaeOptions,
-    reader: R,
-    out: &mut W,
-    err: &mut E,
-) -> Result<bool, bool> {
-    let mut records = records_of(alloc, reader);
-    match import_table(options, &mut records, out) {
-        Ok(imported) => Ok(end(Notes::of(&imported), out, err)),
-        Err(fault) => Err(complain_of_table(fault, &records, err)),
-    }
-}
-
-/// Imports the table of edges that the reader has left, and answers whether that was done.
-fn run_edges<R: Read + Drop, W: Write, E: Write>(
-    alloc: Global,
-    options: &EdgesOptions,
-    reader: R,
-    out: &mut W,
-    err: &mut E,
-) -> bool {
-    let mut front = Fronted::new(reader);
-    match read_edges(alloc, options, &mut front, out, err) {
-        Ok(done) => done,
-        Err(is_other) => refuse_other(is_other, &mut front, Kind::Edges, err),
-    }
-}
-
-/// Does that, but for the end of the line on a refusal.
-///
-/// # Errors
-///
-/// It is refused: whether another command may read it.
-fn read_edges<R: Read + Drop, W: Write, E: Write>(
-    alloc: Global,
-    options: &EdgesOptions,
-    reader: R,
-    out: &mut W,
-    err: &mut E,
-) -> Result<bool, bool> {
-    let mut records = records_of(alloc, reader);
-    match import_edge_records(alloc, options, &mut records, out) {
-        Ok(imported) => Ok(end(Notes::of(&imported), out, err)),
-        Err(fault) => Err(complain_of_edges(options, fault, &records, err)),
-    }
-}
-
-/// Imports the dump that the reader has left.
-fn run_vcd<R: Read + Drop, W: Write, E: Write>(
-    alloc: Global,
-    options: &VcdOptions,
-    reader: R,
-    out: &mut W,
-    err: &mut E,
-) -> bool {
-    let mut front = Fronted::new(reader);
-    let fault = match import_vcd(alloc, options, &mut front, out) {
-        Ok(imported) => return end(Notes::of(&imported), out, err),
-        Err(fault) => fault,
-    };
-    say_fault(&fault, err);
-    let is_other = matches!(
-        fault,
-        VcdFault::Form {
-            fault: DumpFault::NoCommand,
-            ..
-        }
-    );
-    refuse_other(is_other, &mut front, Kind::Dump, err)
-}
-
-/// Imports the log that the reader has left.
-fn run_messages<R: Read + Drop, W: Write, E: Write>(
-    alloc: Global,
-    options: &MessagesOptions,
-    reader: R,
-    out: &mut W,
-    err: &mut E,
-) -> bool {
-    let mut front = Fronted::new(reader);
-    let fault = match import_messages(alloc, options, &mut front, out) {
-        Ok(imported) => return end(Notes::of_messages(&imported), out, err),
-        Err(fault) => fault,
-    };
-    say_fault(&fault, err);
-    let is_other = matches!(fault, MessagesFault::BadLine { is_first: true, .. });
-    refuse_other(is_other, &mut front, Kind::Log, err)
-}
-
-/// Ends the line on an export that is refused, of which a command reads this kind, and answers that
-/// it isn't imported. Where it may be for another command, the line says so.
-fn refuse_other<R: Read, E: Write>(
-    is_other: bool,
-    front: &mut Fronted<R>,
-    own: Kind,
-    err: &mut E,
-) -> bool {
-    let kind = match is_other {
-        true => front.other_kind(own),
-        false => None,
-    };
-    end_line(kind, err);
+    end_line(other, err);
     false
+}
+
+/// Does that, but for the end of the line on a refusal, and for all lines of an import.
+///
+/// # Errors
+///
+/// It is refused: whether another command may read it.
+fn read_import<R: Read + Drop, W: Write, E: Write>(
+    alloc: Global,
+    kind: Kind,
+    options: &Options,
+    reader: R,
+    out: &mut W,
+    err: &mut E,
+) -> Result<Imported, bool> {
+    match kind {
+        Kind::Trace => match import_sigrok(alloc, options, reader, out) {
+            Ok(imported) => Ok(imported),
+            Err(fault) => Err(complain_of_trace(&fault, err)),
+        },
+        Kind::Dump => match import_vcd(alloc, options, reader, out) {
+            Ok(imported) => Ok(imported),
+            Err(fault) => Err(complain_of_dump(&fault, err)),
+        },
+        Kind::Log => match import_messages(alloc, options, reader, out) {
+            Ok(imported) => Ok(imported),
+            Err(fault) => Err(complain_of_log(&fault, err)),
+        },
+        _ => read_records(alloc, kind, options, reader, out, err),
+    }
+}
+
+/// Does that for a kind that consists of records.
+fn read_records<R: Read + Drop, W: Write, E: Write>(
+    alloc: Global,
+    kind: Kind,
+    options: &Options,
+    reader: R,
+    out: &mut W,
+    err: &mut E,
+) -> Result<Imported, bool> {
+    let mut records = records_of(alloc, reader);
+    match kind {
+        Kind::Table => match import_table(options, &mut records, out) {
+            Ok(imported) => Ok(imported),
+            Err(fault) => Err(complain_of_table(fault, &records, err)),
+        },
+        Kind::Edges => match import_edge_records(alloc, options, &mut records, out) {
+            Ok(imported) => Ok(imported),
+            Err(fault) => Err(complain_of_edges(options, fault, &records, err)),
+        },
+        _ => match import_records(alloc, options, &mut records, out) {
+            Ok(imported) => Ok(imported),
+            Err(fault) => Err(complain(fault, &records, err)),
+        },
+    }
 }
 
 /// Prints the manual, or a part of it.

@@ -6,10 +6,10 @@ use super::command_line::{
 use super::refusal::{Refusal, ValueFault};
 use super::task::is_line_name;
 use clap::error::ErrorKind;
-use command_words::{Line, Named, Program, line_on_refused, read, row_of};
+use command_words::{Line, Named, Program, line_on_refused, line_on_unopened, read, row_of};
 use mdb_import_shared::{read_end, write_refusal};
 use std::alloc::Global;
-use std::io::Write;
+use std::io::{self, Write};
 
 /// Ends the output of words that are refused, so that no checker takes it, and writes the line on
 /// them. Words that ask for help or for the version write nothing but that line.
@@ -27,6 +27,19 @@ pub(crate) fn refuse<W: Write, E: Write>(
         }
     }
     line_on(alloc, program(), refusal, words).tell(err);
+}
+
+/// Writes the line on the file that the words name, which can't be opened for this reason, and ends
+/// the output as that of a refused export.
+pub fn refuse_file<W: Write, E: Write>(
+    words: &[String],
+    file: &str,
+    error: &io::Error,
+    out: &mut W,
+    err: &mut E,
+) {
+    let _ = write_refusal(out);
+    line_on_unopened(program(), words, file, error).tell(err);
 }
 
 /// The line on words that are refused. They are read once more to see which word it is.

@@ -6,29 +6,16 @@ use super::command_line::{
 };
 use super::refusal::{Refusal, ValueFault};
 use clap::error::ErrorKind;
-use command_words::{Named, manual_asked, read};
-use mdb_import_levels::{EdgesOptions, Inverted, VcdOptions};
-use mdb_import_records::{MessagesOptions, RowsOptions, SaleaeOptions, TimeOf};
-use mdb_import_shared::{Unit, read_end};
-use mdb_import_sigrok::SigrokOptions;
+use command_words::{Named, manual_asked, read, read_accepted};
+use mdb_import_shared::{Inverted, Kind, Options, Part, TimeOf, Unit, read_end};
 use mdb_words::{Span, Time};
-use std::alloc::Global;
+use std::alloc::{AllocError, Global};
 
 /// What the words of a command line ask for.
 #[derive(Drop)]
 pub(crate) enum Task {
-    /// `rows`: the import of rows, with these options.
-    Rows(RowsOptions),
-    /// `sigrok`: the import of a trace, with these.
-    Sigrok(SigrokOptions),
-    /// `saleae`: the import of an analyser's table.
-    Saleae(SaleaeOptions),
-    /// `edges`: the import of a table of edges.
-    Edges(EdgesOptions),
-    /// `vcd`: the import of a value change dump.
-    Vcd(VcdOptions),
-    /// `messages`: the import of a sniffer's log.
-    Messages(MessagesOptions),
+    /// The import of an export of this kind, with these options.
+    Import(Kind, Options),
     /// `manual`: this part of it, or, where there is none, the whole manual.
     Manual(Option<&'static str>),
 }
@@ -42,127 +29,67 @@ pub(crate) fn task_of(alloc: Global, words: &[String]) -> Result<Task, Refusal> 
     }
 }
 
-/// What the words ask for of which this was read.
-fn task_in(alloc: Global, found: &Named<'_>) -> Result<Task, Refusal> {
-    match found.command() {
-        "rows" => Ok(Task::Rows(rows_options(alloc, found)?)),
-        "sigrok" => Ok(Task::Sigrok(sigrok_options(found)?)),
-        "saleae" => Ok(Task::Saleae(saleae_options(alloc, found)?)),
-        "edges" => Ok(Task::Edges(edges_options(alloc, found)?)),
-        "vcd" => Ok(Task::Vcd(vcd_options(alloc, found)?)),
-        "messages" => Ok(Task::Messages(messages_options(alloc, found)?)),
-        "manual" => match manual_asked(program(), found, COMMAND) {
-            Ok(part) => Ok(Task::Manual(part)),
-            Err(kind) => Err(Refusal::Words(kind)),
-        },
-        _ => Err(Refusal::Words(ErrorKind::InvalidSubcommand)),
+/// The file that the words name, the program's name first: what is read in place of standard input.
+/// `None` where they name none, and where they are refused.
+///
+/// # Errors
+///
+/// Memory was refused.
+pub fn file_named<'a>(alloc: Global, words: &'a [String]) -> Result<Option<&'a str>, AllocError> {
+    let Some(found) = read_accepted(alloc, program(), words)? else {
+        return Ok(None);
+    };
+    match task_in(alloc, &found) {
+        Ok(_) => Ok(found.file()),
+        Err(Refusal::Words(ErrorKind::OutOfMemory)) => Err(AllocError),
+        Err(_) => Ok(None),
     }
 }
 
-/// What the options of `rows` ask for.
-fn rows_options(alloc: Global, found: &Named<'_>) -> Result<RowsOptions, Refusal> {
-    let unit = unit_in(found)?;
-    let Common {
-        controller,
-        peripheral,
-        from,
-        until,
-    } = common_in(alloc, found)?;
-    Ok(RowsOptions {
-        unit,
-        controller,
-        peripheral,
-        decimal: found.is_used(DECIMAL),
-        from,
-        until,
-    })
+/// What the words ask for of which this was read.
+fn task_in(alloc: Global, found: &Named<'_>) -> Result<Task, Refusal> {
+    let kind = match found.command() {
+        "rows" => Kind::Rows,
+        "sigrok" => Kind::Trace,
+        "saleae" => Kind::Table,
+        "edges" => Kind::Edges,
+        "vcd" => Kind::Dump,
+        "messages" => Kind::Log,
+        "manual" => {
+            return match manual_asked(program(), found, COMMAND) {
+                Ok(part) => Ok(Task::Manual(part)),
+                Err(kind) => Err(Refusal::Words(kind)),
+            };
+        }
+        _ => return Err(Refusal::Words(ErrorKind::InvalidSubcommand)),
+    };
+    Ok(Task::Import(kind, options_in(alloc, found)?))
 }
 
-/// What the options of `sigrok` ask for.
-fn sigrok_options(found: &Named<'_>) -> Result<SigrokOptions, Refusal> {
-    Ok(SigrokOptions {
-        swap: found.is_used(SWAP),
-        skip_damaged: found.is_used(SKIP_DAMAGED),
-        from: time_in(found, FROM)?,
-        until: time_in(found, UNTIL)?,
-    })
-}
-
-/// What the options of `saleae` ask for.
-fn saleae_options(alloc: Global, found: &Named<'_>) -> Result<SaleaeOptions, Refusal> {
-    let break_length = length_in(found)?;
-    let Common {
-        controller,
-        peripheral,
-        from,
-        until,
-    } = common_in(alloc, found)?;
-    Ok(SaleaeOptions {
-        controller,
-        peripheral,
-        break_length,
-        skip_damaged: found.is_used(SKIP_DAMAGED),
-        from,
-        until,
-    })
-}
-
-/// What the options of `edges` ask for.
-fn edges_options(alloc: Global, found: &Named<'_>) -> Result<EdgesOptions, Refusal> {
-    let unit = unit_in(found)?.unwrap_or(Unit::Seconds);
-    let Common {
-        controller,
-        peripheral,
-        from,
-        until,
-    } = common_in(alloc, found)?;
-    Ok(EdgesOptions {
-        unit,
-        controller,
-        peripheral,
-        inverted: inverted_in(found)?,
-        skip_damaged: found.is_used(SKIP_DAMAGED),
-        from,
-        until,
-    })
-}
-
-/// What the options of `vcd` ask for.
-fn vcd_options(alloc: Global, found: &Named<'_>) -> Result<VcdOptions, Refusal> {
-    let Common {
-        controller,
-        peripheral,
-        from,
-        until,
-    } = common_in(alloc, found)?;
-    Ok(VcdOptions {
-        controller,
-        peripheral,
-        inverted: inverted_in(found)?,
-        skip_damaged: found.is_used(SKIP_DAMAGED),
-        from,
-        until,
-    })
-}
-
-/// What the options of `messages` ask for.
-fn messages_options(alloc: Global, found: &Named<'_>) -> Result<MessagesOptions, Refusal> {
+/// What the options of an import ask for. What its command doesn't know isn't used.
+fn options_in(alloc: Global, found: &Named<'_>) -> Result<Options, Refusal> {
     let unit = unit_in(found)?;
     let time_of = time_of_in(found)?;
-    let Common {
-        controller,
-        peripheral,
-        from,
-        until,
-    } = common_in(alloc, found)?;
-    Ok(MessagesOptions {
+    let break_length = length_in(found)?;
+    let controller = name_in(found, CONTROLLER)?;
+    let peripheral = name_in(found, PERIPHERAL)?;
+    if controller.is_some() && controller == peripheral {
+        return Err(Refusal::Value(ValueFault::Name));
+    }
+    Ok(Options {
         unit,
-        controller,
-        peripheral,
-        decimal: found.is_used(DECIMAL),
         time_of,
-        from,
-        until,
+        break_length,
+        controller: owned(alloc, controller)?,
+        peripheral: owned(alloc, peripheral)?,
+        part: Part {
+            from: time_in(found, FROM)?,
+            until: time_in(found, UNTIL)?,
+        },
+        inverted: inverted_in(found)?,
+        decimal: found.is_used(DECIMAL),
+        skip_damaged: found.is_used(SKIP_DAMAGED),
+        swap: found.is_used(SWAP),
     })
 }
 
@@ -193,30 +120,6 @@ fn time_of_in(found: &Named<'_>) -> Result<TimeOf, Refusal> {
         Some("last") => Ok(TimeOf::Last),
         Some(_) => Err(Refusal::Value(ValueFault::TimeOf)),
     }
-}
-
-/// What the options of most imports tell: what the lines are called, and the ends of the part.
-#[derive(Drop)]
-struct Common {
-    controller: Option<String>,
-    peripheral: Option<String>,
-    from: Option<u64>,
-    until: Option<u64>,
-}
-
-/// What these options tell.
-fn common_in(alloc: Global, found: &Named<'_>) -> Result<Common, Refusal> {
-    let controller = name_in(found, CONTROLLER)?;
-    let peripheral = name_in(found, PERIPHERAL)?;
-    if controller.is_some() && controller == peripheral {
-        return Err(Refusal::Value(ValueFault::Name));
-    }
-    Ok(Common {
-        controller: owned(alloc, controller)?,
-        peripheral: owned(alloc, peripheral)?,
-        from: time_in(found, FROM)?,
-        until: time_in(found, UNTIL)?,
-    })
 }
 
 /// Which lines are read upside down.

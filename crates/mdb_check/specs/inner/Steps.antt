@@ -1,6 +1,6 @@
 -- What a follower stands for that heeds the feature levels. This file serves private functions and
 -- proofs: no public clause cites it.
-use Rattle.std.specs.Prelude.{◌≡◌, List, ◌∷◌, ◌++◌, length, true, Some}
+use Rattle.std.specs.Prelude.{◌≡◌, List, [], ◌∷◌, ◌++◌, length, true, Some}
 use Rattle.mdb_words.specs.declared.event.Event.{Event}
 use Rattle.mdb_bus.specs.declared.levels.Levels.{Levels}
 use Rattle.mdb_bus.specs.declared.scope.Scope.{Scope}
@@ -11,6 +11,8 @@ use Rattle.mdb_follow.specs.Offences.{IsOffence}
 use Rattle.mdb_verdict.specs.Ending.{HasFollowedRows}
 use Rattle.mdb_check.specs.declared.judging.Judging.{Judging}
 use Rattle.mdb_check.specs.declared.judging.Met.{Met}
+use Rattle.mdb_check.specs.Spared.{before_last}
+use Rattle.mdb_check.specs.Unfollowed.{unfollowed}
 use Rattle.mdb_check.specs.Unjudged.{IsJudged, is_joined, known_before, last_begun, reported, unjudged}
 
 -- The rows of a recording that is taken so were followed. Of one that isn't joined the levels don't
@@ -23,11 +25,13 @@ pub record HasFollowed (scope : Scope) (readers : Levels) (judging : Judging)
       → judging.reported ≡ reported (known_before scope readers) (acts_of pieces)
   pub begun : judging.joined ≡ true → judging.begun ≡ last_begun rows
 
--- and the last of them was kept
+-- and the last two of them were kept, and with which byte the last block begins
 pub record HasTaken (scope : Scope) (readers : Levels) (judging : Judging)
     (rows : List Event) : Type 0 where
   pub is : HasFollowed scope readers judging rows
   pub last : judging.last ≡ last_of rows
+  pub earlier : judging.earlier ≡ before_last rows
+  pub begun : judging.begun ≡ last_begun rows
 
 -- A row after these was refused.
 pub record HasRefused (scope : Scope) (readers : Levels) (judging : Judging) (rows : List Event)
@@ -60,4 +64,7 @@ pub record Meets (scope : Scope) (readers : Levels) (judging : Judging) (rows : 
   pub unjudged : met.unjudged ≡ unjudged judging.joined judging.reported met.offence.rule
       met.offence.blame judging.begun
   pub there : met.row ≡ row
+  pub unfollowed : met.unfollowed ≡ unfollowed met.offence.rule met.offence.blame
+      (last_begun (rows ++ row ∷ []))
+  pub earlier : met.earlier ≡ before_last rows
   pub last : met.last ≡ last_of rows

@@ -1,9 +1,10 @@
 //! Why a table of edges gives no rows.
 
-use crate::fault::{Failure, LineRefusal, Wire};
+use crate::fault::{Failure, LineRefusal};
+use mdb_import_shared::letter_of;
 use mdb_records::ReadFault;
+use mdb_words::Line;
 use std::alloc::AllocError;
-use std::fmt;
 use thiserror::Error;
 
 /// Why a table of edges gives no rows: the first fault in the order of its records.
@@ -28,14 +29,15 @@ pub enum EdgesFault {
         fault: OrderFault,
     },
     /// A field that is no level.
-    #[error("record {number} at {micros} on {line}: wanted a level, 0 or 1")]
+    #[error("record {number} at {micros} on line {l}: \
+         wanted a level, 0 or 1", l = letter_of(.line))]
     Level {
         /// The number of its record, counted from 1.
         number: u64,
         /// The time of that record in whole microseconds.
         micros: u64,
         /// Of which line.
-        line: Wire,
+        line: Line,
     },
     /// Levels of a line that are no words and breaks.
     #[error("record {0}")]
@@ -76,42 +78,24 @@ impl From<Failure> for EdgesFault {
 }
 
 /// What is wrong with a record by itself.
-#[derive(Clone, Copy, PartialEq, Eq, Debug)]
+#[derive(Clone, Copy, PartialEq, Eq, Debug, Error)]
 pub enum FormFault {
     /// There is no header.
+    #[error("wanted a header that names the columns")]
     NoHeader,
     /// The header hasn't one column of each line.
+    #[error("wanted one column of each line: as --controller and --peripheral say, or M and S")]
     Columns,
     /// It hasn't as many fields as the header.
+    #[error("wanted as many fields as the header has")]
     FieldCount,
     /// Its first field is no time.
+    #[error("wanted a time: up to 21 digits, perhaps with decimals")]
     BadTime,
     /// The time has more than 18 digits of microseconds.
+    #[error("wanted a time of at most 18 digits of microseconds")]
     LongTime,
 }
-
-impl FormFault {
-    /// What is told of it.
-    fn text(self) -> &'static str {
-        match self {
-            FormFault::NoHeader => "wanted a header that names the columns",
-            FormFault::Columns => {
-                "wanted one column of each line: as --controller and --peripheral say, or M and S"
-            }
-            FormFault::FieldCount => "wanted as many fields as the header has",
-            FormFault::BadTime => "wanted a time: up to 21 digits, perhaps with decimals",
-            FormFault::LongTime => "wanted a time of at most 18 digits of microseconds",
-        }
-    }
-}
-
-impl fmt::Display for FormFault {
-    fn fmt<W: fmt::Write>(&self, f: &mut fmt::Formatter<W>) -> fmt::Result {
-        f.write_str(self.text())
-    }
-}
-
-impl std::error::Error for FormFault {}
 
 /// What is wrong with the time of a record.
 #[derive(Clone, Copy, PartialEq, Eq, Debug, Error)]

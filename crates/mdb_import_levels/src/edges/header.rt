@@ -1,9 +1,8 @@
 //! The header of a table of edges.
 
-use super::EdgesOptions;
 use super::fault::FormFault;
 use super::record::field_of;
-use mdb_import_shared::{is_letter, read_number};
+use mdb_import_shared::{Options, is_letter, read_number};
 use mdb_records::Record;
 
 /// Which columns of a table tell what. The first one tells the times.
@@ -18,10 +17,7 @@ pub(super) struct Columns {
 }
 
 /// The columns that a header names.
-pub(super) fn columns_of(
-    options: &EdgesOptions,
-    header: &Record<'_>,
-) -> Result<Columns, FormFault> {
+pub(super) fn columns_of(options: &Options, header: &Record<'_>) -> Result<Columns, FormFault> {
     if header.len() == 0 || read_number(field_of(header, 0)).is_some() {
         return Err(FormFault::NoHeader);
     }

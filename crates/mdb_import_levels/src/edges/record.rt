@@ -2,13 +2,12 @@
 
 ghost use Rattle.std.specs.Prelude.{◌≤◌};
 
-use super::EdgesOptions;
 use super::fault::{EdgesFault, FormFault, OrderFault};
 use super::header::Columns;
-use crate::fault::Wire;
 use crate::instant::Instant;
-use mdb_import_shared::{Unit, bare, power, read_number};
+use mdb_import_shared::{Options, Unit, bare, power, read_number};
 use mdb_records::Record;
+use mdb_words::Line;
 
 /// The levels of both lines from an instant on.
 #[derive(Clone, Copy)]
@@ -29,7 +28,7 @@ pub(super) fn field_of<'a>(row: &Record<'a>, place: usize) -> &'a [u8] {
 
 /// What the record of a number tells, whose instant isn't before the earliest that it may have.
 pub(super) fn read_record(
-    options: &EdgesOptions,
+    options: &Options,
     columns: &Columns,
     number: u64,
     earliest: u128,
@@ -39,7 +38,7 @@ pub(super) fn read_record(
         let fault = FormFault::FieldCount;
         return Err(EdgesFault::Form { number, fault });
     }
-    let at = match instant_of(options.unit, field_of(row, 0)) {
+    let at = match instant_of(options.unit.unwrap_or(Unit::Seconds), field_of(row, 0)) {
         Ok(at) => at,
         Err(fault) => return Err(EdgesFault::Form { number, fault }),
     };
@@ -47,13 +46,13 @@ pub(super) fn read_record(
         options.inverted.controller,
         field_of(row, columns.controller),
     ) else {
-        return Err(no_level(number, at, Wire::Controller));
+        return Err(no_level(number, at, Line::Controller));
     };
     let Some(peripheral) = level_of(
         options.inverted.peripheral,
         field_of(row, columns.peripheral),
     ) else {
-        return Err(no_level(number, at, Wire::Peripheral));
+        return Err(no_level(number, at, Line::Peripheral));
     };
     if at.parts() < earliest {
         return Err(early(number, at, earliest));
@@ -99,7 +98,7 @@ fn scale_of(unit: Unit) -> u128
 }
 
 /// The fault of the record of a number that tells no level of a line.
-fn no_level(number: u64, at: Instant, line: Wire) -> EdgesFault {
+fn no_level(number: u64, at: Instant, line: Line) -> EdgesFault {
     EdgesFault::Level {
         number,
         micros: at.time().value(),

@@ -1,11 +1,11 @@
 //! A dump, word by word.
 
-use super::VcdOptions;
 use super::fault::{DumpFault, LevelFault, Stop};
 use super::head::{Head, copy_of};
 use super::values::{Keyword, Value, instant_of, keyword_of, value_of};
 use crate::instant::Instant;
 use crate::lines::Lines;
+use mdb_import_shared::Options;
 use mdb_words::Line;
 use std::alloc::Global;
 
@@ -30,7 +30,7 @@ pub(super) struct Dump<'a> {
     /// The number of the line of the text, counted from 1.
     pub(super) number: u64,
     alloc: Global,
-    options: &'a VcdOptions,
+    options: &'a Options,
     /// Among what it goes on.
     mode: Mode,
     /// What the header told.
@@ -49,7 +49,7 @@ pub(super) struct Dump<'a> {
 
 impl<'a> Dump<'a> {
     /// Before the first word: it is time 0.
-    pub(super) fn new(alloc: Global, options: &'a VcdOptions) -> Dump<'a> {
+    pub(super) fn new(alloc: Global, options: &'a Options) -> Dump<'a> {
         Dump {
             number: 1,
             alloc,

@@ -1,9 +1,9 @@
 //! Why a dump gives no rows.
 
-use crate::fault::{Failure, LineRefusal, Wire};
+use crate::fault::{Failure, LineRefusal};
+use mdb_import_shared::letter_of;
 use mdb_words::Line;
 use std::alloc::{AllocError, AllocFailed};
-use std::fmt;
 use thiserror::Error;
 
 /// Why a dump gives no rows: the first fault in the order of its text.
@@ -27,14 +27,14 @@ pub enum VcdFault {
         micros: u64,
     },
     /// A value that is no level of a line.
-    #[error("line {number} at {micros} on {line}: {fault}")]
+    #[error("line {number} at {micros} on line {l}: {fault}", l = letter_of(.line))]
     Level {
         /// The line of the text, counted from 1.
         number: u64,
         /// Its time in whole microseconds.
         micros: u64,
         /// On which line of the bus.
-        line: Wire,
+        line: Line,
         /// What is wrong.
         fault: LevelFault,
     },
@@ -54,74 +54,54 @@ pub enum VcdFault {
 }
 
 /// What is wrong with a word, or with the end of the text.
-#[derive(Clone, Copy, PartialEq, Eq, Debug)]
+#[derive(Clone, Copy, PartialEq, Eq, Debug, Error)]
 pub enum DumpFault {
     /// A word of the header that begins no command.
+    #[error("wanted a command of the header, up to $enddefinitions $end")]
     NoCommand,
     /// The timescale isn't 1, 10 or 100 of a unit.
+    #[error("wanted a timescale of 1, 10 or 100 s, ms, us, ns, ps or fs")]
     BadTimescale,
     /// Another timescale.
+    #[error("wanted one timescale, and this is another one")]
     SecondTimescale,
     /// A scope that isn't a type and a name.
+    #[error("wanted a type and a name of the scope")]
     BadScope,
     /// The end of a scope, and none is open.
+    #[error("wanted an open scope before $upscope")]
     NoScope,
     /// A variable that isn't a type, a size, a code and a name.
+    #[error("wanted a type, a size, a code and a name of the variable")]
     BadVariable,
     /// A variable of a line that hasn't one bit.
+    #[error("wanted a variable of one bit for the line")]
     WideVariable,
     /// Two variables of a line, with different codes.
+    #[error("wanted one variable of each line: several are called so; give a path")]
     SecondVariable,
     /// The header has no timescale.
+    #[error("wanted a timescale in the header")]
     NoTimescale,
     /// The header hasn't a variable of each line.
+    #[error("wanted one variable of each line: as --controller and --peripheral say, or M and S")]
     NoVariable,
     /// Both lines are one variable.
+    #[error("wanted another variable for each line, and it is the same")]
     SameCode,
     /// A time that isn't digits.
+    #[error("wanted a time: digits after #")]
     BadTime,
     /// The time has more than 18 digits of microseconds.
+    #[error("wanted a time of at most 18 digits of microseconds")]
     LongTime,
     /// A word that is no time, no change and no command of the body.
+    #[error("wanted a time, a change of a value, or a command of the dump")]
     NoEntry,
     /// The dump ends within its header, a comment or a change.
+    #[error("wanted more of the dump: it is cut")]
     Cut,
 }
-
-impl DumpFault {
-    /// What is told of it.
-    fn text(self) -> &'static str {
-        match self {
-            DumpFault::NoCommand => "wanted a command of the header, up to $enddefinitions $end",
-            DumpFault::BadTimescale => "wanted a timescale of 1, 10 or 100 s, ms, us, ns, ps or fs",
-            DumpFault::SecondTimescale => "wanted one timescale, and this is another one",
-            DumpFault::BadScope => "wanted a type and a name of the scope",
-            DumpFault::NoScope => "wanted an open scope before $upscope",
-            DumpFault::BadVariable => "wanted a type, a size, a code and a name of the variable",
-            DumpFault::WideVariable => "wanted a variable of one bit for the line",
-            DumpFault::SecondVariable => {
-                "wanted one variable of each line: several are called so; give a path"
-            }
-            DumpFault::NoTimescale => "wanted a timescale in the header",
-            DumpFault::NoVariable => {
-                "wanted one variable of each line: as --controller and --peripheral say, or M and S"
-            }
-            DumpFault::SameCode => "wanted another variable for each line, and it is the same",
-            DumpFault::BadTime => "wanted a time: digits after #",
-            DumpFault::LongTime => "wanted a time of at most 18 digits of microseconds",
-            DumpFault::NoEntry => "wanted a time, a change of a value, or a command of the dump",
-            DumpFault::Cut => "wanted more of the dump: it is cut",
-        }
-    }
-}
-
-impl fmt::Display for DumpFault {
-    fn fmt<W: fmt::Write>(&self, f: &mut fmt::Formatter<W>) -> fmt::Result {
-        f.write_str(self.text())
-    }
-}
-
-impl std::error::Error for DumpFault {}
 
 /// What is wrong with a value of a line.
 #[derive(Clone, Copy, PartialEq, Eq, Debug, Error)]
@@ -189,7 +169,7 @@ impl Stop {
             Stop::Level(line, micros, fault) => VcdFault::Level {
                 number,
                 micros,
-                line: Wire::from(line),
+                line,
                 fault,
             },
             Stop::Memory => VcdFault::Memory,

@@ -1,8 +1,8 @@
 //! The header of a dump.
 
-use super::VcdOptions;
 use super::fault::{DumpFault, Stop};
 use super::values::{Keyword, scale_of};
+use mdb_import_shared::Options;
 use std::alloc::{AllocError, Global};
 
 /// What a header has told so far.
@@ -72,7 +72,7 @@ impl Head {
     pub(super) fn take_command(
         &mut self,
         alloc: Global,
-        options: &VcdOptions,
+        options: &Options,
         keyword: Keyword,
         words: &[Vec<u8>],
     ) -> Result<(), Stop> {
@@ -134,7 +134,7 @@ impl Head {
     fn take_variable(
         &mut self,
         alloc: Global,
-        options: &VcdOptions,
+        options: &Options,
         size: &[u8],
         code: &[u8],
         words: &[Vec<u8>],

@@ -1,9 +1,9 @@
 //! The text of a dump, cut into words.
 
-use super::VcdOptions;
 use super::dump::Dump;
 use super::fault::{Stop, VcdFault};
 use crate::lines::Lines;
+use mdb_import_shared::Options;
 use std::alloc::Global;
 use std::io::{ErrorKind, Read};
 
@@ -22,7 +22,7 @@ struct Text<'a> {
 /// Both lines of the bus, whose levels are all those of the dump that a reader has left.
 pub(super) fn lines_of<R: Read + Drop>(
     alloc: Global,
-    options: &VcdOptions,
+    options: &Options,
     reader: R,
 ) -> Result<Lines, VcdFault> {
     let mut reader = reader;

@@ -98,8 +98,8 @@ pub enum MessagesFault {
     #[error("the input can't be read")]
     Read,
     /// The writer failed.
-    #[error("the output can't be written")]
-    Write,
+    #[error("{0}")]
+    Write(#[from] WriteFailed),
     /// Memory was refused.
     #[error("out of memory")]
     Memory,
@@ -111,11 +111,5 @@ impl From<ReadFault> for MessagesFault {
             ReadFault::Read => MessagesFault::Read,
             ReadFault::Memory => MessagesFault::Memory,
         }
-    }
-}
-
-impl From<WriteFailed> for MessagesFault {
-    fn from(_: WriteFailed) -> MessagesFault {
-        MessagesFault::Write
     }
 }

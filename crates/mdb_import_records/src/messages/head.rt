@@ -1,8 +1,7 @@
 //! What stands before the words of a line: when, and who spoke.
 
 use super::fault::MessageFault;
-use super::options::MessagesOptions;
-use mdb_import_shared::{RecordFault, Times, time_length};
+use mdb_import_shared::{Options, RecordFault, Times, time_length};
 use mdb_words::{Line, Time};
 
 /// How far a line is read.
@@ -39,7 +38,7 @@ impl<'a> Front<'a> {
     /// and who spoke.
     pub(crate) fn read(
         &mut self,
-        options: &MessagesOptions,
+        options: &Options,
         times: &mut Times,
     ) -> Result<(Time, Line), MessageFault> {
         for _ in 0..u64::MAX {
@@ -56,7 +55,7 @@ impl<'a> Front<'a> {
     }
 
     /// Passes the name of who spoke, or that of the other line after a `>`, if it comes next.
-    fn pass_name(&mut self, options: &MessagesOptions) -> bool {
+    fn pass_name(&mut self, options: &Options) -> bool {
         let Some((line, rest)) = name_at(options, self.rest, self.at.is_some()) else {
             return false;
         };
@@ -102,11 +101,7 @@ impl<'a> Front<'a> {
 
 /// The line that the front of a text names, and what follows the name: the longest one counts. One
 /// that begins with a digit counts only after the time.
-fn name_at<'a>(
-    options: &MessagesOptions,
-    text: &'a [u8],
-    has_time: bool,
-) -> Option<(Line, &'a [u8])> {
+fn name_at<'a>(options: &Options, text: &'a [u8], has_time: bool) -> Option<(Line, &'a [u8])> {
     let names = [
         (Line::Controller, "M".as_bytes()),
         (Line::Controller, "m".as_bytes()),

@@ -3,11 +3,10 @@
 use super::fault::{Found, MessageFault, MessagesFault};
 use super::head::Front;
 use super::log::Log;
-use super::options::{MessagesOptions, TimeOf};
 use super::words::{Words, are_likely_decimal};
 use crate::frame::{Format, Rows, import};
 use crate::named::can_be_titles;
-use mdb_import_shared::{Imported, Part, RecordFault, Times};
+use mdb_import_shared::{Imported, Options, RecordFault, TimeOf, Times};
 use mdb_words::{Event, Line, Time, Word};
 use std::alloc::Global;
 use std::io::{Read, Write};
@@ -17,19 +16,6 @@ const WORD: u64 = 1_146;
 
 /// By how many microseconds a message may begin later than the log says.
 const MOST_MOVED: u64 = 50_000;
-
-/// What the import of a log reports in addition to the rows.
-#[derive(Debug, Drop)]
-pub struct MessagesImported {
-    /// What every import reports.
-    pub imported: Imported,
-    /// How many messages begin later than the log says.
-    pub moved: u64,
-    /// By how many microseconds at most.
-    pub most: u64,
-    /// How many messages there are.
-    pub messages: u64,
-}
 
 /// Imports the log that a reader has left, and writes its rows as it reads.
 ///
@@ -42,14 +28,10 @@ pub struct MessagesImported {
 /// took a front of what is written where it doesn't fail.
 pub fn import_messages<R: Read + Drop, W: Write>(
     alloc: Global,
-    options: &MessagesOptions,
+    options: &Options,
     reader: R,
     writer: &mut W,
-) -> Result<MessagesImported, MessagesFault> {
-    let part = Part {
-        from: options.from,
-        until: options.until,
-    };
+) -> Result<Imported, MessagesFault> {
     let mut reading = Reading {
         options,
         times: Times::new(options.unit),
@@ -61,20 +43,16 @@ pub fn import_messages<R: Read + Drop, W: Write>(
         messages: 0,
     };
     let mut log = Log::new(alloc, reader);
-    let mut imported = import(part, &mut log, &mut reading, writer)?;
+    let mut imported = import(options.part, &mut log, &mut reading, writer)?;
     imported.midnights = reading.times.midnights();
-    Ok(MessagesImported {
-        imported,
-        moved: reading.moved,
-        most: reading.most,
-        messages: reading.messages,
-    })
+    imported.moved = Some((reading.moved, reading.most));
+    Ok(imported)
 }
 
 /// How far a log is read.
 #[derive(Drop)]
 struct Reading<'a> {
-    options: &'a MessagesOptions,
+    options: &'a Options,
     // The times of all messages.
     times: Times,
     // Whether a line stood there that isn't passed over.

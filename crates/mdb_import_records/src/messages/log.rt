@@ -63,6 +63,10 @@ impl<R: Read> Source for Log<R> {
         }
         Err(ReadFault::Read)
     }
+
+    fn bytes_ahead(&self) -> u64 {
+        (self.input.filled - self.input.at) as u64
+    }
 }
 
 /// What was read of a text, and what is still to come.

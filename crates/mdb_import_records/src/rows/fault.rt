@@ -24,8 +24,8 @@ pub enum ImportFault {
     #[error("the input can't be read")]
     Read,
     /// The writer failed.
-    #[error("the output can't be written")]
-    Write,
+    #[error("{0}")]
+    Write(#[from] WriteFailed),
     /// Memory was refused.
     #[error("out of memory")]
     Memory,
@@ -37,11 +37,5 @@ impl From<ReadFault> for ImportFault {
             ReadFault::Read => ImportFault::Read,
             ReadFault::Memory => ImportFault::Memory,
         }
-    }
-}
-
-impl From<WriteFailed> for ImportFault {
-    fn from(_: WriteFailed) -> ImportFault {
-        ImportFault::Write
     }
 }

@@ -1,10 +1,9 @@
 //! The import of rows.
 
 use super::fault::ImportFault;
-use super::options::RowsOptions;
 use super::record::{event_in, is_header, join, time_field};
 use crate::frame::{Format, Rows, import};
-use mdb_import_shared::{Imported, Part, RecordFault, Side, Times, expect_after, is_comment};
+use mdb_import_shared::{Imported, Options, RecordFault, Side, Times, expect_after, is_comment};
 use mdb_records::Records;
 use mdb_words::{Event, Time};
 use std::alloc::Global;
@@ -24,14 +23,10 @@ use std::io::{Read, Write};
 /// where the writer failed: then it took a front of what is written where it doesn't fail.
 pub fn import_records<R: Read + Drop, W: Write>(
     alloc: Global,
-    options: &RowsOptions,
+    options: &Options,
     records: &mut Records<R>,
     writer: &mut W,
 ) -> Result<Imported, ImportFault> {
-    let part = Part {
-        from: options.from,
-        until: options.until,
-    };
     let mut reading = Reading {
         options,
         comments: 0,
@@ -40,7 +35,7 @@ pub fn import_records<R: Read + Drop, W: Write>(
         last: None,
         line: Vec::new(alloc),
     };
-    let mut imported = import(part, records, &mut reading, writer)?;
+    let mut imported = import(options.part, records, &mut reading, writer)?;
     imported.midnights = reading.times.midnights();
     Ok(imported)
 }
@@ -48,7 +43,7 @@ pub fn import_records<R: Read + Drop, W: Write>(
 /// How far the records are read.
 #[derive(Drop)]
 struct Reading<'a> {
-    options: &'a RowsOptions,
+    options: &'a Options,
     // How many comments stand at the beginning.
     comments: u64,
     // Whether there was a record after them.

@@ -1,10 +1,9 @@
 //! One record: its text, and what its fields say.
 
-use super::options::RowsOptions;
 use crate::named::{can_be_titles, line_named};
 use mdb_import_shared::{
-    RecordFault, bare, is_letter, is_time_form, parted, read_length, read_word, separator_of,
-    three_of,
+    Options, RecordFault, bare, is_letter, is_time_form, parted, read_length, read_word,
+    separator_of, three_of,
 };
 use mdb_records::Record;
 use mdb_words::{Event, Time};
@@ -32,7 +31,7 @@ pub(crate) fn time_field(line: &[u8]) -> &[u8] {
 
 /// The event of a line whose time this is, or what is wrong with it.
 pub(crate) fn event_in(
-    options: &RowsOptions,
+    options: &Options,
     time: Result<Time, RecordFault>,
     line: &[u8],
 ) -> Result<Event, RecordFault> {
@@ -43,12 +42,7 @@ pub(crate) fn event_in(
 }
 
 /// The event at a time of two fields, or what is wrong with them.
-fn event_of(
-    options: &RowsOptions,
-    at: Time,
-    name: &[u8],
-    value: &[u8],
-) -> Result<Event, RecordFault> {
+fn event_of(options: &Options, at: Time, name: &[u8], value: &[u8]) -> Result<Event, RecordFault> {
     if let Some(line) = line_named(&options.controller, &options.peripheral, name) {
         let word = read_word(options.decimal, value)?;
         return Ok(Event::Word { at, line, word });
@@ -70,7 +64,7 @@ fn is_break(field: &[u8]) -> bool {
 /// Whether a line is that of a header: it has three fields or more, none of them empty or with the
 /// form of a time, no digit in the first and in the last, and of three the second names neither a
 /// line nor a break.
-pub(crate) fn is_header(options: &RowsOptions, line: &[u8]) -> bool {
+pub(crate) fn is_header(options: &Options, line: &[u8]) -> bool {
     if let Some((_, name, _, false)) = three_of(line) {
         let named = line_named(&options.controller, &options.peripheral, name);
         if named.is_some() || is_break(name) {

@@ -4,7 +4,6 @@ use super::columns::Column;
 use mdb_import_shared::RecordFault;
 use mdb_records::ReadFault;
 use mdb_writing::WriteFailed;
-use std::fmt;
 use thiserror::Error;
 
 /// What is told of a table without a header.
@@ -28,97 +27,59 @@ pub enum HeaderFault {
 }
 
 /// What is wrong with a record.
-#[derive(Clone, Copy, PartialEq, Eq, Debug)]
+#[derive(Clone, Copy, PartialEq, Eq, Debug, Error)]
 pub enum RowFault {
     /// It has more fields than the header, or fewer.
+    #[error("wanted as many fields as the header has")]
     FieldCount,
     /// Its time is before the time zero.
+    #[error("wanted no negative time: set the time zero to the start of the capture")]
     NegativeTime,
     /// Its time is no number.
+    #[error("wanted a time in seconds: up to 21 digits, perhaps with decimals after a point")]
     BadTime,
     /// Its time has more than 18 digits of microseconds.
+    #[error("wanted a time of at most 18 digits of microseconds")]
     LongTime,
     /// It is of another kind than `data`.
+    #[error("wanted the type data, which a word has")]
     BadKind,
     /// Its analyser is none of the two.
+    #[error("wanted M or S as the analyser, or a name given by --controller or --peripheral")]
     BadName,
     /// A parity is wrong, which nine bits don't have.
+    #[error("wanted no parity error: set the analyser to nine bits with no parity bit")]
     Parity,
     /// Its error is unknown.
+    #[error("wanted no error, or the error framing")]
     BadError,
     /// Its column for the mode bit shows neither that the bit is set nor that it isn't.
+    #[error("wanted true or false as the address, or nothing")]
     BadAddress,
     /// Its data aren't hexadecimal digits.
+    #[error("wanted data as 0x and 1 to 4 hexadecimal digits: export them as hexadecimal")]
     NoHex,
     /// Its data have more than nine bits, or more than eight where the mode bit stands elsewhere.
+    #[error("wanted data of at most 0x1FF, and of at most 0xFF beside a column address")]
     LongData,
     /// A peripheral's word has no stop bit.
+    #[error("wanted a stop bit: only the controller sends a break; \
+         --skip-damaged leaves out what is damaged")]
     PeripheralFraming,
     /// A word has no stop bit, and isn't 0.
+    #[error("wanted a stop bit: a word that isn't 0 is no break; \
+         --skip-damaged leaves out what is damaged")]
     Framing,
     /// A break, and its length wasn't given.
+    #[error("the table doesn't tell how long the break is: give --break MICROSECONDS")]
     NoLength,
     /// It is at the same microsecond as the row before it.
+    #[error("wanted a time after that of the row before it, and it is the same")]
     SameTime,
     /// It is earlier than the row before it.
+    #[error("wanted a later time than the row before it: sort the table by the start time")]
     EarlierTime,
 }
-
-impl RowFault {
-    /// What is told of it.
-    fn text(self) -> &'static str {
-        match self {
-            RowFault::FieldCount => "wanted as many fields as the header has",
-            RowFault::NegativeTime => {
-                "wanted no negative time: set the time zero to the start of the capture"
-            }
-            RowFault::BadTime => {
-                "wanted a time in seconds: up to 21 digits, perhaps with decimals after a point"
-            }
-            RowFault::LongTime => "wanted a time of at most 18 digits of microseconds",
-            RowFault::BadKind => "wanted the type data, which a word has",
-            RowFault::BadName => {
-                "wanted M or S as the analyser, or a name given by --controller or --peripheral"
-            }
-            RowFault::Parity => {
-                "wanted no parity error: set the analyser to nine bits with no parity bit"
-            }
-            RowFault::BadError => "wanted no error, or the error framing",
-            RowFault::BadAddress => "wanted true or false as the address, or nothing",
-            RowFault::NoHex => {
-                "wanted data as 0x and 1 to 4 hexadecimal digits: export them as hexadecimal"
-            }
-            RowFault::LongData => {
-                "wanted data of at most 0x1FF, and of at most 0xFF beside a column address"
-            }
-            RowFault::PeripheralFraming => {
-                "wanted a stop bit: only the controller sends a break; \
-                 --skip-damaged leaves out what is damaged"
-            }
-            RowFault::Framing => {
-                "wanted a stop bit: a word that isn't 0 is no break; \
-                 --skip-damaged leaves out what is damaged"
-            }
-            RowFault::NoLength => {
-                "the table doesn't tell how long the break is: give --break MICROSECONDS"
-            }
-            RowFault::SameTime => {
-                "wanted a time after that of the row before it, and it is the same"
-            }
-            RowFault::EarlierTime => {
-                "wanted a later time than the row before it: sort the table by the start time"
-            }
-        }
-    }
-}
-
-impl fmt::Display for RowFault {
-    fn fmt<W: fmt::Write>(&self, f: &mut fmt::Formatter<W>) -> fmt::Result {
-        f.write_str(self.text())
-    }
-}
-
-impl std::error::Error for RowFault {}
 
 impl From<RecordFault> for RowFault {
     fn from(fault: RecordFault) -> RowFault {
@@ -170,8 +131,8 @@ pub enum SaleaeFault {
     #[error("the input can't be read")]
     Read,
     /// The writer failed.
-    #[error("the output can't be written")]
-    Write,
+    #[error("{0}")]
+    Write(#[from] WriteFailed),
     /// Memory was refused.
     #[error("out of memory")]
     Memory,
@@ -183,11 +144,5 @@ impl From<ReadFault> for SaleaeFault {
             ReadFault::Read => SaleaeFault::Read,
             ReadFault::Memory => SaleaeFault::Memory,
         }
-    }
-}
-
-impl From<WriteFailed> for SaleaeFault {
-    fn from(_: WriteFailed) -> SaleaeFault {
-        SaleaeFault::Write
     }
 }

@@ -2,12 +2,11 @@
 
 use super::columns::{Columns, cell, read_columns, read_start};
 use super::fault::{RowFault, SaleaeFault};
-use super::options::SaleaeOptions;
 use super::seconds::read_seconds;
 use super::values::{is_framed, is_word_kind, read_value};
 use crate::frame::{Format, Rows, import};
 use crate::named::line_named;
-use mdb_import_shared::{Imported, Part, Place, expect_after, is_comment};
+use mdb_import_shared::{Imported, Options, Place, expect_after, is_comment};
 use mdb_records::{Record, Records};
 use mdb_words::{Event, Line, Time, Word};
 use std::io::{Read, Write};
@@ -26,27 +25,23 @@ use std::io::{Read, Write};
 /// is no row, so that no checker takes them for a whole recording. `Write` where the writer failed:
 /// then it took a front of what is written where it doesn't fail.
 pub fn import_table<R: Read + Drop, W: Write>(
-    options: &SaleaeOptions,
+    options: &Options,
     records: &mut Records<R>,
     writer: &mut W,
 ) -> Result<Imported, SaleaeFault> {
-    let part = Part {
-        from: options.from,
-        until: options.until,
-    };
     let mut reading = Reading {
         options,
         comments: 0,
         columns: None,
         last: None,
     };
-    import(part, records, &mut reading, writer)
+    import(options.part, records, &mut reading, writer)
 }
 
 /// How far a table is read.
 #[derive(Drop)]
 struct Reading<'a> {
-    options: &'a SaleaeOptions,
+    options: &'a Options,
     // How many comments stand before the header.
     comments: u64,
     // Where the columns are, once the header was read.

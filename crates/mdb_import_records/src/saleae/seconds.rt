@@ -33,10 +33,5 @@ fn shortened(field: &[u8]) -> (&[u8], &[u8]) {
 
 /// Whether a text has digits alone.
 fn are_digits(text: &[u8]) -> bool {
-    for byte in text {
-        if !byte.is_ascii_digit() {
-            return false;
-        }
-    }
-    true
+    text.iter().all(u8::is_ascii_digit)
 }

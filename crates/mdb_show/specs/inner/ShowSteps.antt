@@ -6,13 +6,12 @@ use Rattle.mdb_bus.specs.declared.act.Act.{Act}
 use Rattle.mdb_bus.specs.declared.act.Act.TheVariants as acts
 use Rattle.mdb_bus.specs.declared.bus.Bus.{Bus}
 use Rattle.mdb_bus.specs.declared.fault.LinkFault.{LinkFault}
-use Rattle.mdb_bus.specs.ActLists.{IsActList, Piece, events_of}
+use Rattle.mdb_bus.specs.ActLists.{Piece, events_of}
 use Rattle.mdb_bus.specs.Bus.{StandsFor, scope_of}
-use Rattle.mdb_bus.specs.LinkFaults.{IsLinkFault}
 use Rattle.mdb_verdict.specs.declared.fault.RunFault.{RunFault}
 use Rattle.mdb_verdict.specs.declared.fault.RunFault.TheVariants.{BadRow, TooLong, Read, Write, Memory}
 use Rattle.mdb_show.specs.declared.showing.Lines.{Lines}
-use Rattle.mdb_show.specs.Show.{IsShowingIn}
+use Rattle.mdb_show.specs.Show.{HasFaultLine, HasLines, IsShowingIn}
 use Rattle.mdb_writing.specs.Answers.{IsSent}
 use Rattle.mdb_writing.specs.Output.{Breaks, Output, Puts}
 use Rattle.mdb_show.specs.Lines.{LineForm, lines_of}
@@ -46,22 +45,6 @@ pub record HasShown (form : LineForm) (scope : Scope) (lines : Lines)
   pub closed : length (events_of (closed_pieces pieces)) ≡ lines.shown
   pub few : lines.shown ≤ lines.rows
   pub written : Puts before after (lines_of form (closed_pieces pieces))
-
--- These rows have an act list, and the text is the lines of its closed pieces.
-pub record HasLines (form : LineForm) (scope : Scope) (rows : List Event) (text : List ℕ)
-    : Type 0 where
-  pub pieces : List Piece
-  pub list : IsActList scope pieces rows
-  pub lines : text ≡ lines_of form (closed_pieces pieces)
-
--- The row after these breaks a rule of the link. The text is the lines of the closed pieces before
--- it, and its own.
-pub record HasFaultLine (form : LineForm) (scope : Scope) (rows : List Event) (row : Event)
-    (fault : LinkFault) (text : List ℕ) : Type 0 where
-  pub pieces : List Piece
-  pub list : IsActList scope pieces rows
-  pub is : IsLinkFault scope pieces row fault.rule fault.blame
-  pub lines : text ≡ lines_of form (closed_pieces pieces) ++ form.fault (length rows + 1) fault
 
 -- a text that the adding of the lines of a row may come to
 abbrev pub IsAdded : LineForm → Scope → List Event → Event → List ℕ → Type 0

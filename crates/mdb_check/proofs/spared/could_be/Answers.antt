@@ -1,3 +1,4 @@
+-- An early row could be exactly where a new bus takes it.
 use Rattle.mdb_check.proofs.Words.{CouldBe, HasActList, IsTrue, [], subst, sym, ◌↔◌, ◌∷◌}
 use Rattle.mdb_check.proofs.spared.could_be.Goals as goal
 

@@ -1,5 +1,5 @@
 -- The answer of a replay goes by how the reading of its entries ended.
-use Rattle.mdb_explain.proofs.Words.{Err, IsStoppedAt, Ok, ap, is_fault, ◌∙◌}
+use Rattle.mdb_explain.proofs.Words.{Err, Ok, ap, is_fault, ◌∙◌}
 use Rattle.mdb_run_search.specs.Replays.{scope_of}
 use Rattle.mdb_explain.proofs.MarkAnswers as answers
 use Rattle.mdb_explain.proofs.marked.replay_outcome.Goals as goal
@@ -9,7 +9,7 @@ returns-in_err-read_rows-clause-answer g c all to_come =
     let scope = scope_of c.read_rows.new.taker.replay in
     rw (is_fault c.from_residual.result c.from_residual.ensures.1)
     (rw (c.read_rows.ensures.keeps ∙ c.new-taker.ensures.scope) at
-    (answers.refused scope all c.read_rows.new.taker (IsStoppedAt scope) _
+    (answers.refused scope all c.read_rows.new.taker _
     (c.in_err-read_rows.ensures.ended all to_come)))
 
 pub returns-in-None-clause-answer : goal.returns-in-None-clause-answer

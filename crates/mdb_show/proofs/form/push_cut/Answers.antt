@@ -1,3 +1,4 @@
+-- As JSON, too, the line of a cut tail is that of its form.
 use Rattle.mdb_show.proofs.Words.{subst, sym, ◌≡◌, ◌++◌, OnOk, Form, lines_in}
 use Rattle.mdb_show.proofs.JsonLines.{cut_line, put_as}
 use Rattle.mdb_show.proofs.form.push_cut.Goals as goal

@@ -1,3 +1,4 @@
+-- As JSON, too, the line of a fault is that of its form.
 use Rattle.mdb_show.proofs.Words.{subst, sym, ◌≡◌, ◌++◌, OnOk, Form, lines_in}
 use Rattle.mdb_show.proofs.JsonLines.{fault_line, put_as}
 use Rattle.mdb_show.proofs.form.push_fault.Goals as goal

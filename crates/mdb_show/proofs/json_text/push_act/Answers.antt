@@ -1,3 +1,4 @@
+-- A reply and a repeat have the text of their act.
 use Rattle.mdb_show.proofs.Words.{ap, sym, act_json}
 use Rattle.mdb_show.proofs.JsonLines.{put_as}
 use Rattle.mdb_show.proofs.json_text.push_act.Goals as goal

@@ -1,3 +1,4 @@
+-- An ask is a block with the bytes of its command.
 use Rattle.mdb_show.proofs.Words.{ap, ◌∙◌, codes, block_json}
 use Rattle.mdb_show.proofs.JsonLines.{put_as}
 use Rattle.mdb_show.proofs.json_text.push_ask.Goals as goal

@@ -1,3 +1,4 @@
+-- The members of a break come one after the other, its length last.
 use Rattle.mdb_show.proofs.Words.{◌++◌, codes, decimal, rows_only_json}
 use Rattle.mdb_show.proofs.JsonLines.{put_last, then_put}
 use Rattle.mdb_show.proofs.json_text.push_break.Goals as goal

@@ -1,3 +1,4 @@
+-- The members of a fault come one after the other, its rule last.
 use Rattle.mdb_show.proofs.Words.{◌++◌, codes, decimal, blame_json, head_json, rule_json}
 use Rattle.mdb_show.proofs.JsonLines.{put_last, then_put}
 use Rattle.mdb_show.proofs.json_text.push_fault.Goals as goal

@@ -1,3 +1,4 @@
+-- The member of the bytes has their digits between its quotes.
 use Rattle.mdb_show.proofs.Words.{rules, ◌++◌, codes, hex_text}
 use Rattle.mdb_show.proofs.JsonLines.{hex_member, then_put}
 use Rattle.mdb_show.proofs.ShowTexts.{had_more}

@@ -1,3 +1,4 @@
+-- Rows have one act list and a row one fault, so the verdict has the shown one or an earlier no.
 use Rattle.mdb_show.proofs.SameFault.{verdict_up_to}
 use Rattle.mdb_show.proofs.laws.shown_faults_are_those_of_verdicts.Goals as goal
 

@@ -1,3 +1,4 @@
+-- Rows have one act list and a row one fault, so a text is shown in one way.
 use Rattle.mdb_show.proofs.OneShowing.{one_showing}
 use Rattle.mdb_show.proofs.laws.texts_are_shown_in_one_way.Goals as goal
 

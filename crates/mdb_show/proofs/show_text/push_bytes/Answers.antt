@@ -1,3 +1,4 @@
+-- One byte more adds its two digits.
 use Rattle.mdb_show.proofs.ShowTexts.{bytes_more}
 use Rattle.mdb_show.proofs.show_text.push_bytes.Goals as goal
 

@@ -1,5 +1,5 @@
 -- What is surveyed goes by how the reading of rows ended, and so does what is told of that.
-use Rattle.mdb_survey.proofs.Words.{Err, IsErr, List, Ok, Result, ap, refl, rules, subst, ℕ, ◌≡◌, profile_of, Scope, found_by, Summary, survey_lines_in, PutsSurveying, Form, reads_all, reads_fault, reads_output, is_fault, RunFault, Output, begun, output}
+use Rattle.mdb_survey.proofs.Words.{Err, IsErr, List, Memory, Ok, Result, ap, refl, rules, subst, ℕ, ◌≡◌, profile_of, Scope, found_by, Summary, survey_lines_in, PutsSurveying, Form, reads_all, reads_fault, reads_output, is_fault, RunFault, Output, begun, output}
 use Rattle.mdb_survey.proofs.NoRows.{none_are_reached}
 use Rattle.mdb_survey.proofs.Surveyings as surveyings
 use Rattle.mdb_survey.proofs.surveying.survey_rows.Goals as goal
@@ -45,10 +45,11 @@ returns-in_err-stop-in-Err-clause-surveys g c all to_come =
 
 pub returns-else-ne-clause-surveys : goal.returns-else-ne-clause-surveys
 returns-else-ne-clause-surveys g c all to_come =
-    kept _ _ _ _ _ _ c.read_rows.ensures.keeps (surveyings.out_of_memory _ _ _ _ _ _
+    let is : c.in-Err.fault ≡ Memory = search rules in
+    rw is (kept _ _ _ _ _ _ c.read_rows.ensures.keeps (surveyings.out_of_memory _ _ _ _ _ _
     (none_are_reached c.followers_stand_for_reached_rows.ensures
-    c.fronts_of_reached_rows_are_reached.ensures) _ c.in-Err.fault (search rules)
-    (c.in-Err.ensures.ended all to_come))
+    c.fronts_of_reached_rows_are_reached.ensures) _
+    (rw is at (c.in-Err.ensures.ended all to_come))))
 
 pub returns-in-Ok-None-clause-reads : goal.returns-in-Ok-None-clause-reads
 returns-in-Ok-None-clause-reads g c =

@@ -1,3 +1,4 @@
+-- Rows have one report, and a row one offence, so records have one answer of their own.
 use Rattle.mdb_verdict.proofs.OneAnswer.{one_answer}
 use Rattle.mdb_verdict.proofs.laws.texts_have_one_answer.Goals as goal
 

@@ -1,3 +1,4 @@
+-- Fronts of reached rows are reached, and reports name the accounts of runs.
 use Rattle.mdb_verdict.proofs.Headline.{headline_of}
 use Rattle.mdb_verdict.proofs.laws.verdicts_say_the_headline.Goals as goal
 

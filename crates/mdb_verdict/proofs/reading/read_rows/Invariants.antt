@@ -1,10 +1,10 @@
+-- The rows so far are taken, and the rest of the records is to come. A text that is too long still
+-- is.
 use Rattle.mdb_verdict.proofs.Words.{IsOverLimit, None, fault_of, found_by, ◌+◌, ◌-◌, ◌≡◌, ◌≤◌}
 use Rattle.mdb_verdict.specs.declared.batch.Next.TheVariants as next
 use Rattle.mdb_verdict.proofs.Endings.{Progress}
 use Rattle.mdb_verdict.proofs.reading.read_rows.Given as goal
 
--- the rows so far are taken, and the rest of the records is to come; a text that is too long still
--- is
 abbrev pub invariant-loop-batch : goal.invariant-loop-batch
 invariant-loop-batch g l = record {
   progress : Progress g.T.Row.FromRecord.is g.T.Row.FromRecord.refuses g.R.Read.remaining

@@ -1,3 +1,4 @@
+-- There is a field at each index below the number of fields.
 use Rattle.std.proofs.Common.{sym}
 use Rattle.mdb_verdict.proofs.Fields.{field_some}
 use Rattle.mdb_verdict.proofs.row.field.Goals as goal

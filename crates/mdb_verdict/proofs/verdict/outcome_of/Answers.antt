@@ -1,3 +1,4 @@
+-- A follower that stands for rows answers with a report, and with no offence.
 use Rattle.mdb_verdict.proofs.verdict.outcome_of.Goals as goal
 
 pub returns-in-Err : goal.returns-in-Err

@@ -29,6 +29,7 @@ pub loop-event-preserved : goal.loop-event-preserved
 loop-event-preserved c =
     fed_more c.args.rows.now c.loop-event.event-index c.event-item.result c.loop-event-test.true
     c.loop-event.invariant c.if-not-take.ensures.counted c.take.ensures.scope c.take.ensures.last
+    c.take.ensures.earlier
     (λ scope readers before on.
     rw c.event-item.is at (c.if-not-take.ensures.taken scope readers before on))
 

@@ -1,3 +1,4 @@
+-- Before the first row nothing was reported, and only levels told beforehand are known.
 use Rattle.std.proofs.Common.{refl}
 use Rattle.mdb_check.proofs.Following.{nothing}
 use Rattle.mdb_check.proofs.judging.Judging.scoped.Goals as goal
@@ -16,4 +17,6 @@ returns-clause-taken c = record {
     begun = λ is. refl;
   };
   last = refl;
+  earlier = refl;
+  begun = refl;
 }

@@ -1,3 +1,4 @@
+-- The rows are followed with a row that is taken, and without one that is refused.
 use Rattle.mdb_check.proofs.Words.{ap, begun_at, option_or, refl, reported_if, ◌∙◌}
 use Rattle.mdb_bus.specs.Bus.{ended_act}
 use Rattle.mdb_follow.specs.Follower as follow

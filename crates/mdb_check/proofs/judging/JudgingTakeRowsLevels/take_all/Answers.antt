@@ -1,5 +1,5 @@
 -- The rows are taken, or what was met at the first that is refused is told.
-use Rattle.mdb_check.proofs.Words.{HasFollowed, Meets, ap, arith, last_of, length, refl, rows_of, scope_of, subst, sym, take_all, ◌++◌, ◌-◌, ◌∙◌}
+use Rattle.mdb_check.proofs.Words.{HasFollowed, Meets, ap, arith, before_last, last_begun, last_of, length, refl, rows_of, scope_of, subst, sym, take, take_all, ◌++◌, ◌-◌, ◌∙◌, ◌≡◌}
 use Rattle.mdb_verdict.specs.Ending.{StopsAmong}
 use Rattle.mdb_check.proofs.Following.{front_within, met_there, taken_among}
 use Rattle.mdb_check.proofs.judging.JudgingTakeRowsLevels.take_all.Goals as goal
@@ -12,15 +12,22 @@ returns-then-feed_all-clause-taken c before earlier has =
     subst (λ s. HasFollowed s before c.feed_all.new.self (earlier ++ rows))
     (sym c.feed_all.ensures.scope)
     (c.if-feed_all.ensures.taken (scope_of c.args.self.now.follower) before earlier has.is) in
+    let all : take (length rows) rows ≡ rows = take_all (length rows) rows (omega arith) in
+    let begun : c.begun_before-self.result ≡ last_begun (earlier ++ rows) =
+    c.begun_before-self.ensures earlier has.begun ∙ ap (λ l. last_begun (earlier ++ l)) all in
     record {
       is = record {
         follows = on.follows;
         joined = on.joined;
         reported = on.reported;
-        begun = on.begun;
+        begun = λ joined. begun;
       };
       last = c.row_before-self.ensures earlier (c.feed_all.ensures.last ∙ has.last)
-          ∙ ap (λ l. last_of (earlier ++ l)) (take_all (length rows) rows (omega arith));
+          ∙ ap (λ l. last_of (earlier ++ l)) all;
+      earlier = c.row_before_that-self.ensures earlier (c.feed_all.ensures.last ∙ has.last)
+          (c.feed_all.ensures.earlier ∙ has.earlier)
+          ∙ ap (λ l. before_last (earlier ++ l)) all;
+      begun = begun;
     }
 
 pub overflow_sub-index : goal.overflow_sub-index
@@ -57,4 +64,7 @@ returns-clause-taken c before earlier has =
     (met_there among (c.rows.result - c.rows-before.result) c.met.result
     (omega (arith, taken, c.rows.ensures, c.rows-before.ensures)) c.met.ensures.offence
     c.met.ensures.unjudged c.met.ensures.row
-    (c.met.ensures.last earlier (c.feed_all.ensures.last ∙ has.last)))
+    (c.met.ensures.last earlier (c.feed_all.ensures.last ∙ has.last))
+    (c.met.ensures.earlier earlier (c.feed_all.ensures.last ∙ has.last)
+    (c.feed_all.ensures.earlier ∙ has.earlier))
+    (c.met.ensures.unfollowed earlier has.begun))

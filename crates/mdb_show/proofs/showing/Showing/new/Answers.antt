@@ -1,3 +1,4 @@
+-- Before the first row there are no pieces, and nothing is written.
 use Rattle.mdb_show.proofs.Words.{lines_in}
 use Rattle.mdb_show.proofs.Showings.{begins}
 use Rattle.mdb_show.proofs.showing.Showing.new.Goals as goal

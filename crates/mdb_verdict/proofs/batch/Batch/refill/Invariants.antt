@@ -1,8 +1,9 @@
+-- So many rows are taken, and the rest of the records is to come. A text that is too long still
+-- is.
 use Rattle.mdb_verdict.proofs.Words.{HasRead, IsOverLimit, List, None, ToCome, fault_of, found_by, length, ℕ, ◌+◌, ◌≡◌, ◌≤◌}
 use Rattle.mdb_verdict.specs.declared.batch.Next.TheVariants.{More}
 use Rattle.mdb_verdict.proofs.batch.Batch.refill.Given as goal
 
--- so many rows are taken, and the rest of the records is to come; a text that is too long still is
 abbrev pub invariant-loop : goal.invariant-loop
 invariant-loop g l = record {
   taken : (all : List (List (List ℕ))) → ToCome g.R.Read.remaining l.fn.records all

@@ -1,8 +1,8 @@
+-- The rows so far were taken.
 use Rattle.mdb_verdict.proofs.Words.{◌≡◌}
 use Rattle.mdb_verdict.proofs.Taking.{Fed}
 use Rattle.mdb_verdict.proofs.reading.TakeRows.take_all.Given as goal
 
--- the rows so far were taken
 abbrev pub invariant-loop-row : goal.invariant-loop-row
 invariant-loop-row g l = record {
   fed : Fed (λ before. g.Self.TakeRows.has l.fn.self before l.fn.out)
