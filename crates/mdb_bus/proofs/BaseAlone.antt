@@ -16,10 +16,10 @@ pub no_times : (scope : Scope) (pieces : List Piece) → profile_of scope.begins
     → times_of scope pieces ≡ None
 no_times scope pieces is = ap (λ profile. counted_for profile (untimely_of scope pieces)) is
 
-options_known : (begins : Beginning) → profile_of begins ≡ Base → first_known begins ≡ all_known
-options_known (PowerOn profile) is = refl
-options_known (Joined setups Base) is = refl
-options_known (Joined setups Extended) is = absurd cc
+features_known : (begins : Beginning) → profile_of begins ≡ Base → first_known begins ≡ all_known
+features_known (PowerOn profile) is = refl
+features_known (Joined setups Base) is = refl
+features_known (Joined setups Extended) is = absurd cc
 
 abbrev made : Position → Option Device → Event → Rule → LinkFault
 made position asked row broken =
@@ -30,4 +30,4 @@ pub first_counts : (scope : Scope) (pieces : List Piece) (row : Event) (first : 
     ≡ made (position_of scope pieces) (asked_device pieces) row first
 first_counts scope pieces row first is =
     no_haste scope pieces row _ is ∙ ap (made (position_of scope pieces) (asked_device pieces) row)
-    (counts_plainly scope pieces first (position_of scope pieces) (options_known scope.begins is))
+    (counts_plainly scope pieces first (position_of scope pieces) (features_known scope.begins is))

@@ -2,15 +2,14 @@
 use Rattle.std.specs.Prelude.{nat_lt}
 use Rattle.std.proofs.Math.Nat.{add-zero, add_assoc}
 use Rattle.std.proofs.lemmas.Bool.{le-ltb}
-use Rattle.mdb_bus.proofs.Words.{[], Act, ap, ArePieces, arith, asked_device, AskTail, Asked, awaited_after, awaited_at, awaited_from, Base, Blame, block_most, Bool, Break, Controller, controller_words, Device, Event, events_of, false, far_apart, Grown, haste_after, GoesOnAsking, haste_from, if◌then◌else◌, InAsk, InForeign, inl, inr, Levels, is_past, is_untimely, IsSaid, IsTail, last_of, Leads, left_by, Line, List, lt-ltb, NEW_BLOCK_GAP_MIN, None, Option, Peripheral, Piece, piece_events, pieces_after, Position, position_after, position_of, Quiet, refl, RepeatTail, Replied, ReplyTail, Returned, Say, Scope, sender_by, Situation, situation_of, Some, Step, subst, sym, true, untimely_of, untimely_sender, with_rows, with_sender, with_untimely, Word, WordLeads, ℕ, ◌++◌, ◌+◌, ◌<◌, ◌∙◌, ◌∷◌, ◌≡◌, ◌≢◌}
+use Rattle.mdb_bus.proofs.Words.{[], Act, ap, ArePieces, arith, asked_device, AskTail, Asked, awaited_after, awaited_at, awaited_from, Base, Blame, block_most, Bool, Break, Controller, controller_words, Device, Event, events_of, false, far_apart, Grown, haste_after, haste_from, if◌then◌else◌, InAsk, InForeign, inl, inr, Levels, is_past, is_untimely, IsSaid, IsTail, last_of, Leads, left_by, Line, List, lt-ltb, None, Option, Peripheral, Piece, piece_events, pieces_after, Position, position_after, position_of, refl, RepeatTail, ReplyTail, Returned, Say, Scope, sender_by, Situation, situation_of, Some, Step, subst, sym, true, untimely_of, untimely_sender, with_rows, with_sender, with_untimely, Word, ℕ, ◌++◌, ◌+◌, ◌<◌, ◌∙◌, ◌∷◌, ◌≡◌, ◌≢◌}
 use Rattle.mdb_bus.specs.declared.untimely.Untimely.{Untimely}
 use Rattle.mdb_bus.specs.inner.Gone.{KeepsAwaited}
-use Rattle.mdb_bus.specs.ExtendedHaste.{is_before}
 use Rattle.mdb_bus.specs.declared.fault.Blame.TheVariants as blame
 use Rattle.mdb_bus.specs.shared.Step as step
 use Rattle.mdb_bus.proofs.Sound.{rest_last}
 use Rattle.mdb_bus.proofs.Lists.{heard}
-use Rattle.mdb_bus.proofs.Forward.{break_after, no_effect}
+use Rattle.mdb_bus.proofs.Forward.{no_effect}
 
 -- who says a word says the first word of its side
 sender_of : (line : Line) (at word : ℕ) (words : List ℕ) (first : Event) (others : List Event)
@@ -56,100 +55,51 @@ marked : (word byte : ℕ) (before : Bool) → word ≡ 256 + byte
 marked word byte before is =
     ap (λ b. if b then before else true) (le-ltb word 256 (omega (arith, is)))
 
--- so it is in any case where one was awaited before
-either : (low : Bool) → (if low then true else true) ≡ true
-either true = refl
-either false = refl
-
--- where a step into foreign traffic leads
-foreign_after : (position : Position) → position_after position step.Foreign ≡ InForeign
-foreign_after (InAsk bytes) = refl
-foreign_after position = refl
-
--- whether an answer is awaited after a word that leads to another step is told by where it leads
-awaited_by_word : (scope : Scope) (position : Position) (from : Option Event) (levels : Levels)
-    (at : ℕ) (line : Line) (word : ℕ) (next : Step) (foreign kept : Bool)
-    → WordLeads scope position from levels (Word at line word) line word next
-    → KeepsAwaited next (awaited_after (Word at line word) (awaited_at position foreign)) kept
-    → awaited_after (Word at line word) (awaited_at position foreign)
-    ≡ awaited_at (position_after position next) kept
-awaited_by_word scope position from levels at line word step.Foreign foreign kept leads keeps =
-    rw (foreign_after position) (sym keeps)
-awaited_by_word scope (InAsk bytes) from levels at Controller word next foreign kept leads keeps =
-    search (either)
-awaited_by_word scope (Asked command) from levels at Controller word (step.AskByte byte) foreign
-    kept leads keeps = either (nat_lt word 256)
-awaited_by_word scope (Returned command reply) from levels at Controller word (step.AskByte byte)
-    foreign kept leads keeps = either (nat_lt word 256)
-awaited_by_word scope Quiet from levels at Controller word (step.AskByte byte) foreign kept leads
-    keeps = marked word byte _ leads.0
-awaited_by_word scope (Replied command reply) from levels at Controller word (step.AskByte byte)
-    foreign kept leads keeps = marked word byte _ leads.0
-awaited_by_word scope (Replied command reply) from levels at Controller word step.VmcAck foreign
-    kept leads keeps = rw leads.0
-awaited_by_word scope (Replied command reply) from levels at Controller word step.VmcNak foreign
-    kept leads keeps = rw leads.0
-awaited_by_word scope (Replied command reply) from levels at Controller word step.VmcRet foreign
-    kept leads keeps = rw leads.0
-awaited_by_word scope InForeign from levels at Controller word (step.AskByte byte) foreign kept
-    (inl leads) keeps = marked word byte _ leads.0
-awaited_by_word scope InForeign from levels at Controller word next foreign kept (inl leads) keeps =
-    search
-awaited_by_word scope InForeign from levels at Controller word next foreign kept (inr leads) keeps =
-    search
-awaited_by_word scope position from levels at Controller word next foreign kept leads keeps = search
-awaited_by_word scope (InAsk bytes) from levels at Peripheral word next foreign kept leads keeps =
-    absurd leads
-awaited_by_word scope position from levels at Peripheral word next foreign kept leads keeps = search
-
--- and so after a break
-pub awaited_by_step : (s : Situation) (row : Event) (next : Step) (foreign kept : Bool)
-    → Leads s row next
-    → KeepsAwaited next (awaited_after row (awaited_at s.position foreign)) kept
-    → awaited_after row (awaited_at s.position foreign)
-    ≡ awaited_at (position_after s.position next) kept
-awaited_by_step s (Word at line word) next foreign kept leads keeps =
-    awaited_by_word s.scope s.position s.last s.levels at line word next foreign kept leads keeps
-awaited_by_step s (Break at length) (step.Break lasted) foreign kept leads keeps =
-    rw (break_after s.scope s.position lasted)
-awaited_by_step s (Break at length) next foreign kept leads keeps = absurd leads
-
--- a word that isn't early leaves no haste
+-- if it isn't early it leaves no haste, and no other word does
 not_early : (low : Bool) {early : Bool} → early ≡ false → (if low then false else early) ≡ false
 not_early true is = refl
 not_early false is = is
 
--- a word in its time leaves no haste where there is none, and where no foreign answer is awaited
-none_by_word : (scope : Scope) (position : Position) (from : Option Event) (levels : Levels)
-    (at : ℕ) (line : Line) (word : ℕ) (next : Step)
-    → is_untimely position from (Word at line word) ≡ false
-    → WordLeads scope position from levels (Word at line word) line word next
-    → haste_after (awaited_at position false) from (Word at line word) false ≡ false
-none_by_word scope (InAsk bytes) from levels at Controller word next timely leads =
-    ap (λ b. if b then false else is_before NEW_BLOCK_GAP_MIN from (Word at Controller word))
-    (lt-ltb word 256 (low next leads))
-  where
-    low : (next : Step) → GoesOnAsking scope bytes from (Word at Controller word) word next
-        → word < 256
-    low (step.AskByte byte) goes = goes.1
-    low (step.Ask command) goes = goes.0
-    low step.Foreign goes = goes.0
-    low next goes = absurd goes
-none_by_word scope (Asked command) from levels at Controller word next timely leads =
-    not_early (nat_lt word 256) timely
-none_by_word scope (Returned command reply) from levels at Controller word next timely leads =
-    not_early (nat_lt word 256) timely
-none_by_word scope position from levels at Controller word next timely leads =
-    not_early (nat_lt word 256) refl
-none_by_word scope position from levels at Peripheral word next timely leads = refl
+unmarked : (word : ℕ) (before new : Bool) → word < 256
+    → (if nat_lt word 256 then before else new) ≡ before
+unmarked word before new low = ap (λ b. if b then before else new) (lt-ltb word 256 low)
 
--- and so after a break
-pub none_in_time : (s : Situation) (row : Event) (next : Step)
-    → is_untimely s.position s.last row ≡ false → Leads s row next
-    → haste_after (awaited_at s.position false) s.last row false ≡ false
-none_in_time s (Word at line word) next timely leads =
-    none_by_word s.scope s.position s.last s.levels at line word next timely leads
-none_in_time s (Break at length) next timely leads = refl
+module _ (scope : Scope) (from : Option Event) (levels : Levels) where
+  abbrev At : Position → Situation
+  At position = record { scope = scope; position = position; last = from; levels = levels }
+
+  module _ (was kept : Bool) where
+    -- whether an answer is awaited after a row: where it leads says it, or what is kept
+    pub awaited_by_step : (position : Position) (row : Event) (next : Step)
+        → Leads (At position) row next
+        → KeepsAwaited next (awaited_after row (awaited_at position was)) kept
+        → awaited_after row (awaited_at position was)
+        ≡ awaited_at (position_after position next) kept
+    awaited_by_step (InAsk bytes) row step.Foreign leads keeps = sym keeps
+    awaited_by_step position row step.Foreign leads keeps = sym keeps
+    awaited_by_step position (Break at length) (step.Break lasted) leads keeps = refl
+    awaited_by_step position (Break at length) next leads keeps = absurd leads
+    awaited_by_step InForeign (Word at Controller word) next (inl leads) keeps = search (marked)
+    awaited_by_step InForeign (Word at Controller word) next (inr leads) keeps = search
+    awaited_by_step (InAsk bytes) (Word at Controller word) next leads keeps = search (unmarked)
+    awaited_by_step position (Word at Controller word) next leads keeps = search (marked)
+    awaited_by_step (InAsk bytes) (Word at Peripheral word) next leads keeps = absurd leads
+    awaited_by_step position (Word at Peripheral word) next leads keeps = search
+
+  -- a row in its time leaves no haste where there is none, and where no foreign answer is awaited
+  pub none_in_time : (position : Position) (row : Event) (next : Step)
+      → is_untimely position from row ≡ false → Leads (At position) row next
+      → haste_after (awaited_at position false) from row false ≡ false
+  none_in_time (InAsk bytes) (Word at Controller word) step.Foreign timely leads =
+      unmarked word _ _ leads.0
+  none_in_time (InAsk bytes) (Word at Controller word) next timely leads = search (unmarked)
+  none_in_time (Asked command) (Word at Controller word) next timely leads =
+      not_early (nat_lt word 256) timely
+  none_in_time (Returned command reply) (Word at Controller word) next timely leads =
+      not_early (nat_lt word 256) timely
+  none_in_time position (Word at Controller word) next timely leads =
+      not_early (nat_lt word 256) refl
+  none_in_time position row next timely leads = refl
 
 -- rows of a sender add up
 adds_up : (more some : ℕ) (sender : Blame) (counts : Untimely)

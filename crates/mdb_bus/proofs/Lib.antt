@@ -3,7 +3,7 @@ pub mod BaseAlone
 pub mod Breaks
 pub mod Commands
 pub mod Decided
-pub mod EachSteps
+pub mod EachLead
 pub mod Feed
 pub mod Fitting
 pub mod Followed

@@ -1,6 +1,6 @@
 -- What the first bytes of a block tell of ENABLE OPTIONS, which a profile may leave out.
 use Rattle.std.proofs.lemmas.Bool.Decides.{nat_tests}
-use Rattle.mdb_bus.proofs.Words.{[], and_right, ap, append-nil, arith, begins_options, block_of, Bool, cases_eq, Command, false, Foreign, HasCommand, if◌then◌else◌, inl, inr, is_enable_options, leaves_options, length, length-append, List, More, Need, needed, needed_by, Profile, refl, Spells, sum, sym, true, ℕ, ◌%◌, ◌&&◌, ◌++◌, ◌==◌, ◌||◌, ◌∙◌, ◌∷◌, ◌≡◌, ◌≢◌, ◌≤◌, ◌⊎◌}
+use Rattle.mdb_bus.proofs.Words.{[], and_right, ap, append-nil, arith, begins_options, block_of, Bool, cases_eq, Command, false, Foreign, HasCommand, if◌then◌else◌, inl, inr, is_enable_options, leaves_features, length, length-append, List, More, Need, needed, needed_by, Profile, refl, Spells, sum, sym, true, ℕ, ◌%◌, ◌&&◌, ◌++◌, ◌==◌, ◌||◌, ◌∙◌, ◌∷◌, ◌≡◌, ◌≢◌, ◌≤◌, ◌⊎◌}
 use Rattle.mdb_bus.proofs.Lists.{some_length}
 
 -- a law of mdb_msgs: the first two bytes of a command's block tell whether it is ENABLE OPTIONS
@@ -10,7 +10,7 @@ TwoTell = (prefix rest : List ℕ) (command : Command) → 2 ≤ length prefix
 
 -- bytes begin no block of an ENABLE OPTIONS that the profile leaves out
 abbrev pub AreKnown : Profile → List ℕ → Type 0
-AreKnown profile bytes = (leaves_options profile && begins_options bytes) ≡ false
+AreKnown profile bytes = (leaves_features profile && begins_options bytes) ≡ false
 
 -- one byte doesn't
 pub begins_one : (byte : ℕ) → begins_options (byte ∷ []) ≡ false
@@ -35,13 +35,13 @@ module _ (profile : Profile) where
   known_need bytes known = rw known
 
   pub one_need : (byte : ℕ) → needed_by profile (byte ∷ []) ≡ needed (byte ∷ [])
-  one_need byte = known_need (byte ∷ []) (and_right (leaves_options profile) _ (begins_one byte))
+  one_need byte = known_need (byte ∷ []) (and_right (leaves_features profile) _ (begins_one byte))
 
   -- what needs anything that isn't foreign is such bytes
   pub unmasked : (bytes : List ℕ) (told : Need) → needed_by profile bytes ≡ told → told ≢ Foreign
       → AreKnown profile bytes × (needed bytes ≡ told)
   unmasked bytes told is other =
-      otherwise (leaves_options profile && begins_options bytes) (needed bytes) told is other
+      otherwise (leaves_features profile && begins_options bytes) (needed bytes) told is other
 
 module _ (law : TwoTell) (profile : Profile) where
   -- bytes in front of a command that the profile has are such bytes
@@ -49,7 +49,7 @@ module _ (law : TwoTell) (profile : Profile) where
       → Spells command (prefix ++ rest) → HasCommand profile command → AreKnown profile prefix
   front_known [] rest command some spells known = absurd (some refl)
   front_known (first ∷ []) rest command some spells known =
-      and_right (leaves_options profile) _ (begins_one first)
+      and_right (leaves_features profile) _ (begins_one first)
   front_known (first ∷ second ∷ more) rest command some spells known =
       rw (law (first ∷ second ∷ more) rest command (omega arith) spells) known
 
@@ -91,9 +91,9 @@ content_tells law content command some spells =
     (rw append-nil spells)
 
 -- a first byte with which ENABLE OPTIONS begins leaves the length to the second
-pub options_more : (first second : ℕ) → begins_options (first ∷ second ∷ []) ≡ true
+pub features_more : (first second : ℕ) → begins_options (first ∷ second ∷ []) ≡ true
     → needed (first ∷ []) ≡ More
-options_more first second begins = elim (address first) [
+features_more first second begins = elim (address first) [
   | inl one ↦ rw one
   | inr (inl two) ↦ rw two
   | inr (inr other) ↦ cc (ap (λ b. b && (second == 0x04)) other, begins)

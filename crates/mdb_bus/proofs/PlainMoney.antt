@@ -1,11 +1,11 @@
--- Where all options are known, the rule that counts is the first one that is broken.
-use Rattle.mdb_bus.proofs.Words.{[], Act, all_known, amounts_to, ap, Asked, asked_with_amounts, Command, cond_both, counted_as, false, First, first_known, InAsk, InReply, is_wide, known_after, known_by, known_of, KnownOptions, Levels, levels_before, levels_of, List, Option, Piece, Position, profile_of, reader_asked, refl, refuses, Rule, Scope, Some, wide_at, wide_of, ◌∙◌, ◌∷◌, ◌≡◌}
+-- Where all features are known, the rule that counts is the first one that is broken.
+use Rattle.mdb_bus.proofs.Words.{[], Act, all_known, amounts_to, ap, Asked, asked_with_amounts, Command, cond_both, counted_as, false, First, first_known, InAsk, InReply, is_wide, known_after, known_by, known_of, KnownFeatures, Levels, levels_before, levels_of, List, Option, Piece, Position, profile_of, reader_asked, refl, refuses, Rule, Scope, Some, wide_at, wide_of, ◌∙◌, ◌∷◌, ◌≡◌}
 use Rattle.mdb_msgs.specs.declared.command.ReaderUnit.{ReaderUnit}
 use Rattle.mdb_msgs.specs.declared.command.Command.TheVariants as commands
 use Rattle.mdb_bus.specs.declared.act.Act.TheVariants as acts
 use Rattle.mdb_bus.specs.declared.fault.Rule.TheVariants as rule
 
--- options that are all known stay so
+-- features that are all known stay so
 after_all : (command : Command) → known_after command all_known ≡ all_known
 after_all (commands.Reader First command) = refl
 after_all command = refl
@@ -14,7 +14,7 @@ stay_known : (act : Act) → known_by act all_known ≡ all_known
 stay_known (acts.Ack command) = after_all command
 stay_known (acts.Reply command reply) =
     cond_both (refuses reply) all_known (known_after command all_known)
-    (λ (known : KnownOptions). known ≡ all_known) (λ refused. refl) (λ taken. after_all command)
+    (λ (known : KnownFeatures). known ≡ all_known) (λ refused. refl) (λ taken. after_all command)
 stay_known act = refl
 
 all_stay : (acts : List Act) → known_of all_known acts ≡ all_known

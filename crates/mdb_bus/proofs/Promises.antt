@@ -1,5 +1,5 @@
 -- The laws of mdb_msgs, put together, of the devices that are followed.
-use Rattle.mdb_bus.proofs.Words.{[], All, ap, append-nil, Asks, begins_options, block_of, BlockHasOneReply, Bool, Command, command_bytes, Exactly, false, Foreign, is_enable_options, IsByte, IsOpen, IsTold, leaves_options, length, List, needed, needed_in, OpenIsAnothersFront, PlainOpenIsAFront, profile_of, refl, reply_bytes, Scope, Spells, sum, TellsLength, true, ℕ, ◌%◌, ◌&&◌, ◌++◌, ◌<◌, ◌∙◌, ◌≡◌, ◌≢◌}
+use Rattle.mdb_bus.proofs.Words.{[], All, ap, append-nil, Asks, begins_options, block_of, BlockHasOneReply, Bool, Command, command_bytes, Exactly, false, Foreign, is_enable_options, IsByte, IsOpen, IsTold, leaves_features, length, List, needed, needed_in, OpenIsAnothersFront, PlainOpenIsAFront, profile_of, refl, reply_bytes, Scope, Spells, sum, TellsLength, true, ℕ, ◌%◌, ◌&&◌, ◌++◌, ◌<◌, ◌∙◌, ◌≡◌, ◌≢◌}
 use Rattle.mdb_bus.specs.shared.Grammar.{OpenIsAFront}
 use Rattle.mdb_bus.proofs.Masked.{TwoTell, front_known, known_need, unmasked}
 use Rattle.mdb_bus.proofs.Followed.{FirstTells, asks_followed, block_followed, needed_followed, still_followed, was_followed, within}
@@ -54,7 +54,7 @@ open_front first law another scope bytes all wanting =
     let there = within scope bytes (needed_in scope bytes) refl other in
     let plain = unmasked profile bytes (needed_in scope bytes) there.1 other in
     let begun : IsOpen bytes = rw plain.1 wanting in
-    let found = open_one law another (leaves_options profile) bytes all begun plain.0 in
+    let found = open_one law another (leaves_features profile) bytes all begun plain.0 in
     let more = still_followed scope bytes found.1 (some_bytes bytes begun) there.0 in
     let asks = asks_followed first scope found.0 (bytes ++ found.1) found.3 found.4 more in
     (found.0, found.1, found.2, asks)

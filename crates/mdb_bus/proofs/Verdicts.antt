@@ -1,6 +1,6 @@
 -- What is made of a word, position by position.
 use Rattle.std.proofs.lemmas.Option.{slice_get-get_or, slice_get_past}
-use Rattle.mdb_bus.proofs.Words.{[], All, All-append, All-from_get_or, All-from_recursion, and_right, answer_byte, answer_most, ap, append_assoc, arith, Asked, Base, begins_options, Belongs, block_most, block_of, Bool, BytesHaveOneFault, cases_Bool, Command, command_bytes, Controller, Counts, Covers, drop, EnablesMore, Err, Event, Exactly, Extended, false, Fits, Foreign, format_for, FrontIsOpen, get_or, HasCommand, HasFault, IfOk, InAsk, InBlockTime, inl, inr, InReply, is_enable_options, is_past, is_untimely, IsAskFront, IsBefore, IsByte, IsCommandFront, IsFirstByPlace, IsGoingOn, IsJudged, IsJudgedBy, IsOpen, IsOpened, IsPast, IsRead, IsRepeatFront, IsReplyEnd, IsSettled, IsShort, IsTimely, IsTrue, IsUnknownExpansion, Judged, leaves_options, LeavesProfile, length, length-append, length-drop, Levels, List, More, MsgFault, Need, needed, needed_by, needed_in, nil_from_length, None, NotBefore, NotPast, Ok, OnOk, OpenIsAnothersFront, Option, OutOfOrder, Outside, Peripheral, peripheral_words, place_of, Position, Profile, profile_of, refl, Reply, reply_words, ReplyHasNoFault, Result, RowBreaks, Rule, rules, same_from_push, Scope, Situation, slice_get, slice_index, Some, Spells, suc, sum, sym, take, true, w8, Word, WORD_GAP_MIN, WrongLength, zero, ℕ, ◌%◌, ◌&&◌, ◌++◌, ◌+◌, ◌<◌, ◌↔◌, ◌∙◌, ◌∷◌, ◌≡◌, ◌≢◌, ◌≤◌, ◌⊎◌}
+use Rattle.mdb_bus.proofs.Words.{[], All, All-append, All-from_get_or, All-from_recursion, and_right, answer_byte, answer_most, ap, append_assoc, arith, Asked, Base, begins_options, Belongs, block_most, block_of, Bool, BytesHaveOneFault, cases_Bool, Command, command_bytes, Controller, Counts, Covers, drop, EnablesMore, Err, Event, Exactly, Extended, false, Fits, Foreign, format_for, FrontIsOpen, get_or, HasCommand, HasFault, IfOk, InAsk, InBlockTime, inl, inr, InReply, is_enable_options, is_past, is_untimely, IsAskFront, IsBefore, IsByte, IsCommandFront, IsFirstByPlace, IsGoingOn, HasEffect, HasEffectBy, IsOpen, IsOpened, IsPast, IsRead, IsRepeatFront, IsReplyEnd, IsSettled, IsShort, IsTimely, IsTrue, IsUnknownExpansion, Effect, leaves_features, LeavesProfile, length, length-append, length-drop, Levels, List, More, MsgFault, Need, needed, needed_by, needed_in, nil_from_length, None, NotBefore, NotPast, Ok, OnOk, OpenIsAnothersFront, Option, OutOfOrder, Outside, Peripheral, peripheral_words, place_of, Position, Profile, profile_of, refl, Reply, reply_words, ReplyHasNoFault, Result, RowBreaks, Rule, rules, same_from_push, Scope, Situation, slice_get, slice_index, Some, Spells, suc, sum, sym, take, true, w8, Word, WORD_GAP_MIN, WrongLength, zero, ℕ, ◌%◌, ◌&&◌, ◌++◌, ◌+◌, ◌<◌, ◌↔◌, ◌∙◌, ◌∷◌, ◌≡◌, ◌≢◌, ◌≤◌, ◌⊎◌}
 use Rattle.mdb_words.specs.declared.answer.Answer.{Answer}
 use Rattle.mdb_msgs.specs.Answers.{HasDataAnswer}
 use Rattle.mdb_msgs.specs.Laws.{OpenIsAFront}
@@ -8,11 +8,11 @@ use Rattle.mdb_bus.specs.declared.phase.Phase.{Phase}
 use Rattle.mdb_words.specs.declared.answer.Answer.TheVariants as answers
 use Rattle.mdb_msgs.specs.declared.fault.MsgFault.TheVariants as reading
 use Rattle.mdb_bus.specs.declared.fault.Rule.TheVariants as rule
-use Rattle.mdb_bus.specs.declared.judged.Judged.TheVariants as judged
+use Rattle.mdb_bus.specs.declared.effect.Effect.TheVariants as effect
 use Rattle.mdb_bus.specs.declared.phase.Phase.TheVariants as phase
 use Rattle.mdb_bus.proofs.Needs.{from_2_to_32, not_left, stays, narrows}
 use Rattle.mdb_bus.proofs.FormatLaws.{none_as, one_bad, bad_length}
-use Rattle.mdb_bus.proofs.Masked.{AreKnown, TwoTell, begins_one, content_tells, known_front, known_need, more_known, one_need, options_more, unmasked}
+use Rattle.mdb_bus.proofs.Masked.{AreKnown, TwoTell, begins_one, content_tells, known_front, known_need, more_known, one_need, features_more, unmasked}
 use Rattle.mdb_bus.proofs.Followed.{AreFollowed, FirstTells, asks_followed, expansion_opens, front_followed, needed_followed, plain_front, still_followed, within}
 use Rattle.mdb_bus.proofs.Lists.{not_empty, peripheral_push, some_length, some_there}
 
@@ -34,7 +34,7 @@ covers_same times profile same = tt
 
 -- a word in its block's time, by times that count for a profile, isn't late by that
 pub block_covered : (times profile : Profile) (from : Option Event) (to : Event)
-    (result : Result Judged Rule) → Counts times profile result → InBlockTime times from to
+    (result : Result Effect Rule) → Counts times profile result → InBlockTime times from to
     → IsPast (block_most profile) from to → ⊥
 block_covered Base Base (Some before) to result counts near past = omega (arith, near.1, past)
 block_covered Extended Base from to (Err broken) counts near past = cc counts
@@ -42,7 +42,7 @@ block_covered times profile from to result counts near past = search
 
 -- and it is timely
 pub block_timely : (times : Profile) (position : Position) (from : Option Event) (to : Event)
-    (result : Result Judged Rule) → is_untimely position from to ≡ is_past (block_most Base) from to
+    (result : Result Effect Rule) → is_untimely position from to ≡ is_past (block_most Base) from to
     → is_past (block_most times) from to ≡ false → OnOk result (IsTimely times position from to)
 block_timely Base position from to (Ok found) same near = same ∙ near
 block_timely times position from to result same near = search rules
@@ -147,7 +147,7 @@ module _ (profile : Profile) where
       record {
         some = λ none. cc none;
         command = found.0;
-        known = and_right (leaves_options profile) (is_enable_options found.0) found.4;
+        known = and_right (leaves_features profile) (is_enable_options found.0) found.4;
         rest = found.1;
         open_end = found.2;
         spelled = found.3;
@@ -163,10 +163,10 @@ module _ (profile : Profile) where
   left_foreign : (first word : ℕ) → IsOpen (first ∷ [])
       → needed_by profile (first ∷ word ∷ []) ≡ Foreign → needed (first ∷ []) ≡ More
   left_foreign first word alone foreign = elim (cases_Bool (begins_options (first ∷ word ∷ []))) [
-    | inl begins ↦ options_more first word begins
+    | inl begins ↦ features_more first word begins
     | inr none ↦
         let known = known_need profile (first ∷ word ∷ [])
-        (and_right (leaves_options profile) _ none) in
+        (and_right (leaves_features profile) _ none) in
         left_by first word _ refl alone (λ n tells. cc (known, foreign, tells))
   ]
 
@@ -242,7 +242,7 @@ module _ (law : (content : List ℕ) → All IsByte content
   ask_whole profile known =
       let found = law bytes low told in
       let same = sym (content_tells tell bytes found.0 (some_there bytes some) found.1) in
-      (found.0, found.1, rw total found.1, ap (λ b. leaves_options profile && b) same ∙ known)
+      (found.0, found.1, rw total found.1, ap (λ b. leaves_features profile && b) same ∙ known)
 
   -- which asks for more than is followed, or doesn't
   module _ (more : Bool) (means : (command : Command) → Spells command (block_of bytes)
@@ -253,7 +253,7 @@ module _ (law : (content : List ℕ) → All IsByte content
         let ask = ask_whole profile known in inr (ask.0, ask.2, ask.3, (means ask.0 ask.1).0 is)
 
     pub ask_ends : more ≡ false → (profile : Profile) → AreKnown profile bytes
-        → IsGoingOn profile bytes word (Ok judged.Ask)
+        → IsGoingOn profile bytes word (Ok effect.Ask)
     ask_ends is profile known =
         let ask = ask_whole profile known in
         (ask.0, ask.2, ask.3, λ enables. cc ((means ask.0 ask.1).1 enables, is))
@@ -284,14 +284,14 @@ module _ (scope : Scope) (bytes : List ℕ) (from : Option Event) (at word : ℕ
     goes_on : (more : List ℕ) → AreFollowed scope (bytes ++ more)
     goes_on more = still_followed scope bytes more (some_bytes bytes begun) followed
 
-    going_on : (result : Result Judged Rule)
-        → IsGoingOn (profile_of scope.begins) bytes word result → IsJudged Asking Said result
-    going_on (Ok judged.AskByte) h =
+    going_on : (result : Result Effect Rule)
+        → IsGoingOn (profile_of scope.begins) bytes word result → HasEffect Asking Said result
+    going_on (Ok effect.AskByte) h =
         (h.0, small, front_followed law scope (bytes ++ word % 256 ∷ []) h.1 (goes_on _), on_time)
-    going_on (Ok judged.Ask) h =
+    going_on (Ok effect.Ask) h =
         let asks = asks_followed law scope h.0 (bytes ++ word ∷ []) h.1 h.2 (goes_on _) in
         (h.0, (small, asks, h.3, on_time))
-    going_on (Ok judged.Foreign) h =
+    going_on (Ok effect.Foreign) h =
         (small, expansion_opens scope (bytes ++ word ∷ []) h (goes_on (word ∷ [])), on_time)
     going_on (Err rule.Sum) h = record {
       breaks = (needed_followed scope bytes followed ∙ h.0, h.1);
@@ -312,11 +312,11 @@ module _ (scope : Scope) (bytes : List ℕ) (from : Option Event) (at word : ℕ
     going_on result h = absurd h
 
   -- by the times of a profile
-  pub going_by : (times : Profile) (result : Result Judged Rule) → InBlockTime times from Said
+  pub going_by : (times : Profile) (result : Result Effect Rule) → InBlockTime times from Said
       → is_past (block_most times) from Said ≡ false
-      → IsGoingOn (profile_of scope.begins) bytes word result → IsJudgedBy times Asking Said result
+      → IsGoingOn (profile_of scope.begins) bytes word result → HasEffectBy times Asking Said result
   going_by times result near past going = record {
-    judged = λ counts. going_on
+    effect = λ counts. going_on
         (block_covered times (profile_of scope.begins) from Said result counts near) result going;
     timely = block_timely times (InAsk bytes) from Said result refl past;
   }
@@ -427,9 +427,9 @@ module _ (scope : Scope) (command : Command) (from : Option Event) (at word : �
         reply_read result h = absurd h
 
     -- what is made of that word
-    pub reply_ended : (result : Result Judged Rule) → IsReplyEnd command bytes word result
-        → IsJudged Replying Told result
-    reply_ended (Ok judged.Reply) h = reply_read h.0 h.1
+    pub reply_ended : (result : Result Effect Rule) → IsReplyEnd command bytes word result
+        → HasEffect Replying Told result
+    reply_ended (Ok effect.Reply) h = reply_read h.0 h.1
     reply_ended (Err rule.Length) h =
         replies_first rule.Length (inr (marked, h)) (omega arith) (λ b. omega arith)
         (λ b. omega arith) (λ b. omega arith) (λ b. omega arith)
@@ -488,28 +488,28 @@ module _ (bytes block : List ℕ) (i : ℕ) (is : block ≡ block_of bytes) wher
   word_after past = sym (slice_get_past (peripheral_words (block_of bytes)) i
       (omega (arith, past, words_count bytes, long)))
 
--- what was judged of a word that may begin a block
+-- the effect of a word that may begin a block
 pub opened_belongs : (scope : Scope) → FrontIsOpen → (least : ℕ) (from : Option Event) (at word : ℕ)
-    (result : Result Judged Rule) → IsOpened scope least from (Word at Controller word) word result
+    (result : Result Effect Rule) → IsOpened scope least from (Word at Controller word) word result
     → (here : Phase) (bytes : List ℕ) → (here ≡ phase.InAsk → ⊥)
     → IfOk result (Belongs here bytes (Word at Controller word))
-opened_belongs scope law least from at word (Ok judged.AskByte) opened phase.InAsk bytes other =
+opened_belongs scope law least from at word (Ok effect.AskByte) opened phase.InAsk bytes other =
     absurd (other refl)
-opened_belongs scope law least from at word (Ok judged.AskByte) opened here bytes other =
+opened_belongs scope law least from at word (Ok effect.AskByte) opened here bytes other =
     let front = plain_front scope (word % 256 ∷ []) opened.1 in
     (tt, open_front (profile_of scope.begins) law (word % 256 ∷ []) front)
 opened_belongs scope law least from at word result opened here bytes other = search
 
--- what was judged of a word inside a block of the controller
+-- the effect of a word inside a block of the controller
 pub asking_belongs : FrontIsOpen → (profile : Profile) (bytes : List ℕ) (at word : ℕ)
-    (result : Result Judged Rule) → IsGoingOn profile bytes word result
+    (result : Result Effect Rule) → IsGoingOn profile bytes word result
     → IfOk result (Belongs phase.InAsk bytes (Word at Controller word))
-asking_belongs law profile bytes at word (Ok judged.AskByte) going =
+asking_belongs law profile bytes at word (Ok effect.AskByte) going =
     let longer : List ℕ = bytes ++ word % 256 ∷ [] in
     let begun : IsOpen longer = open_front profile law longer going.1 in
     let long : length longer ≡ length bytes + 1 = length-append bytes (word % 256 ∷ []) in
     let few = few_open longer (needed longer) (omega (arith, long)) refl begun in
     (tt, (omega (arith, long, few), begun))
-asking_belongs law profile bytes at word (Ok judged.Ask) going =
+asking_belongs law profile bytes at word (Ok effect.Ask) going =
     (refl, going.0, sealed bytes word going.0 going.1)
 asking_belongs law profile bytes at word result going = search

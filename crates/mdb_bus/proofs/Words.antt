@@ -40,7 +40,7 @@ pub use Rattle.mdb_bus.specs.Formats.{format_by, format_for, HasFault, IsReadAs,
 pub use Rattle.mdb_bus.specs.LeavingOut.{acts_with, begin_left_out, breaks_among, device_in, has_part, is_break, is_left_out, is_one_left_out, is_this, IsLeftOut, LeavesOutMore, position_without, with_foreign}
 pub use Rattle.mdb_bus.specs.LinkFaults.{asked_device, blame_of, blame_on, fault_at, fault_of, IsBefore, IsFirstBroken, IsLinkFault, IsOutside, IsPast, LeavesProfile, order, OutOfOrder, RowBreaks, Situation, situation_of, WrongLength}
 pub use Rattle.mdb_bus.specs.Pieces.{act_in, GoesOnFrom, HasActList, IsTail, levels_if, NamesAReply, with_act}
-pub use Rattle.mdb_bus.specs.Scopes.{Asks, HasCommand, IsFollowed, leaves_options, levels_before, needed_by, needed_in, profile_of}
+pub use Rattle.mdb_bus.specs.Scopes.{Asks, HasCommand, IsFollowed, leaves_features, levels_before, needed_by, needed_in, profile_of}
 pub use Rattle.mdb_bus.specs.Times.{answer_most, block_most, block_rest, break_least, rest_after}
 pub use Rattle.mdb_bus.specs.Wish.{HearsAsWished, HearsFreeAsWished, nothing_told, Wish}
 pub use Rattle.mdb_bus.specs.declared.act.Act.{Act}
@@ -49,9 +49,9 @@ pub use Rattle.mdb_bus.specs.declared.fault.LinkFault.{LinkFault}
 pub use Rattle.mdb_bus.specs.declared.fault.Rule.{Rule}
 pub use Rattle.mdb_bus.specs.declared.format.Format.{Format}
 pub use Rattle.mdb_bus.specs.declared.format.Format.TheVariants.{As, Or}
-pub use Rattle.mdb_bus.specs.declared.judged.Judged.{Judged}
+pub use Rattle.mdb_bus.specs.declared.effect.Effect.{Effect}
 pub use Rattle.mdb_bus.specs.declared.levels.Levels.{Levels}
-pub use Rattle.mdb_bus.specs.declared.options.KnownOptions.{KnownOptions}
+pub use Rattle.mdb_bus.specs.declared.features.KnownFeatures.{KnownFeatures}
 pub use Rattle.mdb_bus.specs.declared.place.Place.{Place}
 pub use Rattle.mdb_bus.specs.declared.scope.Beginning.{Beginning}
 pub use Rattle.mdb_bus.specs.declared.scope.Beginning.TheVariants.{Joined, PowerOn}
@@ -62,4 +62,4 @@ pub use Rattle.mdb_bus.specs.inner.Reading.{AreAlike, AreReply, IsOpenOr, IsPlai
 pub use Rattle.mdb_bus.specs.shared.Grammar.{Grammar}
 pub use Rattle.mdb_bus.specs.shared.RulePlaces.{IsFirstByPlace, place_of}
 pub use Rattle.mdb_bus.specs.shared.Step.{EachStep, SomeStep, Step}
-pub use Rattle.mdb_bus.specs.shared.Steps.{act_after, asked_after, Belongs, Counts, Covers, GoesOnAsking, GoesOnForeign, grown, HasAdvanced, IsAt, IsCommandFront, IsEnded, IsGoingOn, IsJudged, IsJudgedBy, IsOpened, IsRead, IsReadAt, IsReplyEnd, IsSettled, IsSound, IsTimely, IsUnknownExpansion, Leads, Opens, piece_after, pieces_after, position_after, WordLeads}
+pub use Rattle.mdb_bus.specs.shared.Leads.{act_after, asked_after, Belongs, Counts, Covers, GoesOnAsking, GoesOnForeign, grown, HasAdvanced, IsAt, IsCommandFront, IsEnded, IsGoingOn, HasEffect, HasEffectBy, IsOpened, IsRead, IsReadAt, IsReplyEnd, IsSettled, IsSound, IsTimely, IsUnknownExpansion, Leads, Opens, piece_after, pieces_after, position_after, WordLeads}

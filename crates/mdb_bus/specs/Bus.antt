@@ -63,7 +63,7 @@ pub record StandsFor (bus : Bus) (pieces : List Piece) : Type 0 where
   pub last : last_of (events_of pieces) ≡ bus.last
   pub levels : levels_of (profile_of (scope_of bus).begins) (levels_before (scope_of bus)) pieces
       ≡ bus.levels
-  pub options : known_of (first_known (scope_of bus).begins) (acts_of pieces) ≡ bus.options
+  pub features : known_of (first_known (scope_of bus).begins) (acts_of pieces) ≡ bus.features
   pub asked : asked_device pieces ≡ bus.asked
   pub awaited : is_awaited pieces ≡ awaited_at (position_at bus.place) bus.awaited
   pub haste : haste_of (scope_of bus) pieces ≡ bus.haste

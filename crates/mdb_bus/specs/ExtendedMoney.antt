@@ -17,7 +17,7 @@ use Rattle.mdb_bus.specs.declared.fault.Rule.{Rule}
 use Rattle.mdb_bus.specs.declared.fault.Rule.TheVariants as rule
 use Rattle.mdb_bus.specs.declared.levels.Levels.{Levels}
 use Rattle.mdb_bus.specs.declared.levels.ReaderLevels.{ReaderLevels}
-use Rattle.mdb_bus.specs.declared.options.KnownOptions.{KnownOptions}
+use Rattle.mdb_bus.specs.declared.features.KnownFeatures.{KnownFeatures}
 use Rattle.mdb_bus.specs.declared.scope.Beginning.{Beginning}
 use Rattle.mdb_bus.specs.declared.scope.Beginning.TheVariants.{Joined}
 use Rattle.mdb_bus.specs.declared.scope.Profile.TheVariants.{Extended}
@@ -27,32 +27,32 @@ use Rattle.mdb_bus.specs.ExtendedCounts.{is_refusal}
 use Rattle.mdb_bus.specs.Scopes.{levels_before, profile_of}
 use Rattle.mdb_bus.specs.Positions.{Position}
 
--- ---- whose options are known
+-- ---- whose features are known
 
-abbrev pub all_known : KnownOptions
+abbrev pub all_known : KnownFeatures
 all_known = record { first = true; second = true }
 
 -- As a recording begins: in mid-session by the extended profile those that the setup data tell, and
 -- else all.
-abbrev pub first_known : Beginning → KnownOptions
+abbrev pub first_known : Beginning → KnownFeatures
 first_known (Joined setups Extended) = record {
-  first = (reader_known setups First).options;
-  second = (reader_known setups Second).options;
+  first = (reader_known setups First).features;
+  second = (reader_known setups Second).features;
 }
 first_known begins = all_known
 
--- a command settles the options of the reader that takes it: RESET, and ENABLE OPTIONS
-abbrev pub settles_options : ReaderCommand → Bool
-settles_options readers.Reset = true
-settles_options (readers.EnableOptions options) = true
-settles_options command = false
+-- a command settles the features of the reader that takes it: RESET, and ENABLE OPTIONS
+abbrev pub settles_features : ReaderCommand → Bool
+settles_features readers.Reset = true
+settles_features (readers.EnableOptions options) = true
+settles_features command = false
 
 -- after a command that was taken
-abbrev pub known_after : Command → KnownOptions → KnownOptions
+abbrev pub known_after : Command → KnownFeatures → KnownFeatures
 known_after (commands.Reader First command) known =
-    record known { first = known.first || settles_options command }
+    record known { first = known.first || settles_features command }
 known_after (commands.Reader Second command) known =
-    record known { second = known.second || settles_options command }
+    record known { second = known.second || settles_features command }
 known_after command known = known
 
 -- whether a message of a reply is a reader's 0B: its command isn't taken then
@@ -60,9 +60,9 @@ abbrev pub refuses : Reply → Bool
 refuses (replies.Reader list) = list_any is_refusal list.messages
 refuses reply = false
 
--- after an act: a break settles all options, and a reader takes a command by its ACK, or by data
+-- after an act: a break settles all features, and a reader takes a command by its ACK, or by data
 -- that don't refuse it
-abbrev pub known_by : Act → KnownOptions → KnownOptions
+abbrev pub known_by : Act → KnownFeatures → KnownFeatures
 known_by (acts.Break length) known = all_known
 known_by (acts.Ack command) known = known_after command known
 known_by (acts.Reply command reply) known =
@@ -70,12 +70,12 @@ known_by (acts.Reply command reply) known =
 known_by act known = known
 
 -- after an act, if there is one
-abbrev pub known_if : Option Act → KnownOptions → KnownOptions
+abbrev pub known_if : Option Act → KnownFeatures → KnownFeatures
 known_if None known = known
 known_if (Some act) known = known_by act known
 
 -- after acts
-abbrev pub known_of : KnownOptions → List Act → KnownOptions
+abbrev pub known_of : KnownFeatures → List Act → KnownFeatures
 known_of before [] = before
 known_of before (act ∷ acts) = known_by act (known_of before acts)
 
@@ -86,7 +86,7 @@ abbrev pub is_below_3 : Option ℕ → Option ℕ → Bool
 is_below_3 (Some asked) (Some told) = ltb asked 3 || ltb told 3
 is_below_3 asked told = false
 
--- whether a reader may speak money of 32 bits: its options aren't known, and the level isn't known
+-- whether a reader may speak money of 32 bits: its features aren't known, and the level isn't known
 -- to be below 3
 abbrev pub may_be_wide : Bool → ReaderLevels → Bool
 may_be_wide known levels = not (known || is_below_3 levels.asked levels.told)
@@ -96,7 +96,7 @@ pub record Wide : Type 0 where
   pub first : Bool
   pub second : Bool
 
-abbrev pub wide_at : KnownOptions → Levels → Wide
+abbrev pub wide_at : KnownFeatures → Levels → Wide
 wide_at known levels = record {
   first = may_be_wide known.first levels.first;
   second = may_be_wide known.second levels.second;

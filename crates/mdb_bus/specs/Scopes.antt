@@ -63,18 +63,18 @@ abbrev pub IsFollowed : Scope → Device → Type 0
 IsFollowed scope device = has scope.without device ≡ false
 
 -- whether a profile leaves ENABLE OPTIONS out, whose block is foreign then: the base profile does
-abbrev pub leaves_options : Profile → Bool
-leaves_options Base = true
-leaves_options Extended = false
+abbrev pub leaves_features : Profile → Bool
+leaves_features Base = true
+leaves_features Extended = false
 
 -- a profile has a command
 abbrev pub HasCommand : Profile → Command → Type 0
-HasCommand profile command = (leaves_options profile && is_enable_options command) ≡ false
+HasCommand profile command = (leaves_features profile && is_enable_options command) ≡ false
 
 -- what a block that begins with these bytes needs, whoever it is to
 abbrev pub needed_by : Profile → List ℕ → Need
 needed_by profile prefix =
-    if leaves_options profile && begins_options prefix then Foreign else needed prefix
+    if leaves_features profile && begins_options prefix then Foreign else needed prefix
 
 -- the same, where a block to a device that is left out is foreign too
 abbrev pub needed_in : Scope → List ℕ → Need

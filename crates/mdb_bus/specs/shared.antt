@@ -1,4 +1,4 @@
 pub mod Grammar
+pub mod Leads
 pub mod RulePlaces
 pub mod Step
-pub mod Steps

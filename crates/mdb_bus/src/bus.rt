@@ -11,13 +11,13 @@ ghost use Rattle.mdb_bus.specs.shared.Step.{EachStep};
 
 use super::act::Act;
 use super::begun::Begun;
+use super::effect::Effect;
+use super::effects::effect_of;
 use super::fault::{Blame, LinkFault, Rule};
+use super::features::{KnownFeatures, amounts_to, asked_with_amounts, reader_asked};
 use super::haste::{awaited_after, counted_in, haste_after};
-use super::judged::Judged;
-use super::judging::judge;
 use super::laws;
 use super::levels::Levels;
-use super::options::{KnownOptions, amounts_to, asked_with_amounts, reader_asked};
 use super::phase::Phase;
 use super::place::Place;
 use super::scope::{Beginning, Profile, Scope};
@@ -35,7 +35,7 @@ pub struct Bus {
     place: Place,
     last: Option<Event>,
     levels: Levels,
-    options: KnownOptions,
+    features: KnownFeatures,
     asked: Option<Device>,
     /// Whether an answer is awaited while foreign traffic is open. Elsewhere the phase says it.
     awaited: bool,
@@ -53,7 +53,7 @@ impl Bus {
     ghost use Rattle.mdb_bus.specs.ExtendedTimes.{sender_by, untimely_sender};
     ghost use Rattle.mdb_bus.specs.inner.Gone.{HasGone, situation_at};
     ghost use Rattle.mdb_bus.specs.shared.Step as step;
-    ghost use Rattle.mdb_bus.specs.shared.Steps.{Belongs, Covers, IsAt, IsReadAt, IsTimely, Leads};
+    ghost use Rattle.mdb_bus.specs.shared.Leads.{Belongs, Covers, IsAt, IsReadAt, IsTimely, Leads};
 
     /// The bus before the first row of a recording that begins at power-on or at a break. All
     /// devices are followed.
@@ -92,7 +92,7 @@ impl Bus {
             },
             last: None,
             levels: scope.levels_before(),
-            options: KnownOptions::before(&scope.begins),
+            features: KnownFeatures::before(&scope.begins),
             asked: None,
             awaited: false,
             haste: false,
@@ -229,14 +229,16 @@ impl Bus {
     /// act, which it then puts into `act`. Haste stays as it was.
     #[inline(always)]
     fn step(&mut self, times: Profile, event: &Event, act: &mut Act) -> Result<bool, Rule>
-        ensures goes_on { (pieces : List Piece) (haste : Bool) → StandsFor self.old pieces
+        ensures goes_on { (pieces : List Piece) (kept haste : Bool) → StandsFor self.old pieces
             → Covers times (profile_of self.old.scope.begins)
+            → awaited_at (position_at self.new.place) kept
+            ≡ awaited_at (position_at self.new.place) self.new.awaited
             → ((next : step.Step) → Leads (situation_at self.old) event.now next
             → haste ≡ haste_by (profile_of self.old.scope.begins) (haste_after_lem
             (awaited_at (position_at self.old.place) self.old.awaited)
             self.old.last event.now self.old.haste))
-            → IfOk result (λ ended. GoesOn (record self.new { haste = haste }) pieces event.now
-            (ended_act ended act.new)) }
+            → IfOk result (λ ended. GoesOn (record self.new { awaited = kept; haste = haste })
+            pieces event.now (ended_act ended act.new)) }
         ensures timely { (pieces : List Piece) → StandsFor self.old pieces → OnOk result
             (IsTimely times (position_at self.old.place) self.old.last event.now) }
         ensures breaks { (pieces : List Piece) → StandsFor self.old pieces
@@ -248,11 +250,11 @@ impl Bus {
         ensures none { IfOk result (λ ended. ended ≡ false → act.new ≡ act.old) }
         ensures untouched { OnErr result (act.new ≡ act.old) }
     {
-        match judge(times, &self.scope, &self.place, &self.last, event) {
-            Ok(judged) => match judged {
-                Judged::Reply => self.take_reply(event, act),
-                Judged::Foreign => Ok(self.take_foreign(event, act)),
-                _ => Ok(self.go(judged, event, act)),
+        match effect_of(times, &self.scope, &self.place, &self.last, event) {
+            Ok(effect) => match effect {
+                Effect::Reply => self.take_reply(event, act),
+                Effect::Foreign => Ok(self.take_foreign(event, act)),
+                _ => Ok(self.go(effect, event, act)),
             },
             Err(rule) => Err(rule),
         }
@@ -279,7 +281,7 @@ impl Bus {
     {
         self.place.end_reply(&self.scope.begins, self.levels, act)?;
         self.levels.note(self.scope.begins.profile(), act);
-        self.options.note(act);
+        self.features.note(act);
         self.last = Some(*event);
         Ok(true)
     }
@@ -297,31 +299,31 @@ impl Bus {
         self.awaited = awaited_after(event, self.is_awaited());
         self.asked = None;
         self.last = Some(*event);
-        self.place.advance(Judged::Foreign, event, act)
+        self.place.advance(Effect::Foreign, event, act)
     }
 
     /// Goes a step by any other row, and answers whether it ends an act, which it then puts into
     /// `act`.
     #[inline(always)]
-    fn go(&mut self, judged: Judged, event: &Event, act: &mut Act) -> bool
-        requires belongs { Belongs self.old.place.phase self.old.place.bytes event.now judged }
-        requires reply { judged ≢ Judged.Reply }
-        requires foreign { judged ≢ Judged.Foreign }
-        ensures gone { EachStep judged event.now (λ next. IsAt (position_at self.old.place) next
+    fn go(&mut self, effect: Effect, event: &Event, act: &mut Act) -> bool
+        requires belongs { Belongs self.old.place.phase self.old.place.bytes event.now effect }
+        requires reply { effect ≢ Effect.Reply }
+        requires foreign { effect ≢ Effect.Foreign }
+        ensures gone { EachStep effect event.now (λ next. IsAt (position_at self.old.place) next
             → HasGone self.old next event.now self.new (ended_act result act.new)) }
         ensures none { result ≡ false → act.new ≡ act.old }
         ensures scope { self.new.scope ≡ self.old.scope }
         ensures haste { self.new.haste ≡ self.old.haste }
     {
-        let ended = self.place.advance(judged, event, act);
-        // After the step, since it was measured to be quicker: so no store stands between judging
+        let ended = self.place.advance(effect, event, act);
+        // After the step, since it was measured to be quicker: so no store stands between effect
         // a row and choosing its step.
         self.last = Some(*event);
-        match judged {
-            Judged::Ask => self.note_ask(act),
-            Judged::Ack => self.options.note(act),
-            Judged::Break => {
-                self.options.note(act);
+        match effect {
+            Effect::Ask => self.note_ask(act),
+            Effect::Ack => self.features.note(act),
+            Effect::Break => {
+                self.features.note(act);
                 self.asked = None;
             }
             _ => {}
@@ -367,7 +369,7 @@ impl Bus {
     #[inline(always)]
     fn note_ask(&mut self, act: &Act)
         ensures scope { self.new.scope ≡ self.old.scope }
-        ensures options { self.new.options ≡ self.old.options }
+        ensures features { self.new.features ≡ self.old.features }
         ensures haste { self.new.haste ≡ self.old.haste }
         ensures levels { (command : Command) → act.now ≡ Act.Ask command
             → self.new.levels ≡ levels_after command self.old.levels }
@@ -387,7 +389,7 @@ impl Bus {
     /// The fault of a row that breaks this rule first.
     fn fault(&self, rule: Rule, event: &Event) -> LinkFault
         ensures { result ≡ fault_at (position_at self.now.place) self.now.asked
-            (wide_at self.now.options self.now.levels) self.now.haste event.now rule }
+            (wide_at self.now.features self.now.levels) self.now.haste event.now rule }
     {
         let rule = self.counted(rule);
         let blame = self.blame_for(event, rule);
@@ -441,7 +443,7 @@ impl Bus {
     /// may be money of 32 bits.
     fn counted(&self, rule: Rule) -> Rule
         ensures { result ≡ counted_as rule (position_at self.now.place)
-            (wide_at self.now.options self.now.levels) }
+            (wide_at self.now.features self.now.levels) }
     {
         let reader = match (rule, self.place.phase) {
             (Rule::Sum, Phase::InAsk) => asked_with_amounts(self.place.bytes.as_slice()),
@@ -449,7 +451,7 @@ impl Bus {
             (Rule::Message, Phase::InReply) => reader_asked(self.place.command),
             _ => return rule,
         };
-        if self.options.leave_wide(reader, self.levels) {
+        if self.features.leave_wide(reader, self.levels) {
             Rule::Profile
         } else {
             rule

@@ -4,7 +4,7 @@ ghost use Rattle.std.specs.Prelude.{◌≡◌, ◌≢◌, ◌↔◌, true, false
 ghost use Rattle.std.specs.List.{filter};
 ghost use Rattle.mdb_bus.specs.ExtendedCounts.{counted, counts, may_restart};
 
-use super::options::has_refusal;
+use super::features::has_refusal;
 use arrayvec::ArrayVec;
 use mdb_msgs::{ReaderList, ReaderMsg};
 

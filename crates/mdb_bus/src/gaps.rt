@@ -6,7 +6,7 @@ ghost use Rattle.mdb_bus.specs.ActLists as lists;
 ghost use Rattle.mdb_bus.specs.LinkFaults.{IsBefore, IsAfter, IsPast, OutOfOrder};
 ghost use Rattle.mdb_bus.specs.Times.{answer_most, block_most};
 ghost use Rattle.mdb_bus.specs.ExtendedTimes as spec;
-ghost use Rattle.mdb_bus.specs.shared.Steps.{IsUntimely};
+ghost use Rattle.mdb_bus.specs.shared.Leads.{IsUntimely};
 
 use super::fault::Rule;
 use super::scope::Profile;

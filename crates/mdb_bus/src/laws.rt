@@ -128,7 +128,7 @@ pub fn rows_have_one_fault()
         → IsLinkFault scope pieces row s b → (r ≡ s) × (a ≡ b) }
 {}
 
-/// Where the options of all readers are known, as from power-on and by the base profile, a row's
+/// Where the features of all readers are known, as from power-on and by the base profile, a row's
 /// fault is the first rule that it breaks.
 #[tactic(auto, using(crate::proofs::PlainMoney::counts_plainly))]
 pub fn first_broken_rules_count_where_options_are_known()

@@ -3,13 +3,13 @@
 ghost use Rattle.std.specs.Prelude.{◌≡◌, ◌≢◌, ◌%◌, ℕ, false, true, Some, None, IfOk, IfErr, OnErr, Ok, Err};
 ghost use Rattle.mdb_bus.specs.inner.PlaceBytes.{HasBegun, HasBegun-prop};
 ghost use Rattle.mdb_bus.specs.shared.Step.{word_in};
-ghost use Rattle.mdb_bus.specs.shared.Steps.{IsWord, rule_of as rule_of_lem};
+ghost use Rattle.mdb_bus.specs.shared.Leads.{IsWord, rule_of as rule_of_lem};
 
 use super::act::Act;
 use super::begun::Begun;
+use super::effect::Effect;
 use super::fault::Rule;
 use super::format::read_as;
-use super::judged::Judged;
 use super::levels::Levels;
 use super::phase::Phase;
 use super::scope::Beginning;
@@ -43,42 +43,42 @@ impl Place {
     ghost use Rattle.mdb_bus.specs.Bus.{ended_act, position_at};
     ghost use Rattle.mdb_bus.specs.shared.Step as step;
     ghost use Rattle.mdb_bus.specs.shared.Step.{EachStep};
-    ghost use Rattle.mdb_bus.specs.shared.Steps.{Belongs, HasAdvanced, IsAt, IsBreak, IsTaken, MayAsk, MayRepeat, MayReply};
+    ghost use Rattle.mdb_bus.specs.shared.Leads.{Belongs, HasAdvanced, IsAt, IsBreak, IsTaken, MayAsk, MayRepeat, MayReply};
 
     /// Goes a step, and answers whether it ends an act, which it then puts into `act`. What a reply
     /// that has ended says decides of its step, so `end_reply` goes it.
     #[inline(always)]
-    pub(crate) fn advance(&mut self, judged: Judged, row: &Event, act: &mut Act) -> bool
-        requires belongs { Belongs self.old.phase self.old.bytes row.now judged }
-        requires other { judged ≢ Judged.Reply }
-        ensures advanced { EachStep judged row.now (λ next. IsAt (position_at self.old) next
+    pub(crate) fn advance(&mut self, effect: Effect, row: &Event, act: &mut Act) -> bool
+        requires belongs { Belongs self.old.phase self.old.bytes row.now effect }
+        requires other { effect ≢ Effect.Reply }
+        ensures advanced { EachStep effect row.now (λ next. IsAt (position_at self.old) next
             → HasAdvanced (position_at self.old) next (position_at self.new)
             (ended_act result act.new)) }
         ensures none { result ≡ false → act.new ≡ act.old }
     {
-        match judged {
-            Judged::AskByte => {
+        match effect {
+            Effect::AskByte => {
                 self.add_to_ask(byte_in(row));
                 false
             }
-            Judged::Ask => self.end_ask(act),
-            Judged::Foreign => self.open_foreign(act),
-            Judged::Ack => self.end_by_ack(act),
-            Judged::Nak => self.end_by_nak(act),
-            Judged::ReplyByte => {
+            Effect::Ask => self.end_ask(act),
+            Effect::Foreign => self.open_foreign(act),
+            Effect::Ack => self.end_by_ack(act),
+            Effect::Nak => self.end_by_nak(act),
+            Effect::ReplyByte => {
                 self.add_to_reply(byte_in(row));
                 false
             }
-            Judged::Reply => unreachable!(),
-            Judged::VmcAck => self.acknowledge(act),
-            Judged::VmcNak => self.refuse(act),
-            Judged::VmcRet => self.return_reply(act),
-            Judged::RepeatWord => {
+            Effect::Reply => unreachable!(),
+            Effect::VmcAck => self.acknowledge(act),
+            Effect::VmcNak => self.refuse(act),
+            Effect::VmcRet => self.return_reply(act),
+            Effect::RepeatWord => {
                 self.add_to_repeat();
                 false
             }
-            Judged::Repeat => self.end_repeat(act),
-            Judged::Break => self.end_by_break(row, act),
+            Effect::Repeat => self.end_repeat(act),
+            Effect::Break => self.end_by_break(row, act),
         }
     }
 

@@ -1,7 +1,7 @@
 //! The scope of a check.
 
 ghost use Rattle.std.specs.Prelude.{◌≡◌, ◌<◌, ◌∷◌, [], length};
-ghost use Rattle.mdb_bus.specs.Scopes.{from_power_on, leaves_options, leaving_out, levels_before, needed_by, needed_in, profile_of, told};
+ghost use Rattle.mdb_bus.specs.Scopes.{from_power_on, leaves_features, leaving_out, levels_before, needed_by, needed_in, profile_of, told};
 ghost use Rattle.mdb_bus.specs.JoinedScopes.{joined, joined_by};
 
 use super::levels::Levels;
@@ -21,8 +21,8 @@ pub enum Profile {
 
 impl Profile {
     /// Whether ENABLE OPTIONS is foreign.
-    fn leaves_options(self) -> bool
-        ensures { result ≡ leaves_options self }
+    fn leaves_features(self) -> bool
+        ensures { result ≡ leaves_features self }
     {
         matches!(self, Profile::Base)
     }
@@ -33,7 +33,7 @@ impl Profile {
         requires { 0 < length prefix.now }
         ensures { result ≡ needed_by self prefix.now }
     {
-        if self.leaves_options() && begins_options(prefix) {
+        if self.leaves_features() && begins_options(prefix) {
             Need::Foreign
         } else {
             need_of(prefix)
@@ -49,7 +49,7 @@ pub enum Beginning {
     PowerOn(Profile),
     /// While the machine was running. Nothing is known of what was sent before, and each device may
     /// be in any state. These setup data are known from elsewhere. What they tell of a reader's
-    /// levels and options counts by the extended profile alone.
+    /// levels and features counts by the extended profile alone.
     Joined(Setups, Profile),
 }
 

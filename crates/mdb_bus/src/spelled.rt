@@ -22,7 +22,7 @@ pub struct Spelled {
 
 impl Spelled {
     ghost use Rattle.mdb_bus.specs.Acts.{reply_words};
-    ghost use Rattle.mdb_bus.specs.shared.Steps.{word_at};
+    ghost use Rattle.mdb_bus.specs.shared.Leads.{word_at};
 
     /// What stands for the last reply before the first one, and no phase asks for: the changer's
     /// POLL answered with status 00.

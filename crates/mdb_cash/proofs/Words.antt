@@ -2,7 +2,7 @@
 pub use Rattle.std.proofs.Common.{[], ap, arith, Bool, drop, false, if◌then◌else◌, inl, inr, length, List, None, Option, refl, rules, Some, subst, sym, true, ℕ, ◌<◌, ◌^◌, ◌↔◌, ◌∙◌, ◌∷◌, ◌≡◌, ◌⊎◌}
 pub use Rattle.std.proofs.lemmas.Bool.{eq-eqb, eqb-true}
 pub use Rattle.mdb_msgs.specs.declared.command.Command.TheVariants.{Bill, Changer}
-pub use Rattle.mdb_machine.proofs.KeeperSteps.{idle, unheard, unread}
+pub use Rattle.mdb_machine.proofs.KeeperConduct.{idle, unheard, unread}
 pub use Rattle.mdb_machine.proofs.Knowing.{rests_knowing, still_knowing, unheeded_knowing}
 pub use Rattle.mdb_machine.proofs.MidSession.{any_asked, held_ways, no_way, settled_steps, silent_way, some_told}
 pub use Rattle.mdb_machine.proofs.PowerOn.{power_on_known, power_on_steps}

@@ -19,7 +19,7 @@ use Rattle.mdb_machine.specs.declared.gains.Gains.{Gains}
 use Rattle.mdb_cash.specs.BillFacts.{Facts, known_of, tables}
 use Rattle.mdb_cash.specs.Credits.{counted}
 use Rattle.mdb_machine.specs.Gains.{Stays, in_slots, no_gains}
-use Rattle.mdb_machine.specs.KeeperSteps.{Conduct, StepKnowing}
+use Rattle.mdb_machine.specs.KeeperConduct.{Conduct, StepKnowing}
 use Rattle.mdb_machine.specs.Machine.{Machine, StartsIn}
 
 -- the power-on state: nothing in escrow, and nothing held

@@ -16,7 +16,7 @@ use Rattle.mdb_machine.specs.declared.gains.Gains.{Gains}
 use Rattle.mdb_cash.specs.ChangerFacts.{Facts, known_of, tables}
 use Rattle.mdb_machine.specs.Gains.{Stays, controller_gains, device_gains, in_slots, no_gains}
 use Rattle.mdb_cash.specs.Credits.{counted}
-use Rattle.mdb_machine.specs.KeeperSteps.{Conduct, StepKnowing}
+use Rattle.mdb_machine.specs.KeeperConduct.{Conduct, StepKnowing}
 use Rattle.mdb_machine.specs.Machine.{Machine, StartsIn}
 
 -- the power-on state: nothing held, and no DISPENSE owed

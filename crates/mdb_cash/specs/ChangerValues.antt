@@ -13,7 +13,7 @@ use Rattle.mdb_bus.specs.declared.scope.Profile.{Profile}
 use Rattle.mdb_cash.specs.declared.changer.state.ChangerState.{ChangerState}
 use Rattle.mdb_machine.specs.declared.choice.Choice.{Choice}
 use Rattle.mdb_machine.specs.declared.gains.Gains.{Gains}
-use Rattle.mdb_machine.specs.KeeperSteps.{KeeperStep}
+use Rattle.mdb_machine.specs.KeeperConduct.{KeeperStep}
 use Rattle.mdb_cash.specs.Changer.{conduct}
 
 abbrev pub Value : Type 0

@@ -80,10 +80,6 @@ impl Pair for Bill {
         BillKnown::start(begins)
     }
 
-    fn facts_copy(known: &BillKnown) -> BillKnown {
-        known.copy()
-    }
-
     #[inline(always)]
     fn learn(known: &mut BillKnown, act: &Act) {
         known.learn(act);

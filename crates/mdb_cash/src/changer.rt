@@ -80,10 +80,6 @@ impl Pair for Changer {
         ChangerKnown::start(begins)
     }
 
-    fn facts_copy(known: &ChangerKnown) -> ChangerKnown {
-        known.copy()
-    }
-
     #[inline(always)]
     fn learn(known: &mut ChangerKnown, act: &Act) {
         known.learn(act);

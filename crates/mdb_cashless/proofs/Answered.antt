@@ -1,7 +1,7 @@
 -- What a reply of a reader tells, for the function that reads it.
 use Rattle.mdb_cashless.proofs.Words.{◌≡◌, ◌∙◌, ℕ, Bool, List, Option, Some, refl, sym, ReaderCommand, Reply, Choice, Gains, Part, device_gains, in_slots, held, IsSummary, IsOnlyStep, or_else, DeviceState, ReaderActivity, ReaderState, Ended, Transaction, all_told, config_in, last_said, messages_of, parts_of, amounts, HasNews, holds_after, all_approved, is_poll, last_transaction, owes_reset, sold_any, take_any, ReplyStep, before_messages, read, taken, Facts}
 use Rattle.mdb_msgs.specs.declared.setups.ReaderConfig.{ReaderConfig}
-use Rattle.mdb_cashless.proofs.Steps.{same_state}
+use Rattle.mdb_cashless.proofs.ReaderMoves.{same_state}
 
 -- what the code has found out of a reply before it looks for new messages
 pub record Looked (facts : Facts) (command : ReaderCommand) (reply : Reply) (choice : Choice)

@@ -1,5 +1,4 @@
--- The steps of a reader that follows approvals where an act isn't settled: they are those of three
--- guesses at what isn't known.
+-- Where an act isn't settled, the steps by approvals are those of three guesses of the unknown.
 use Rattle.mdb_cashless.proofs.Words.{common_steps, ◌≡◌, ◌≢◌, ◌↔◌, ◌⊎◌, ◌∙◌, ◌∷◌, ◌++◌, ◌||◌, ◌&&◌, ◌-◌, not, ℕ, Bool, true, false, List, [], Option, Some, None, refl, ap, sym, inl, inr, length, drop, arith, if◌then◌else◌, is_none, or-true, take-append_seam, and_parts, eqb-true, Decides-eqb, ReaderCommand, ReaderUnit, Reply, Act, Choice, Again, Gains, Is, Known, Allows, if_known, ForOwn, Sale, Unawaited, Awaited, ApprovalState, approvals_in, IsEarlier, MaySell, messages_of, own, either_parts, told_again, append-nil, Nothing, Sold, IsSale, approve, may_be_again, may_be_either, news, assuming, front_of, guess, is_awaiting_known, is_sale_known, is_success, sold_again, told_by, length-append}
 use Rattle.std.proofs.lemmas.Slice.Eq.{starts_is}
 use Rattle.mdb_cashless.specs.declared.approvals.facts.ApprovalFacts.{ApprovalFacts}

@@ -1,5 +1,4 @@
--- What is known of a reader by either profile, and its amounts without a value, are of its own
--- acts.
+-- What is known of a reader by either profile, and its unvalued amounts, are of its own acts.
 use Rattle.mdb_cashless.proofs.Words.{ap, refl, sym, ◌∙◌, ◌≡◌, ◌+◌, ℕ, List, [], ◌∷◌, All, zero-add, ReaderUnit, Act, Beginning, Profile, profile_of, IsBreak, own_acts, by_profile, by_base, by_extended, facts_after, of_each, none_unvalued, config_of, unvalued}
 use Rattle.mdb_msgs.specs.declared.command.Device.TheVariants as devices
 use Rattle.mdb_machine.specs.shared.OwnWays.{IsOfOwn, part_of_none, same_known}

@@ -1,5 +1,4 @@
--- That a step of a reader depends on what may not be known as far as it can be guessed: few guesses
--- of it are enough.
+-- A reader's step depends on unknown facts only as far as a few guesses of them tell.
 use Rattle.mdb_cashless.proofs.Words.{common_steps, ◌≡◌, ◌≢◌, ◌⊎◌, ◌<◌, ◌&&◌, ℕ, suc, Bool, true, false, List, [], ◌∷◌, length, Option, Some, None, refl, if◌then◌else◌, arith, ap, sym, ◌∙◌, inl, inr, take-append_seam, ReaderCommand, Reply, Choice, Restart, Gains, IsNew, held, kept_of, or_else, DeviceState, ReaderActivity, ReaderState, Transaction, Request, Success, View, all_told, parts_of, sent, is_again, is_same, transaction_of, again, asked, is_poll, sold_any, take_any, then_by, AllowsFacts, KnownFacts, own_transaction, length-append, nat_tests, Cancel, take, AckStep, AskStep, ReplyStep, before_messages, read, taken, Facts}
 use Rattle.mdb_cashless.specs.declared.reader.messages.ReaderActivity.TheVariants.{VendApproved}
 use Rattle.mdb_cashless.specs.ReaderDevice.{told}
@@ -194,8 +193,7 @@ pub held_before : (facts : Facts) (command : ReaderCommand) (reply : Reply) (cho
 held_before facts command reply choice before holds =
     held_read choice before (held_taken facts (taken command reply) (read choice before) holds)
 
--- The list that a reader holds, if it holds one, is a front of the kept list of a reply, or that is
--- empty and so are the new ones.
+-- What a reader holds is a front of a reply's kept list, or that is empty and so are the new ones.
 pub fronts : {M : Type 0} (other : M) (poll holds : Bool) (last kept news : List M)
     → (holds ≡ true → last ≢ []) → IsNew poll (held holds last) kept news
     → IsNew poll (held holds (other ∷ [])) kept news

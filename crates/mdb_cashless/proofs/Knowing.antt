@@ -2,8 +2,7 @@
 use Rattle.mdb_cashless.proofs.Words.{common_steps, ◌≡◌, ◌≢◌, ◌⊎◌, ◌↔◌, ◌<◌, ◌+◌, ◌&&◌, ◌||◌, ℕ, Bool, true, false, List, [], ◌∷◌, length, Option, Some, None, refl, if◌then◌else◌, arith, sym, inl, inr, is_none, ReaderCommand, ReaderUnit, Reply, Act, Choice, Gains, IsNew, held, kept_of, Allows, AllowsKept, IsOnlyStep, if_known, ReaderKnown, ReaderActivity, ReaderState, Transaction, parts_of, transaction_of, own, IsReplyKeeping, OfSome, again, keeping, add-one, StepKnowing, is_poll, AllowsFacts, KnownFacts, own_transaction, take, Unknown, VendDenied, AckStep, AskStep, ReaderStep, ReplyStep, VmcAckStep, before_messages, taken, Facts, facts_in, known_in, settled, own_as}
 use Rattle.mdb_cashless.proofs.Guesses.{Alike, Meets, ack_with, alike, ask_with, either_meets, fronts, held_before, meets_itself, reply_with, same_repeats}
 
--- What a step by an act that is settled depends on is known: so a step with one guess is one with
--- another that may be.
+-- A settled act's step depends on known facts: with one guess it is one with any that may be.
 abbrev pub Same : ReaderUnit → Facts → Facts → Act → Type 0
 Same unit one other (Act.Ask command) = (its : ReaderCommand) → own unit command ≡ Some its
     → (other.asked ≡ one.asked) ⊎ (transaction_of its ≡ None)
@@ -258,8 +257,7 @@ module _ (known : ReaderKnown) where
       λ after gains step. only.1 after gains ((settled_step is after gains).0 step),
     )
 
--- A reply where the last kept list isn't known: it is a front of the kept list of the reply, of at
--- most so many messages, or none of them.
+-- An unknown last kept list is a front of the reply's, of at most so many messages, or none of it.
 abbrev pub OfFront : Facts → List ReaderActivity → ℕ → ReaderCommand → Reply → Choice → ReaderState
     → ReaderState → Gains → Type 0
 OfFront facts kept count command reply choice before after gains =

@@ -1,6 +1,6 @@
 pub mod Answered
-pub mod ApprovalSteps
 pub mod ApprovalWays
+pub mod ApprovalsLeft
 pub mod ApprovedSales
 pub mod ByProfile
 pub mod ByProfileKnown
@@ -13,7 +13,7 @@ pub mod KnownAfter
 pub mod Listed
 pub mod MidSession
 pub mod PowerOn
+pub mod ReaderMoves
 pub mod Said
 pub mod Sales
-pub mod Steps
 mod Words

@@ -7,7 +7,7 @@ use Rattle.mdb_cashless.proofs.Guesses.{held_before, is_itself, repeats}
 use Rattle.mdb_cashless.proofs.Knowing.{Same, asks_any, settled_steps}
 use Rattle.mdb_cashless.proofs.PowerOn.{last_taken_is}
 use Rattle.mdb_cashless.proofs.Sales.{is_last, own_of_unit}
-use Rattle.mdb_cashless.proofs.Steps.{as_found}
+use Rattle.mdb_cashless.proofs.ReaderMoves.{as_found}
 
 -- no act tells something where it isn't told
 nothing : {X : Type 0} (No : Act → Type 0) (tells : Act → Option X) (so_far : List Act)

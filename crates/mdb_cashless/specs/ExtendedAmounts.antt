@@ -20,8 +20,7 @@ abbrev pub is_unpriced : Facts → Bool
 is_unpriced facts = is_none facts.config || is_none facts.amount || facts.earlier
 
 -- How many amounts without a value an act tells, where this is known before it: VEND SUCCESS that
--- is
--- asked, and messages 05 of a reply, told again or not; its own config message counts first. A
+-- is asked, and messages 05 of a reply, told again or not; its own config message counts first. A
 -- repeat is no further reply.
 abbrev pub unvalued_by : ReaderUnit → Facts → Act → ℕ
 unvalued_by unit facts (acts.Ask command) =

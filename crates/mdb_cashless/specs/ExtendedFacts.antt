@@ -1,6 +1,5 @@
 -- What is known of a reader after a list of acts, by the extended profile (this profile). Acts
--- stand
--- newest first.
+-- stand newest first.
 use Rattle.std.specs.Prelude.{ℕ, Bool, true, false, not, ◌&&◌, List, [], ◌∷◌, Option, Some, None}
 use Rattle.std.specs.List.{filter_map}
 use Rattle.mdb_msgs.specs.Setups.{config_known}

@@ -1,8 +1,7 @@
 -- A cashless reader and the controller's dealings with it by the extended profile (this profile):
--- of
--- a session it follows what money hangs on. An approval needs a request, one that may not have been
--- heard may be told again, and a sale needs an approval that the controller acknowledged. All else
--- may come at any time. The accounts by slot are what was approved, and what was sold.
+-- of a session it follows what money hangs on. An approval needs a request, one that may not have
+-- been heard may be told again, and a sale needs an approval that the controller acknowledged. All
+-- else may come at any time. The accounts by slot are what was approved, and what was sold.
 use Rattle.std.specs.Prelude.{◌≡◌, ◌≢◌, ◌⊎◌, ◌==◌, ℕ, Bool, true, false, not, ◌&&◌, List, [], ◌∷◌, Option, Some, None, if◌then◌else◌, drop, length, nat_eq, unwrap_or}
 use Rattle.std.specs.List.{starts_with}
 use Rattle.mdb_msgs.specs.declared.command.ReaderCommand.{ReaderCommand}
@@ -123,8 +122,7 @@ news choice before last told =
     then Some (drop (length last) told) else Some told
 
 -- The state after new messages 05. One needs a request that may be approved, and a second would
--- need
--- another.
+-- need another.
 abbrev pub approve : List ℕ → ApprovalState → Option ApprovalState
 approve [] before = Some before
 approve (amount ∷ []) before =

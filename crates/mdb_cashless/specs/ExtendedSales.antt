@@ -44,18 +44,16 @@ leaves_sale unit may (acts.Break length) = false
 leaves_sale unit may act = true
 
 -- Whether a sale at this reader may be approved: VEND REQUEST was asked, and since then the acts
--- have
--- left the sale as it stands, where VEND CANCEL may have come. The controller has heard no approval
--- since.
+-- have left the sale as it stands, where VEND CANCEL may have come. The controller has heard no
+-- approval since.
 abbrev pub is_open : ReaderUnit → List Act → Bool
 is_open unit [] = false
 is_open unit (act ∷ acts) = asks_request unit act
     || (leaves_sale unit Cancel act && (not (hears_approval unit act) && is_open unit acts))
 
 -- A sale of an item at this reader is approved: it was open, the reader replied to some command
--- with
--- a message 05, and the controller acknowledged that reply or its repeat. Since then the acts have
--- left the sale as it stands, where VEND SUCCESS of the item may have come.
+-- with a message 05, and the controller acknowledged that reply or its repeat. Since then the acts
+-- have left the sale as it stands, where VEND SUCCESS of the item may have come.
 abbrev pub IsApproved : ReaderUnit → ℕ → List Act → Type 0
 IsApproved unit item [] = ⊥
 IsApproved unit item (act ∷ acts) =
@@ -63,8 +61,7 @@ IsApproved unit item (act ∷ acts) =
     ⊎ ((leaves_sale unit (Success item) act ≡ true) × IsApproved unit item acts)
 
 -- Each sale at this reader follows its approval, but for one that may have been requested before
--- the
--- recording.
+-- the recording.
 abbrev pub SalesAreApproved : Beginning → ReaderUnit → List Act → Type 0
 SalesAreApproved begins unit so_far = (later before : List Act) (item : ℕ)
     → so_far ≡ later ++ (acts.Ask (Reader unit (reader.VendSuccess item)) ∷ before)

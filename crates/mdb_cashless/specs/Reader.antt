@@ -1,6 +1,5 @@
 -- A cashless reader and the controller's dealings with it (MDB/ICP 4.3, cashless device; states and
--- sums, this profile). The accounts by slot are what was approved, and what was sold
--- (`amounts`).
+-- sums, this profile). The accounts by slot are what was approved, and what was sold (`amounts`).
 use Rattle.std.specs.Prelude.{◌≡◌, ℕ, ◌+◌, ◌*◌, Bool, true, false, ◌&&◌, ◌||◌, List, [], ◌∷◌, Option, Some, None, if◌then◌else◌, sum_by}
 use Rattle.mdb_msgs.specs.declared.command.ReaderCommand.{ReaderCommand}
 use Rattle.mdb_msgs.specs.declared.command.ReaderCommand.TheVariants as reader

@@ -83,10 +83,6 @@ impl<const UNIT: usize> Pair for Approvals<UNIT> {
         ApprovalFacts::start(begins, unit_of(UNIT))
     }
 
-    fn facts_copy(facts: &ApprovalFacts) -> ApprovalFacts {
-        facts.copy()
-    }
-
     #[inline(always)]
     fn learn(facts: &mut ApprovalFacts, act: &Act) {
         facts.learn(unit_of(UNIT), act);

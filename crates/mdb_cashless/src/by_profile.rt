@@ -86,13 +86,6 @@ impl<const UNIT: usize> Pair for ReaderByProfile<UNIT> {
         }
     }
 
-    fn facts_copy(known: &KnownByProfile) -> KnownByProfile {
-        match known {
-            KnownByProfile::Base(known) => KnownByProfile::Base(known.copy()),
-            KnownByProfile::Extended(facts) => KnownByProfile::Extended(facts.copy()),
-        }
-    }
-
     #[inline(always)]
     fn learn(known: &mut KnownByProfile, act: &Act) {
         match known {

@@ -46,6 +46,7 @@ pub fn transactions_with_the_same_fields_are_the_same()
 /// What the controller's view tells of the sale under way stays true with each step, where the
 /// controller acknowledges no reply but the last; and it is true at the start. In a recording that
 /// begins in mid-session the view may tell nothing of a sale that was requested before.
+#[tactic(auto, using(crate::proofs::Sales::starts_tell))]
 pub fn views_tell_of_the_sale()
     ensures start { (unit : ReaderUnit) (begins : Beginning) (state : ReaderState)
         → (machine unit begins).Starts state → MayTellOfSale begins unit state.view [] }
@@ -108,6 +109,7 @@ pub fn the_base_profile_stands_alone()
 
 /// By either profile, what is known of a reader after acts, and the amounts without a value that
 /// they tell of it, depend on its own acts among them alone.
+#[tactic(auto, using(crate::proofs::ByProfileKnown::same_facts))]
 pub fn a_readers_facts_are_of_its_own_acts()
     ensures known { (begins : Beginning) (unit : ReaderUnit) (so_far other : List Act)
         → own_acts (devices.Reader unit) so_far ≡ own_acts (devices.Reader unit) other
@@ -119,6 +121,7 @@ pub fn a_readers_facts_are_of_its_own_acts()
 
 /// By either profile, where a reader has a part in no acts but breaks, its config message is that
 /// of no act, and no amount of it is reported.
+#[tactic(auto, using(crate::proofs::ByProfileKnown::no_config))]
 pub fn breaks_tell_nothing_of_a_reader()
     ensures config { (begins : Beginning) (unit : ReaderUnit) (so_far : List Act)
         → All IsBreak (own_acts (devices.Reader unit) so_far)

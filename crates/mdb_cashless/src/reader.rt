@@ -93,10 +93,6 @@ impl<const UNIT: usize> Pair for Reader<UNIT> {
         ReaderKnown::start(begins, unit_of(UNIT))
     }
 
-    fn facts_copy(known: &ReaderKnown) -> ReaderKnown {
-        known.copy()
-    }
-
     #[inline(always)]
     fn learn(known: &mut ReaderKnown, act: &Act) {
         known.learn(unit_of(UNIT), act);

@@ -1,5 +1,5 @@
 -- What a follower stands for that heeds the feature levels, row by row.
-use Rattle.mdb_check.proofs.Words.{Bool, Event, HasFollowed, HasRefused, IsActList, IsSomeAnd, Judging, Levels, List, Meets, Met, None, Option, Piece, RefusesAmong, Scope, Some, SomeRefused, [], acts_of, add-one, ap, append_assoc, arith, before_last, begins_block, begun_at, drop, false, get_or, get_or_at, is_joined, known_before, last_begun, last_of, length, length-append, option_or, refl, reported, reported_if, subst, sym, take, take_all, take_at, take_more, true, unfollowed, unjudged, with_act, ℕ, ◌++◌, ◌+◌, ◌<◌, ◌∙◌, ◌∷◌, ◌≡◌, ◌≤◌}
+use Rattle.mdb_check.proofs.Words.{Bool, Event, HasFollowed, HasRefused, IsActList, IsSomeAnd, Heeding, Levels, List, Meets, Met, None, Option, Piece, RefusesAmong, Scope, Some, SomeRefused, [], acts_of, add-one, ap, append_assoc, arith, before_last, begins_block, begun_at, drop, false, get_or, get_or_at, is_joined, known_before, last_begun, last_of, length, length-append, option_or, refl, reported, reported_if, subst, sym, take, take_all, take_at, take_more, true, unfollowed, unjudged, with_act, ℕ, ◌++◌, ◌+◌, ◌<◌, ◌∙◌, ◌∷◌, ◌≡◌, ◌≤◌}
 use Rattle.std.proofs.Math.Seq.{split_at}
 use Rattle.mdb_bus.proofs.Lists.{last_push}
 use Rattle.mdb_bus.specs.declared.act.Act.{Act}
@@ -52,7 +52,7 @@ nothing one scope readers so_far pieces is list =
 
 -- a row is taken
 pub taken_more : OneActList
-    → (old new : Judging) (scope : Scope) (readers : Levels) (rows : List Event)
+    → (old new : Heeding) (scope : Scope) (readers : Levels) (rows : List Event)
     (row : Event) (act : Option Act) → HasFollowed scope readers old rows
     → HasTakenRows old.follower new.follower (row ∷ [])
     → follow.scope_of new.follower ≡ follow.scope_of old.follower
@@ -92,7 +92,7 @@ judged_as true levels other begun last broken blamed same_levels same_begun =
     rw (same_levels refl, same_begun refl)
 
 -- a row was refused, after rows that were accepted
-refused_as : (old new : Judging) (scope : Scope) (readers : Levels) (rows : List Event)
+refused_as : (old new : Heeding) (scope : Scope) (readers : Levels) (rows : List Event)
     (row : Event) (offence : Offence) → follow.scope_of new.follower ≡ scope
     → IsOffence scope rows row offence → follow.offence_of new.follower ≡ Some offence
     → follow.HasAccepted new.follower rows → new.joined ≡ is_joined scope.begins
@@ -124,7 +124,7 @@ some_of (Some x) P has = (x, refl, has)
 some_of None P has = absurd has
 
 -- the next row was refused
-pub refused_by : (old new : Judging) (scope : Scope) (readers : Levels) (rows : List Event)
+pub refused_by : (old new : Heeding) (scope : Scope) (readers : Levels) (rows : List Event)
     (row : Event) → HasFollowed scope readers old rows
     → IsSomeAnd (follow.offence_of new.follower)
     (feeding.HasRefused old.follower new.follower row)
@@ -145,7 +145,7 @@ refused_by old new scope readers rows row on refused same_scope joined kept begu
     )
 
 -- it has followed so many rows
-pub record HasFed (old : Judging) (rows : List Event) (count : ℕ) (new : Judging) : Type 0 where
+pub record HasFed (old : Heeding) (rows : List Event) (count : ℕ) (new : Heeding) : Type 0 where
   pub counted : follow.rows_of new.follower ≡ follow.rows_of old.follower + count
   pub same_scope : follow.scope_of new.follower ≡ follow.scope_of old.follower
   pub same_last : new.last ≡ old.last
@@ -155,7 +155,7 @@ pub record HasFed (old : Judging) (rows : List Event) (count : ℕ) (new : Judgi
       → HasFollowed scope readers new (before ++ rows)
 
 -- the next of the rows
-module _ {old mid new : Judging} (rows : List Event) (i : ℕ) (row : Event)
+module _ {old mid new : Heeding} (rows : List Event) (i : ℕ) (row : Event)
     (within : i < length rows) (has : HasFed old (take i rows) i mid) where
   -- is refused
   pub fed_to : ((scope : Scope) (readers : Levels) (before : List Event)
@@ -197,14 +197,14 @@ module _ {old mid new : Judging} (rows : List Event) (i : ℕ) (row : Event)
   }
 
 -- all rows were followed
-pub fed_all : (old new : Judging) (rows : List Event) (i : ℕ) → length rows ≤ i
+pub fed_all : (old new : Heeding) (rows : List Event) (i : ℕ) → length rows ≤ i
     → HasFed old (take i rows) i new → (scope : Scope) (readers : Levels) (before : List Event)
     → HasFollowed scope readers old before → HasFollowed scope readers new (before ++ rows)
 fed_all old new rows i low has scope readers before on =
     rw (take_all i rows low) at (has.followed scope readers before on)
 
 -- The rows of a recording that isn't joined are followed together.
-module _ (old new : Judging) (rows : List Event) (same : new.joined ≡ old.joined)
+module _ (old new : Heeding) (rows : List Event) (same : new.joined ≡ old.joined)
     (not : old.joined ≡ false)
     (same_scope : follow.scope_of new.follower ≡ follow.scope_of old.follower) where
   never_joined : new.joined ≡ true → ⊥
@@ -298,11 +298,11 @@ pub record NoneBegins (rows : List Event) (left index : ℕ) : Type 0 where
       → last_begun (earlier ++ take index rows) ≡ last_begun (earlier ++ take left rows)
 
 -- where one of the rows is refused
-module _ {judging : Judging} {scope : Scope} {readers : Levels} {earlier rows : List Event}
-    (among : RefusesAmong scope readers judging earlier rows) where
+module _ {heeding : Heeding} {scope : Scope} {readers : Levels} {earlier rows : List Event}
+    (among : RefusesAmong scope readers heeding earlier rows) where
   -- so many of the rows were taken
   pub taken_among : (had : ℕ) → had ≡ length earlier
-      → follow.rows_of judging.follower ≡ had + length among.front
+      → follow.rows_of heeding.follower ≡ had + length among.front
   taken_among had is = omega (arith, among.is.counted, is, length-append earlier among.front)
 
   pub front_within : length among.front < length rows
@@ -311,15 +311,15 @@ module _ {judging : Judging} {scope : Scope} {readers : Levels} {earlier rows : 
 
   -- and what was met is what was met there
   pub met_there : (index : ℕ) (met : Met) → index ≡ length among.front
-      → follow.offence_of judging.follower ≡ Some met.offence
-      → met.unjudged ≡ unjudged judging.joined judging.reported met.offence.rule
-      met.offence.blame judging.begun
+      → follow.offence_of heeding.follower ≡ Some met.offence
+      → met.unjudged ≡ unjudged heeding.joined heeding.reported met.offence.rule
+      met.offence.blame heeding.begun
       → ((other : Event) → met.row ≡ get_or rows index other)
       → met.last ≡ last_of (earlier ++ take index rows)
       → met.earlier ≡ before_last (earlier ++ take index rows)
       → met.unfollowed ≡ unfollowed met.offence.rule met.offence.blame
       (last_begun (earlier ++ take (index + 1) rows))
-      → StopsAmong (λ before row. Meets scope readers judging before row met) earlier rows
+      → StopsAmong (λ before row. Meets scope readers heeding before row met) earlier rows
   met_there index met here noted is row last before left =
       let same : met.offence ≡ among.offence = cc (among.is.noted, noted) in
       let front : take index rows ≡ among.front =

@@ -1,5 +1,5 @@
 -- Whether the verdict is judged, by how the reading of rows ended.
-use Rattle.mdb_check.proofs.Words.{Event, HasAccepted, IsAnswer, HasTaken, IsRow, IsSpared, IsStopped, IsTakenWhole, IsYes, Judging, Levels, List, Meets, Met, Ok, Option, Scope, Some, StandsFor, before_last, last_of, offence_of, refl, sym, ℕ, ◌≡◌}
+use Rattle.mdb_check.proofs.Words.{Event, HasAccepted, IsAnswer, HasTaken, IsRow, IsSpared, IsStopped, IsTakenWhole, IsYes, Heeding, Levels, List, Meets, Met, Ok, Option, Scope, Some, StandsFor, before_last, last_of, offence_of, refl, sym, ℕ, ◌≡◌}
 use Rattle.std.specs.Prelude.{Err, IfOk, IsErrAnd, Result}
 use Rattle.mdb_words.specs.Refusals.{IsRefusal}
 use Rattle.mdb_follow.specs.Runs.{IsReached}
@@ -16,9 +16,9 @@ use Rattle.mdb_check.specs.declared.checking.Checked.{Checked}
 
 -- where all rows were taken it is no no
 pub whole_judged : {scope : Scope} (taken : Scope) {readers : Levels} {limit : ℕ}
-    {all : List (List (List ℕ))} {judging : Judging}
-    → IsTakenWhole IsRow (HasTaken scope readers judging) limit all → (outcome : Outcome)
-    → ((rows : List Event) → StandsFor judging.follower rows → IsYes scope rows outcome)
+    {all : List (List (List ℕ))} {heeding : Heeding}
+    → IsTakenWhole IsRow (HasTaken scope readers heeding) limit all → (outcome : Outcome)
+    → ((rows : List Event) → StandsFor heeding.follower rows → IsYes scope rows outcome)
     → IsJudgedAs taken readers limit all outcome NONE
 whole_judged taken ended (Yes report) tells_yes = refl
 whole_judged taken ended (No offence) tells_yes =
@@ -26,15 +26,15 @@ whole_judged taken ended (No offence) tells_yes =
 
 -- a row can't be, and whether that is judged, and whether its time is spared
 pub judged_no : (scope : Scope) (readers : Levels) (limit : ℕ) (all : List (List (List ℕ)))
-    (judging : Judging) (met : Met) (spared : Option Spared)
-    → ((rows : List Event) → HasAccepted judging.follower rows
-    → offence_of judging.follower ≡ Some met.offence → met.last ≡ last_of rows
+    (heeding : Heeding) (met : Met) (spared : Option Spared)
+    → ((rows : List Event) → HasAccepted heeding.follower rows
+    → offence_of heeding.follower ≡ Some met.offence → met.last ≡ last_of rows
     → met.earlier ≡ before_last rows
     → IsSpared scope rows met.row met.offence.rule spared)
-    → IsStopped IsRow (λ rows row. Meets scope readers judging rows row met) limit all
+    → IsStopped IsRow (λ rows row. Meets scope readers heeding rows row met) limit all
     → IsJudgedNo scope readers limit all met.offence
     (record { unjudged = met.unjudged; spared = spared; unfollowed = met.unfollowed })
-judged_no scope readers limit all judging met spared spares ended =
+judged_no scope readers limit all heeding met spared spares ended =
     let at = ended.stops in
     record {
       no = stopped_as ended at.refused.is;
@@ -46,15 +46,15 @@ judged_no scope readers limit all judging met spared spares ended =
 
 -- a record isn't taken, or can't be read
 pub refused_answer : (scope : Scope) (readers : Levels) (limit : ℕ) (all : List (List (List ℕ)))
-    (judging : Judging)
-    → ((rows : List Event) → HasTaken scope readers judging rows → IsReached scope rows)
-    → (fault : RunFault) → HasEnded IsRow IsRefusal (HasTaken scope readers judging)
-    (Meets scope readers judging) limit all (Err fault)
+    (heeding : Heeding)
+    → ((rows : List Event) → HasTaken scope readers heeding rows → IsReached scope rows)
+    → (fault : RunFault) → HasEnded IsRow IsRefusal (HasTaken scope readers heeding)
+    (Meets scope readers heeding) limit all (Err fault)
     → (answer : Result Checked RunFault) → IsErrAnd answer (λ other. other ≡ fault)
     → IsAnswer scope limit all (answer_of answer)
-refused_answer scope readers limit all judging reaches fault ended (Ok checked) is = absurd is
-refused_answer scope readers limit all judging reaches fault ended (Err other) is =
-    refused_of scope limit all (HasTaken scope readers judging) reaches
+refused_answer scope readers limit all heeding reaches fault ended (Ok checked) is = absurd is
+refused_answer scope readers limit all heeding reaches fault ended (Err other) is =
+    refused_of scope limit all (HasTaken scope readers heeding) reaches
     fault ended (Err other) is
 
 -- what holds of a verdict holds of the answer

@@ -15,6 +15,6 @@ pub use Rattle.mdb_words.specs.declared.event.Event.{Event}
 pub use Rattle.mdb_check.specs.Spared.{CouldBe, IsSpared, before_last}
 pub use Rattle.mdb_check.specs.Unfollowed.{unfollowed}
 pub use Rattle.mdb_check.specs.Unjudged.{begins_block, begun_at, is_joined, known_before, last_begun, reported, reported_if, unjudged}
-pub use Rattle.mdb_check.specs.declared.judging.Judging.{Judging}
-pub use Rattle.mdb_check.specs.declared.judging.Met.{Met}
-pub use Rattle.mdb_check.specs.inner.Steps.{HasFollowed, HasRefused, HasTaken, Meets, RefusesAmong, SomeRefused}
+pub use Rattle.mdb_check.specs.declared.heeding.Heeding.{Heeding}
+pub use Rattle.mdb_check.specs.declared.heeding.Met.{Met}
+pub use Rattle.mdb_check.specs.inner.LevelsHeeded.{HasFollowed, HasRefused, HasTaken, Meets, RefusesAmong, SomeRefused}

@@ -15,7 +15,7 @@ ghost use Rattle.mdb_verdict.specs.Verdict.{IsAnswer, IsNoYes};
 ghost use Rattle.mdb_check.specs.Verdict.{IsJudgedAs, IsNo, answer_of};
 
 use super::beside::Beside;
-use super::judging::Judging;
+use super::heeding::Heeding;
 use super::spared::spared;
 use mdb_bus::{Levels, Scope};
 use mdb_follow::{ROWS_MAX, laws};
@@ -245,19 +245,19 @@ fn verdict_on<R: Read + Drop>(
 {
     laws::followers_stand_for_reached_rows();
     laws::sales_follow_their_approvals();
-    let mut judging = Judging::scoped(scope, readers);
+    let mut heeding = Heeding::scoped(scope, readers);
     let mut known = readers;
     let batch = &mut Batch::new();
-    match read_rows(records, batch, &mut judging, &mut known, rows_max)? {
+    match read_rows(records, batch, &mut heeding, &mut known, rows_max)? {
         None => Ok(Checked {
-            outcome: outcome_of(&judging.follower),
+            outcome: outcome_of(&heeding.follower),
             beside: Beside::NONE,
         }),
         Some(met) => Ok(Checked {
             outcome: Outcome::No(met.offence),
             beside: Beside {
                 unjudged: met.unjudged,
-                spared: spared(scope, &met, judging.follower),
+                spared: spared(scope, &met, heeding.follower),
                 unfollowed: met.unfollowed,
             },
         }),

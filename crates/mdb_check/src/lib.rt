@@ -19,7 +19,7 @@
 
 mod beside;
 mod checking;
-mod judging;
+mod heeding;
 mod reported;
 mod spared;
 mod unjudged;

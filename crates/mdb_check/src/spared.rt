@@ -11,7 +11,7 @@ ghost use Rattle.mdb_check.specs.Spared.{CouldBe, IsSpared, before_last};
 ghost use Rattle.mdb_bus.specs.Pieces.{HasActList};
 
 use super::beside::Spared;
-use super::judging::Met;
+use super::heeding::Met;
 use mdb_bus::{Bus, Profile, Rule, Scope};
 use mdb_follow::Follower;
 use mdb_words::{Event, Line, SHORT_BREAK_MIN, Time, WORD_GAP_MIN, gap_of};

@@ -1,8 +1,8 @@
+pub mod EntryByEntry
 pub mod ExplainedTexts
 pub mod ExplanationLengths
 pub mod Explanations
 pub mod MarkAnswers
-pub mod MarkSteps
 pub mod OneReplayAnswer
 pub mod ReplayedExplanations
 pub mod ReplayedTranscripts

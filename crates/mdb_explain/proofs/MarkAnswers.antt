@@ -6,7 +6,7 @@ use Rattle.mdb_verdict.specs.declared.fault.RunFault.TheVariants as run
 use Rattle.mdb_records.specs.declared.ReadFault.{ReadFault}
 use Rattle.mdb_verdict.specs.Unanswered.{IsUnanswered}
 use Rattle.mdb_verdict.specs.Verdict.{AreAll, AreRead, IsStopped, IsTakenWhole}
-use Rattle.mdb_explain.proofs.MarkSteps.{entries_count}
+use Rattle.mdb_explain.proofs.EntryByEntry.{entries_count}
 
 -- Records that are read as the entries of a part are mark rows, and then rows.
 

@@ -7,7 +7,7 @@ use Rattle.mdb_run_search.specs.declared.replay.ReplayFault.TheVariants as fault
 use Rattle.mdb_follow.specs.Choosing.{Choices}
 use Rattle.mdb_explain.specs.declared.fault.MarkedFault.TheVariants as marked
 use Rattle.mdb_verdict.specs.declared.fault.RunFault.TheVariants as run
-use Rattle.mdb_explain.proofs.MarkSteps.{later_marks}
+use Rattle.mdb_explain.proofs.EntryByEntry.{later_marks}
 
 abbrev Marks : Type 0
 Marks = List (ℕ × Mark)

@@ -1,8 +1,8 @@
 -- A table of one entry, which is led over an act where it stands.
-use Rattle.mdb_follow.proofs.Words.{◌≡◌, ◌⊎◌, ◌+◌, ◌<◌, ◌^◌, ℕ, Bool, false, true, refl, arith, List, [], ◌∷◌, length, Option, Some, None, OnFalse, OnTrue, All, IfSome, ◌↔◌, All-nil, Device, Act, Plain, Gains, IsSmall, IsChosenStep, IsMove, IsStep, small_moves, Machine, Cell, Arrives, IsCellWithin, IsTableWithin, ArrivesAt, Bounds, IsTable, AreBelow, AreMoves, LeadTo}
+use Rattle.mdb_follow.proofs.Words.{◌≡◌, ◌⊎◌, ◌+◌, ◌<◌, ◌^◌, ℕ, Bool, false, true, refl, arith, List, [], ◌∷◌, length, Option, Some, None, OnFalse, OnTrue, All, IfSome, ◌↔◌, All-nil, Device, Act, Plain, Gains, IsSmall, IsChosenStep, IsMove, IsStep, Machine, Cell, Arrives, IsCellWithin, IsTableWithin, ArrivesAt, Bounds, IsTable, AreBelow, AreMoves, LeadTo}
 use Rattle.mdb_follow.proofs.Led.{apart-with_moves, keyed-with_moves, led-more, led-none, moves-kept, within-with_moves}
 use Rattle.mdb_follow.proofs.Listed.{contains-here}
-use Rattle.mdb_follow.proofs.TwoSteps.{either-moves, two-moves}
+use Rattle.mdb_follow.proofs.TwoMoves.{either-moves, small-moves, two-moves}
 use Rattle.mdb_follow.proofs.Ways.{table-led}
 
 -- a list of one
@@ -22,7 +22,7 @@ module _ (number codes : ℕ) (one other : Option (ℕ × Gains)) (size : number
   kept : (moves : List (ℕ × Gains)) → AreMoves moves one other
       → All (λ move. move.0 < number) moves × All (λ move. IsSmall move.1) moves
   kept moves lists = moves-kept number codes moves moves size refl
-      (small_moves (λ next gains. (next < codes) × IsSmall gains) one other moves one_below
+      (small-moves (λ next gains. (next < codes) × IsSmall gains) one other moves one_below
       other_below lists)
 
   pub alone-below : (cell : Cell) (after : List (ℕ × Cell)) → LeadTo cell one other after

@@ -26,6 +26,6 @@ pub mod SilencesWithout
 pub mod Silent
 pub mod Starts
 pub mod Told
-pub mod TwoSteps
+pub mod TwoMoves
 pub mod Ways
 mod Words

@@ -36,7 +36,7 @@ pub use Rattle.mdb_bus.specs.declared.scope.Beginning.TheVariants.{Joined, Power
 pub use Rattle.mdb_bus.specs.declared.scope.Profile.{Profile}
 pub use Rattle.mdb_bus.specs.declared.scope.Scope.{Scope}
 pub use Rattle.mdb_machine.proofs.Slots.{at_slot, none_at, small_at}
-pub use Rattle.mdb_machine.proofs.Ways.{plain_or_not, small_moves, step_as, by_second, plain_only}
+pub use Rattle.mdb_machine.proofs.Ways.{plain_or_not, step_as, by_second, plain_only}
 pub use Rattle.mdb_machine.specs.Choices.{CanStand}
 pub use Rattle.mdb_machine.specs.Gains.{by_slot, no_gains}
 pub use Rattle.mdb_machine.specs.Machine.{Machine}
@@ -64,7 +64,7 @@ pub use Rattle.mdb_follow.specs.Report.{AreAccounts, IsReport, decimals_of, devi
 pub use Rattle.mdb_follow.specs.ReportedDevices.{device_place, reported_of}
 pub use Rattle.mdb_follow.specs.Runs.{AllSums, IsReached, IsWay, Run, States}
 pub use Rattle.mdb_follow.specs.Sides.{AreSides, SideOf, side_in, stands_for, FactsOf, IsSideOf, code_of, side_spec_of}
-pub use Rattle.mdb_follow.specs.SilenceSteps.{SilenceGoesOn, ask_in, asks_after, ended, limit_in, AllGoOn, OneGoesOn}
+pub use Rattle.mdb_follow.specs.SilenceGrowth.{SilenceGoesOn, ask_in, asks_after, ended, limit_in, AllGoOn, OneGoesOn}
 pub use Rattle.mdb_follow.specs.Silences.{TimedAsk, asks_of, counts_of, first_ask, is_silence, last_start, limit_of, no_counts, with_ask}
 pub use Rattle.mdb_follow.specs.SilencesKept.{AllStandForAsks, AreAtMost, silence_in, StandsForAsks, deadline_of}
 pub use Rattle.mdb_follow.specs.Sums.{AccountSums, Sums, added, no_sums}
@@ -82,11 +82,11 @@ pub use Rattle.mdb_follow.specs.declared.silence.Silence.{Silence}
 pub use Rattle.mdb_follow.specs.declared.silence.Silences.{Silences}
 pub use Rattle.mdb_follow.specs.declared.silence.Unanswered.TheVariants.{Counted, Nothing, Until}
 pub use Rattle.mdb_follow.specs.inner.Entries.{AllRest, AreApart, AreBelow, AreMoves, HasAt, IsKeyed, IsPlaced, Lacks, LeadTo, RestsAt, joined_cells, moves_of, with_cell, with_moves}
-pub use Rattle.mdb_follow.specs.inner.SideSteps.{AreStanding, AreWithin, FollowsOf, IsSideWithin, IsWithin, OneFollows, SidesFollow, SidesStay, SidesStop, Stops}
+pub use Rattle.mdb_follow.specs.inner.SidesLed.{AreStanding, AreWithin, FollowsOf, IsSideWithin, IsWithin, OneFollows, SidesFollow, SidesStay, SidesStop, Stops}
 pub use Rattle.mdb_follow.specs.AccountNames.{account_device, account_of, account_slot, sums_of, account_in}
 pub use Rattle.mdb_follow.specs.Senders.{sender_of}
 pub use Rattle.std.proofs.Math.Seq.{split_at, take-append-add, get_or-append_seam, take-set-lt}
 pub use Rattle.mdb_follow.specs.Sales.{SalesFollowApprovals}
-pub use Rattle.mdb_follow.specs.inner.FollowerSteps.{HasFollowedAct, HasStopped, IsLike}
+pub use Rattle.mdb_follow.specs.inner.FollowerActs.{HasFollowedAct, HasStopped, IsLike}
 pub use Rattle.mdb_cashless.specs.ByProfile.{StepOf, machine_in, base_state, by_profile, extended_state}
 pub use Rattle.mdb_cashless.specs.Sales.{EndsInReply, IsApproved, MayBeRequestedBefore, SalesAreApproved}

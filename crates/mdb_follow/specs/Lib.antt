@@ -26,7 +26,7 @@ pub mod Sales
 pub mod SameAcks
 pub mod Senders
 pub mod Sides
-pub mod SilenceSteps
+pub mod SilenceGrowth
 pub mod Silences
 pub mod SilencesKept
 pub mod Slices

@@ -1,3 +1,3 @@
 pub mod Entries
-pub mod FollowerSteps
-pub mod SideSteps
+pub mod FollowerActs
+pub mod SidesLed

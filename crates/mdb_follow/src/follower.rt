@@ -8,9 +8,9 @@ ghost use Rattle.std.specs.Option.{ForSome, IfNone};
 ghost use Rattle.mdb_words.specs.declared.event.Event.{Event};
 ghost use Rattle.mdb_bus.specs.declared.act.Act.{Act};
 ghost use Rattle.mdb_follow.specs.Senders as spec;
-ghost use Rattle.mdb_follow.specs.inner.SideSteps.{AreStanding, AreWithin};
+ghost use Rattle.mdb_follow.specs.inner.SidesLed.{AreStanding, AreWithin};
 ghost use Rattle.mdb_bus.specs.ExtendedTimes as times;
-ghost use Rattle.mdb_follow.specs.SilenceSteps.{AreFew};
+ghost use Rattle.mdb_follow.specs.SilenceGrowth.{AreFew};
 
 use crate::sides::Sides;
 use crate::silence::Silences;
@@ -54,7 +54,7 @@ impl Follower {
     ghost use Rattle.mdb_follow.specs.Feeding.{HasRefused, HasTakenRows};
     ghost use Rattle.mdb_follow.specs.Follower.{HasAccepted, StandsFor};
     ghost use Rattle.mdb_follow.specs.Follower.{act_of, bus_of, offence_of, open_block_of, rows_of, scope_of};
-    ghost use Rattle.mdb_follow.specs.inner.FollowerSteps.{HasFollowedAct, HasSettled, HasStopped, IsFed, IsLike};
+    ghost use Rattle.mdb_follow.specs.inner.FollowerActs.{HasFollowedAct, HasSettled, HasStopped, IsFed, IsLike};
     ghost use Rattle.mdb_follow.specs.FirstOffences.{HasOffence};
     ghost use Rattle.mdb_follow.specs.Report.{IsReport};
     ghost use Rattle.mdb_follow.specs.ReportLimits.{IsReportWithin};

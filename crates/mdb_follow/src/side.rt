@@ -8,7 +8,7 @@ ghost use Rattle.mdb_follow.specs.Limits.{IsCellWithin};
 ghost use Rattle.mdb_follow.specs.Offences.{HasNoStep};
 ghost use Rattle.mdb_follow.specs.Cells.{IsCell};
 ghost use Rattle.mdb_follow.specs.Sides.{IsSide};
-ghost use Rattle.mdb_follow.specs.inner.SideSteps.{Follows, IsSideWithin};
+ghost use Rattle.mdb_follow.specs.inner.SidesLed.{Follows, IsSideWithin};
 ghost use Rattle.mdb_follow.specs.Tables.{ArrivesAnywhere};
 
 use crate::{Cell, Table};

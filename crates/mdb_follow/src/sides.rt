@@ -12,8 +12,8 @@ ghost use Rattle.mdb_follow.specs.Machines.{machine_of};
 ghost use Rattle.mdb_follow.specs.Report.{device_facts_in, device_facts_of};
 ghost use Rattle.mdb_follow.specs.Tables.{ArrivesAnywhere};
 ghost use Rattle.mdb_follow.specs.Sides.{AreSides, side_in};
-ghost use Rattle.mdb_follow.specs.inner.SideSteps.{AreWithin, IsWithin, OneFollows, SidesFollow};
-ghost use Rattle.mdb_follow.specs.inner.SideSteps.{SidesStay, SidesStop, Stops};
+ghost use Rattle.mdb_follow.specs.inner.SidesLed.{AreWithin, IsWithin, OneFollows, SidesFollow};
+ghost use Rattle.mdb_follow.specs.inner.SidesLed.{SidesStay, SidesStop, Stops};
 
 use crate::owner::{Owner, owner_of};
 use crate::side::{self, Side};

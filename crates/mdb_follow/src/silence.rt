@@ -7,9 +7,9 @@
 ghost use Rattle.std.specs.Prelude.{◌≡◌, ◌<◌, ◌+◌, ◌^◌, ℕ, List};
 ghost use Rattle.mdb_follow.specs.Silences.{TimedAsk, with_ask};
 ghost use Rattle.mdb_follow.specs.SilencesKept.{AreAtMost, StandsForAsks, silence_in};
-ghost use Rattle.mdb_follow.specs.SilenceSteps as spec;
-ghost use Rattle.mdb_follow.specs.SilenceSteps.{AllGoOn, AreFew, OneGoesOn, SilencesFollow};
-ghost use Rattle.mdb_follow.specs.SilenceSteps.{ask_in, ended, limit_by};
+ghost use Rattle.mdb_follow.specs.SilenceGrowth as spec;
+ghost use Rattle.mdb_follow.specs.SilenceGrowth.{AllGoOn, AreFew, OneGoesOn, SilencesFollow};
+ghost use Rattle.mdb_follow.specs.SilenceGrowth.{ask_in, ended, limit_by};
 
 use crate::Report;
 use crate::devices::device_place;

@@ -297,7 +297,7 @@ fn fill<P: Pair, const N: usize>(
 {
     into.clear();
     for (code, cell) in from {
-        // The moves of `P::moves`, without a list of them.
+        // Its moves, without a list of them.
         let plain = P::step(facts, act, *code, Choice::Plain);
         let second = second_step::<P>(facts, act, *code);
         add_steps(into, places, cell, &plain, &second);

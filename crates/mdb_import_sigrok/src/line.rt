@@ -22,7 +22,7 @@ enum Open {
 
 /// A line as it is read.
 #[derive(Drop)]
-pub(crate) struct Reading {
+pub(crate) struct LineReader {
     line: Line,
     // The earliest microsecond in which what it tells next may start.
     earliest: u64,
@@ -33,10 +33,10 @@ pub(crate) struct Reading {
     pub(crate) rows: Vec<Event>,
 }
 
-impl Reading {
+impl LineReader {
     /// A line of which nothing was read.
-    pub(crate) fn new(alloc: Global, line: Line) -> Reading {
-        Reading {
+    pub(crate) fn new(alloc: Global, line: Line) -> LineReader {
+        LineReader {
             line,
             earliest: 0,
             open: Open::Nothing,

@@ -1,7 +1,7 @@
 //! The records of a trace, from its reader.
 
 use super::fault::{FormFault, SigrokFault};
-use super::line::Reading;
+use super::line::LineReader;
 use super::pair::{Pair, form, next_pair};
 use super::record::{after_begin, after_end};
 use mdb_import_shared::{Imported, Options};
@@ -13,9 +13,9 @@ use std::io::{BufRead, Error, ErrorKind};
 #[derive(Drop)]
 pub(crate) struct Both {
     /// That of the controller.
-    pub(crate) controller: Reading,
+    pub(crate) controller: LineReader,
     /// That of the devices.
-    pub(crate) devices: Reading,
+    pub(crate) devices: LineReader,
     /// What is reported of them: what was passed over.
     pub(crate) told: Imported,
 }
@@ -32,8 +32,8 @@ pub(crate) fn read_trace<B: BufRead>(
         return Err(form(0, FormFault::NoTrace));
     }
     let mut both = Both {
-        controller: Reading::new(alloc, Line::Controller),
-        devices: Reading::new(alloc, Line::Peripheral),
+        controller: LineReader::new(alloc, Line::Controller),
+        devices: LineReader::new(alloc, Line::Peripheral),
         told: Imported::new(),
     };
     let number = both.take_all(options, reader, &mut held)?;

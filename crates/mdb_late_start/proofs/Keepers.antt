@@ -4,7 +4,7 @@
 use Rattle.mdb_late_start.proofs.Words.{◌≡◌, ◌⊎◌, inl, inr, ℕ, ◌<◌, Bool, true, false, ◌&&◌, List, [], ◌∷◌, ◌++◌, Option, Some, None, refl, ap, sym, ◌∙◌, arith, if◌then◌else◌, sum_by, AllByRecursion, sum_by-cons, Command, Reply, Setups, IsReply, NamesAReply, Act, Beginning, PowerOn, Joined, profile_of, Choice, Lost, Restart, fun_ext, Gains, Part, controller_gains, device_gains, IsNew, has_reset, holds_after, kept_of, Known, Is, known_before, StartsIn, last_list, last_told, or_else, unless_empty, one_if, AnswersLast, HasTold, IsNothingOr, GoesOnInEnd, TellsOnlyWhatIsSo, Device, IsNotKnown, StateOf, machine_of, unvalued_of, Tables, setup_by, held, holds_acked, holds_read, Allows, AllowsKept, known_by, amounts_in}
 use Rattle.mdb_bus.specs.declared.act.Act.TheVariants as acts
 use Rattle.mdb_machine.specs.Keeper.{Facts, KnownFacts, known_of, parts_by}
-use Rattle.mdb_machine.specs.KeeperSteps.{AckStep, Conduct, KeeperStep, ReplyStep, StepKnowing, VmcAckStep, worth}
+use Rattle.mdb_machine.specs.KeeperConduct.{AckStep, Conduct, KeeperStep, ReplyStep, StepKnowing, VmcAckStep, worth}
 use Rattle.mdb_machine.specs.Known.{Unknown}
 use Rattle.mdb_machine.specs.Steps.{ForOwn}
 use Rattle.mdb_machine.specs.Unvalued.{unvalued}

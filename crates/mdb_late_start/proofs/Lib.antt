@@ -4,7 +4,7 @@ pub mod CutWords
 pub mod Cutting
 pub mod EndRuns
 pub mod EndVerdicts
-pub mod ExtendedSteps
+pub mod ExtendedMoves
 pub mod InEnds
 pub mod Keepers
 pub mod OpenEnds

@@ -10,7 +10,7 @@ use Rattle.mdb_msgs.specs.Readings.{is_extended}
 use Rattle.mdb_bus.specs.shared.Grammar.{OpenIsAFront}
 use Rattle.mdb_bus.specs.shared.Step.{Step}
 use Rattle.mdb_bus.specs.shared.Step as step
-use Rattle.mdb_bus.specs.shared.Steps.{Leads}
+use Rattle.mdb_bus.specs.shared.Leads.{Leads}
 use Rattle.mdb_late_start.proofs.Cutting.{AllFitAlone, ComesAlone, Cutting, FitsAlone, all_foreign, alone, anew_still, foreign_position, rows_begin}
 use Rattle.mdb_late_start.proofs.ToldCuts.{by_profile, fits_later, known_by, less_later}
 use Rattle.mdb_bus.proofs.Backward.{backward}

@@ -16,7 +16,7 @@ use Rattle.mdb_cashless.proofs.Guesses.{held_before as still_held}
 use Rattle.mdb_cashless.specs.declared.by_profile.state.StateByProfile.{StateByProfile}
 use Rattle.mdb_cashless.specs.declared.by_profile.state.StateByProfile.TheVariants.{Base, Extended}
 use Rattle.mdb_cashless.specs.ReaderAmounts.{unvalued}
-use Rattle.mdb_late_start.proofs.ExtendedSteps.{extended_in_end}
+use Rattle.mdb_late_start.proofs.ExtendedMoves.{extended_in_end}
 use Rattle.mdb_late_start.proofs.ReaderOtherwise.{goes_otherwise, otherwise}
 use Rattle.mdb_cashless.specs.ByProfile.{base_state, by_profile, extended_state, machine_in}
 use Rattle.mdb_cashless.specs.ByProfileFacts.{FactsByProfile, by_base, by_extended, config_of}

@@ -1,6 +1,5 @@
-pub mod Words
+pub mod KeeperConduct
 pub mod KeeperFacts
-pub mod KeeperSteps
 pub mod KeptLists
 pub mod Knowing
 pub mod Masks
@@ -11,3 +10,4 @@ pub mod Slots
 pub mod StepCodes
 pub mod Ways
 pub mod Wider
+pub mod Words

@@ -1,5 +1,5 @@
 -- The steps that an act may be, by the choices that can stand on it.
-use Rattle.mdb_machine.proofs.Words.{ap, not, ◌≡◌, ◌≢◌, ◌↔◌, ◌⊎◌, inl, inr, ℕ, Bool, true, false, IsTrue, List, Option, Some, None, IfSome, refl, sym, subst, ◌∙◌, OnFalse, none-some, same_Some, Contains, Act, Beginning, Choice, Plain, Lost, Restart, Again, Gains, CanStand, CanStandFor, IsActOf, IsChosenStep, IsMachineOf, IsMove, IsOfAnother, IsOnlyStep, IsOtherMove, IsStep, Stays}
+use Rattle.mdb_machine.proofs.Words.{ap, not, ◌≡◌, ◌≢◌, ◌↔◌, ◌⊎◌, inl, inr, ℕ, Bool, true, false, IsTrue, List, Option, Some, None, refl, sym, subst, ◌∙◌, OnFalse, none-some, same_Some, Act, Beginning, Choice, Plain, Lost, Restart, Again, Gains, CanStand, CanStandFor, IsActOf, IsChosenStep, IsMachineOf, IsOfAnother, IsOnlyStep, IsOtherMove, IsStep, Stays}
 use Rattle.mdb_msgs.specs.declared.command.Device.{Device}
 use Rattle.mdb_bus.specs.declared.act.Act.TheVariants as acts
 use Rattle.mdb_machine.specs.Machine.{Machine}
@@ -103,37 +103,6 @@ module _ {State : Type 0} (device : Device) (act : Act) (code_of : State → ℕ
     λ move.
         (steps next gains).1 (inl stands.0, step_as (leads move.0 move.1 move.2) move.3),
   )
-
-  -- the plain step and the one by the other choice are the moves
-  pub both_moves : (plain other : Option (ℕ × Gains)) (items : List (ℕ × Gains))
-      → IsChosen Plain plain → IsOther other
-      → ((move : ℕ × Gains) → Contains items move ↔ ((plain ≡ Some move) ⊎ (other ≡ Some move)))
-      → (next : ℕ) (gains : Gains) → Contains items (next, gains)
-      ↔ IsMove act code_of Step code next gains
-  both_moves plain other items plain_is other_is lists next gains = (
-    λ among. elim ((lists (next, gains)).0 among) [
-      | inl is ↦ (Plain, tt, ((plain_is next gains).0 is).1)
-      | inr is ↦ let move = (other_is next gains).0 is in (move.0, move.1, move.3)
-    ],
-    λ move. (lists (next, gains)).1 (elim (plain_or_not move.0) [
-      | inl same ↦ inl ((plain_is next gains).1 (inl tt, rw same at move.2))
-      | inr not ↦ inr ((other_is next gains).1 (move.0, move.1, not, move.2))
-    ]),
-  )
-
--- each move is small
-pub small_moves : (Small : ℕ → Gains → Type 0) (one other : Option (ℕ × Gains))
-    (items : List (ℕ × Gains))
-    → IfSome one (λ move. Small move.0 move.1) → IfSome other (λ move. Small move.0 move.1)
-    → ((move : ℕ × Gains) → Contains items move ↔ ((one ≡ Some move) ⊎ (other ≡ Some move)))
-    → (next : ℕ) (gains : Gains) → Contains items (next, gains) → Small next gains
-small_moves Small one other items one_small other_small lists next gains among =
-    elim ((lists (next, gains)).0 among) [
-      | inl e ↦
-          subst (λ (o : Option (ℕ × Gains)). IfSome o (λ move. Small move.0 move.1)) e one_small
-      | inr e ↦
-          subst (λ (o : Option (ℕ × Gains)). IfSome o (λ move. Small move.0 move.1)) e other_small
-    ]
 
 -- the one step from the state of a code, with the code after it
 pub chosen_some : {State : Type 0} (device : Device) (act : Act) (code_of : State → ℕ)

@@ -21,7 +21,7 @@ pub use Rattle.mdb_machine.specs.Choices.{CanStand, is_approval}
 pub use Rattle.mdb_machine.specs.Enabled.{disables, enabled_of, enables, known_enabled}
 pub use Rattle.mdb_machine.specs.Gains.{by_slot, controller_gains, device_gains, in_slots, no_gains, Stays}
 pub use Rattle.mdb_machine.specs.Keeper.{AllowsFacts, asked_by, effect_of, Facts, known_of, KnownFacts, parts_by, setup_by, Tables}
-pub use Rattle.mdb_machine.specs.KeeperSteps.{AckStep, Conduct, KeeperStep, ReplyStep, StepKnowing, VmcAckStep, worth}
+pub use Rattle.mdb_machine.specs.KeeperConduct.{AckStep, Conduct, KeeperStep, ReplyStep, StepKnowing, VmcAckStep, worth}
 pub use Rattle.mdb_machine.specs.KeeperValues.{enabled_after, facts_in, facts_of, facts_taken, facts_told, facts_with, known_in, known_with, settled}
 pub use Rattle.mdb_machine.specs.Kept.{has_reset, HasNews, held, holds_acked, holds_after, holds_read, is_reset, IsNew, keeps_early, kept_by, kept_of, MayBeRead}
 pub use Rattle.mdb_machine.specs.Known.{Allows, AllowsKept, Is, known_before, known_by}

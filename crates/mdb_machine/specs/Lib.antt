@@ -2,7 +2,7 @@ pub mod Choices
 pub mod Enabled
 pub mod Gains
 pub mod Keeper
-pub mod KeeperSteps
+pub mod KeeperConduct
 pub mod KeeperValues
 pub mod Kept
 pub mod Known

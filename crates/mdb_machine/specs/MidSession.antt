@@ -17,7 +17,7 @@ use Rattle.mdb_machine.specs.declared.past.Effect.{Effect}
 use Rattle.mdb_machine.specs.Enabled.{known_enabled}
 use Rattle.mdb_machine.specs.Gains.{device_gains}
 use Rattle.mdb_machine.specs.Keeper.{Facts, Tables, asked_by, effect_of, parts_by, setup_by}
-use Rattle.mdb_machine.specs.KeeperSteps.{Conduct, worth}
+use Rattle.mdb_machine.specs.KeeperConduct.{Conduct, worth}
 use Rattle.mdb_machine.specs.Kept.{MayBeKept, holds_read, kept_of}
 use Rattle.mdb_machine.specs.Past.{PastFacts, last_told, or_else, past_of, powers_on}
 

@@ -6,7 +6,7 @@ use Rattle.mdb_bus.specs.declared.act.Act.{Act}
 use Rattle.mdb_bus.specs.declared.act.Act.TheVariants as acts
 use Rattle.mdb_bus.specs.declared.scope.Beginning.{Beginning}
 use Rattle.mdb_machine.specs.Keeper.{Tables, known_of, parts_by}
-use Rattle.mdb_machine.specs.KeeperSteps.{Conduct}
+use Rattle.mdb_machine.specs.KeeperConduct.{Conduct}
 use Rattle.mdb_machine.specs.Kept.{kept_of}
 
 -- one, where something is so, and else none

@@ -3,7 +3,7 @@
 ghost use Rattle.std.specs.Prelude.{◌≡◌, ◌≤◌, ◌<◌, ◌+◌, ◌^◌, ◌↔◌, ◌⊎◌, true, false, List, ◌∷◌, Contains, IfSome, Option, Some, length, option_and_then, sum_by};
 ghost use Rattle.mdb_machine.specs.Gains.{by_slot};
 ghost use Rattle.mdb_machine.specs.SmallGains.{AreSmall, IsSmall};
-ghost use Rattle.mdb_machine.specs.KeeperSteps as spec;
+ghost use Rattle.mdb_machine.specs.KeeperConduct as spec;
 ghost use Rattle.arrayvec.specs.ArrayVec.{array_vec_len};
 ghost use Rattle.mdb_msgs.specs.declared.command.Command.{Command};
 ghost use Rattle.mdb_bus.specs.declared.act.Act as lists;

@@ -160,18 +160,6 @@ impl<K: Keeper> KeeperFacts<K> {
         }
     }
 
-    /// The same facts again.
-    pub fn copy(&self) -> Self
-        ensures { result ≡ self.now }
-    {
-        KeeperFacts {
-            setup: self.setup.as_ref().map(|setup| K::setup_copy(setup)),
-            last_asked: self.last_asked,
-            enabled: self.enabled,
-            past: self.past.copy(),
-        }
-    }
-
     /// The decimal places of the device's amounts: those of its last setup table, where it has told
     /// one.
     pub fn decimals(&self) -> Option<u8>
@@ -303,18 +291,6 @@ impl<K: Keeper> KeeperKnown<K> {
             profile: begins.profile(),
             knows_asked: knows,
             knows_kept: knows,
-        }
-    }
-
-    /// The same again.
-    pub fn copy(&self) -> Self
-        ensures { result ≡ self.now }
-    {
-        KeeperKnown {
-            facts: self.facts.copy(),
-            profile: self.profile,
-            knows_asked: self.knows_asked,
-            knows_kept: self.knows_kept,
         }
     }
 

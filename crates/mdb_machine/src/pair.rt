@@ -1,6 +1,6 @@
 //! A device and the controller.
 
-ghost use Rattle.std.specs.Prelude.{◌≡◌, ◌<◌, ◌≤◌, ◌+◌, ◌↔◌, ◌⊎◌, ℕ, Bool, true, IsTrue, List, [], ◌∷◌, Contains, Some, IfSome, length};
+ghost use Rattle.std.specs.Prelude.{◌≡◌, ◌<◌, ◌≤◌, ◌+◌, ◌↔◌, ℕ, Bool, true, IsTrue, List, [], ◌∷◌, Contains, Some, IfSome, length};
 ghost use Rattle.std.specs.Bool.{OnFalse, OnTrue};
 ghost use Rattle.mdb_msgs.specs.declared.command.Device.{Device};
 ghost use Rattle.mdb_bus.specs.declared.act.Act.{Act};
@@ -14,7 +14,7 @@ ghost use Rattle.mdb_machine.specs.Choices.{CanStand};
 ghost use Rattle.mdb_machine.specs.Gains.{Stays, no_gains};
 ghost use Rattle.mdb_machine.specs.SmallGains.{IsSmall};
 ghost use Rattle.mdb_machine.specs.Machine.{Machine};
-ghost use Rattle.mdb_machine.specs.Pair.{CanStandFor, IsActOf, IsChosenStep, IsMachineOf, IsMove, IsOfAnother, IsOnlyStep, IsOtherMove, IsStep};
+ghost use Rattle.mdb_machine.specs.Pair.{CanStandFor, IsActOf, IsChosenStep, IsMachineOf, IsOfAnother, IsOnlyStep, IsOtherMove, IsStep};
 
 use super::choice::{Choice, other_choice};
 use super::gains::Gains;
@@ -76,11 +76,7 @@ pub trait Pair {
     fn facts_start(begins: &Beginning) -> Self::Facts
         ensures { stands_for begins.now result [] };
 
-    /// The same facts again.
-    fn facts_copy(facts: &Self::Facts) -> Self::Facts
-        ensures { result ≡ facts.now };
-
-    /// Takes one act more into the facts, as `facts_after`, in place.
+    /// Takes one act more into the facts.
     fn learn(facts: &mut Self::Facts, act: &Act)
         ensures { (begins : Beginning) (acts : List Act) → stands_for begins facts.old acts
             → stands_for begins facts.new (act.now ∷ acts) };
@@ -198,16 +194,6 @@ pub trait Pair {
         → (IsActOf device act → ⊥) → stands_for begins facts acts
         → stands_for begins facts (act ∷ acts) };
 
-    /// The facts after one act more. Those before it stay with their owner.
-    final fn facts_after(facts: &Self::Facts, act: &Act) -> Self::Facts
-        ensures { (begins : Beginning) (acts : List Act) → stands_for begins facts.now acts
-            → stands_for begins result (act.now ∷ acts) }
-    {
-        let mut after = Self::facts_copy(facts);
-        Self::learn(&mut after, act);
-        after
-    }
-
     /// The step that a settled act is under a choice, from the state of a code: the code after it,
     /// and what it adds to the sums. `None` where there is no such step, and where the choice can't
     /// stand on the act: on foreign traffic, on a break and on most acts of this device only the
@@ -256,22 +242,6 @@ pub trait Pair {
             Some(choice) => Self::step(facts, act, code, choice),
             None => None,
         }
-    }
-
-    /// The steps that a settled act may be, from the state of a code, by all choices that can stand
-    /// on it: the code after each, and what it adds to the sums.
-    final fn moves(facts: &Self::Facts, act: &Act, code: usize) -> ArrayVec<(usize, Gains), 2>
-        requires code { code < CODES }
-        requires settled { settled facts.now act.now ≡ true }
-        ensures steps { (begins : Beginning) (acts : List Act) → stands_for begins facts.now acts
-            → (next : ℕ) (gains : Gains) → Contains result.items (next, gains)
-            ↔ IsMove act.now code_of ((machine begins).Step acts act.now) code next gains }
-        ensures below { (next : ℕ) (gains : Gains) → Contains result.items (next, gains)
-            → (next < CODES) × IsSmall gains }
-    {
-        let plain = Self::step(facts, act, code, Choice::Plain);
-        let other = Self::other_step(facts, act, code);
-        both(plain, other)
     }
 }
 
@@ -329,21 +299,4 @@ fn is_of_another(device: Device, act: &Act) -> bool
     ensures { IsTrue result ↔ IsOfAnother device act.now }
 {
     !matches!(act, Act::Foreign) && !is_act_of(device, act)
-}
-
-/// Two moves, or the one that both are.
-fn both(one: Option<(usize, Gains)>, other: Option<(usize, Gains)>) -> ArrayVec<(usize, Gains), 2>
-    ensures { (move : ℕ × Gains) → Contains result.items move
-        ↔ (one ≡ Some move) ⊎ (other ≡ Some move) }
-{
-    let mut moves = ArrayVec::new();
-    if let Some(step) = one {
-        moves.push(step);
-    }
-    if let Some(step) = other {
-        if one != other {
-            moves.push(step);
-        }
-    }
-    moves
 }

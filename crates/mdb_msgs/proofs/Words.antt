@@ -51,4 +51,4 @@ pub use Rattle.mdb_msgs.specs.declared.reply.setup.BillSetup.{BillSetup}
 pub use Rattle.mdb_msgs.specs.declared.reply.setup.ChangerSetup.{ChangerSetup}
 pub use Rattle.mdb_msgs.specs.declared.reply.setup.Stacker.{Stacker}
 pub use Rattle.mdb_msgs.specs.declared.reply.setup.TubeStatus.{TubeStatus}
-pub use Rattle.mdb_msgs.specs.inner.ReaderSteps.{IsNextMessage, StandAsMessages, with_message}
+pub use Rattle.mdb_msgs.specs.inner.OneMessage.{IsNextMessage, StandAsMessages, with_message}

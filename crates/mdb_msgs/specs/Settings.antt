@@ -18,7 +18,7 @@ with_device set (Reader Second) = record set { second_reader = true }
 
 -- nothing is known
 abbrev pub none_known : ReaderSetup
-none_known = record { config = None; asked = None; told = None; options = false }
+none_known = record { config = None; asked = None; told = None; features = false }
 
 abbrev pub nothing_known : Setups
 nothing_known =

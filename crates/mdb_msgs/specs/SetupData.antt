@@ -101,12 +101,12 @@ pub record IsSetupOf (extended : Bool) (device : Device) (bytes : List ℕ) (bef
   pub told : option_map (leveled device answer) (known_with before device answer) ≡ Some after
 
 -- what is known with a block of the controller, if it tells anything of a reader: SETUP config its
--- feature level (Y2), ENABLE OPTIONS that its options are known
+-- feature level (Y2), ENABLE OPTIONS that its features are known
 abbrev pub known_by : Setups → Command → Option Setups
 known_by known (command.Reader unit (reader.SetupConfig level columns rows display)) =
     Some (with_reader known unit (record (reader_known known unit) { asked = Some level }))
 known_by known (command.Reader unit (reader.EnableOptions options)) =
-    Some (with_reader known unit (record (reader_known known unit) { options = true }))
+    Some (with_reader known unit (record (reader_known known unit) { features = true }))
 known_by known other = None
 
 -- whether that is known
@@ -114,7 +114,7 @@ abbrev pub has_ask : Setups → Command → Bool
 has_ask known (command.Reader unit (reader.SetupConfig level columns rows display)) =
     is_some (reader_known known unit).asked
 has_ask known (command.Reader unit (reader.EnableOptions options)) =
-    (reader_known known unit).options
+    (reader_known known unit).features
 has_ask known other = false
 
 -- These bytes, their sum included, are a block of the controller to a reader that tells something

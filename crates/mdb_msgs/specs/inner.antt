@@ -1,2 +1,2 @@
-pub mod ReaderSteps
+pub mod OneMessage
 pub mod SetupAsked

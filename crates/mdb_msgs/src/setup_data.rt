@@ -83,7 +83,7 @@ impl Setups {
     }
 
     /// Learns what a command to a reader reports (MDB/ICP 4.3, cashless device): SETUP config the
-    /// controller's feature level, ENABLE OPTIONS that its options are known. Returns whether the
+    /// controller's feature level, ENABLE OPTIONS that its features are known. Returns whether the
     /// command is one of these. If it isn't, nothing changes.
     pub fn learn_ask(&mut self, command: &Command) -> bool
         ensures told { result ≡ true → spec.known_by self.old command.now ≡ Some self.new }
@@ -96,7 +96,7 @@ impl Setups {
         let mut reader = self.reader(unit);
         match asked {
             ReaderCommand::SetupConfig { level, .. } => reader.asked = Some(level),
-            ReaderCommand::EnableOptions(_) => reader.options = true,
+            ReaderCommand::EnableOptions(_) => reader.features = true,
             _ => return false,
         }
         self.set_reader(unit, reader);
@@ -111,7 +111,7 @@ impl Setups {
             Command::Reader(unit, ReaderCommand::SetupConfig { .. }) => {
                 self.reader(unit).asked.is_some()
             }
-            Command::Reader(unit, ReaderCommand::EnableOptions(_)) => self.reader(unit).options,
+            Command::Reader(unit, ReaderCommand::EnableOptions(_)) => self.reader(unit).features,
             _ => false,
         }
     }

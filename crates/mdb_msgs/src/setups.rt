@@ -24,12 +24,12 @@ pub struct ReaderSetup {
     /// What counts of its answer to SETUP config.
     pub config: Option<ReaderConfig>,
     /// The feature level that the controller told it last (Y2 of SETUP config). This level, the
-    /// next one and the options count by the extended profile alone.
+    /// next one and the features count by the extended profile alone.
     pub asked: Option<u8>,
     /// The feature level that it told last (Z2 of a config message).
     pub told: Option<u8>,
-    /// Whether its options are known (ENABLE OPTIONS).
-    pub options: bool,
+    /// Whether its features are known (ENABLE OPTIONS).
+    pub features: bool,
 }
 
 impl ReaderSetup {
@@ -38,7 +38,7 @@ impl ReaderSetup {
         config: None,
         asked: None,
         told: None,
-        options: false,
+        features: false,
     };
 }
 

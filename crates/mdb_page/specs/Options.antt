@@ -139,7 +139,7 @@ reader_with answer told = record {
   config = answer.config;
   asked = told.asked;
   told = option_or told.told answer.told;
-  options = told.options;
+  features = told.features;
 }
 
 -- what is known by answers, and by what is told of the readers

@@ -190,7 +190,7 @@ fn reader_with(answer: ReaderSetup, told: ReaderSetup) -> ReaderSetup
         config: answer.config,
         asked: told.asked,
         told: told.told.or(answer.told),
-        options: told.options,
+        features: told.features,
     }
 }
 

@@ -4,7 +4,7 @@
 //! the first impossible row of a device this list goes on, and a report doesn't.
 
 ghost use Rattle.std.specs.Prelude.{◌≤◌, ◌<◌};
-ghost use Rattle.mdb_follow.specs.SilenceSteps.{AreFew};
+ghost use Rattle.mdb_follow.specs.SilenceGrowth.{AreFew};
 
 use crate::rows::Rows;
 use mdb_bus::{Act, Beginning};

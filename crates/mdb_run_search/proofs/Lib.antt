@@ -16,7 +16,7 @@ pub mod Paths
 pub mod ReplayReports
 pub mod Replaying
 pub mod Seeking
-pub mod Steps
+pub mod TakenIn
 pub mod Tracked
 pub mod Weights
 mod Words

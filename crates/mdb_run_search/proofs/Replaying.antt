@@ -8,7 +8,7 @@ use Rattle.mdb_run_search.specs.declared.mark.Mark.TheVariants as mark_kinds
 use Rattle.mdb_run_search.specs.declared.replay.Replay.{Replay}
 use Rattle.mdb_follow.specs.Silences.{asks_of}
 use Rattle.mdb_follow.specs.SilencesKept.{AllStandForAsks}
-use Rattle.mdb_run_search.specs.inner.ReplaySteps.{HasReplayed, HasStopped}
+use Rattle.mdb_run_search.specs.inner.ReplayActs.{HasReplayed, HasStopped}
 use Rattle.mdb_follow.proofs.Asks.{asks-go-on, asks-stay, no-act}
 use Rattle.mdb_run_search.proofs.LastMark.{last-stands}
 use Rattle.mdb_run_search.proofs.MarkedRuns.{JoinWithChoices, at-mark, followed, marked-run, ways-of}

@@ -106,6 +106,6 @@ pub use Rattle.mdb_run_search.specs.inner.Seekers.{IsSeeker}
 pub use Rattle.mdb_run_search.specs.inner.Weights.{gained, towards, weigh, weight_of}
 pub use Rattle.mdb_bus.specs.ExtendedTimes.{AreFew, times_of, untimely_of}
 pub use Rattle.mdb_cashless.specs.ByProfile.{StepOf, base_state, by_profile, extended_state, machine_in, strayed}
-pub use Rattle.mdb_run_search.specs.inner.TrackSteps.{AreTracksWithin, IsTrackWithin, Leads, LeadsOf, OneLeads, TrackStops, TracksLead, TracksStop}
+pub use Rattle.mdb_run_search.specs.inner.TracksLed.{AreTracksWithin, IsTrackWithin, Leads, LeadsOf, OneLeads, TrackStops, TracksLead, TracksStop}
 pub use Rattle.mdb_machine.proofs.Ways.{by_second, plain_only, plain_or_not, step_as}
 pub use Rattle.mdb_msgs.specs.shared.SameDevices.{is_one, itself, says}

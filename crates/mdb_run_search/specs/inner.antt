@@ -2,7 +2,7 @@ pub mod AllPaths
 pub mod Chains
 pub mod Merges
 pub mod Paths
-pub mod ReplaySteps
+pub mod ReplayActs
 pub mod Seekers
-pub mod TrackSteps
+pub mod TracksLed
 pub mod Weights

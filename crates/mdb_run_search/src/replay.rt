@@ -15,8 +15,8 @@ ghost use Rattle.mdb_run_search.specs.ReplayFaults.{MayStandAt, row_of};
 ghost use Rattle.mdb_bus.specs.Scopes as scopes;
 ghost use Rattle.mdb_bus.specs.ExtendedTimes as times;
 ghost use Rattle.mdb_bus.specs.declared.untimely.Untimely.{Untimely};
-ghost use Rattle.mdb_follow.specs.SilenceSteps.{AreFew};
-ghost use Rattle.mdb_run_search.specs.inner.TrackSteps.{AreTracksWithin};
+ghost use Rattle.mdb_follow.specs.SilenceGrowth.{AreFew};
+ghost use Rattle.mdb_run_search.specs.inner.TracksLed.{AreTracksWithin};
 
 use crate::tracks::Tracks;
 use crate::{Mark, laws};
@@ -66,7 +66,7 @@ impl Replay {
     ghost use Rattle.mdb_run_search.specs.ReplayFaults.{HasMarkedRun, IsReplayFault};
     ghost use Rattle.mdb_run_search.specs.Replays.{IsReplayReport, StandsFor, fault_of};
     ghost use Rattle.mdb_run_search.specs.Replays.{rows_of, scope_of};
-    ghost use Rattle.mdb_run_search.specs.inner.ReplaySteps.{HasReplayed, HasStopped};
+    ghost use Rattle.mdb_run_search.specs.inner.ReplayActs.{HasReplayed, HasStopped};
 
     /// The replay before the first row, by the base profile: all devices are followed.
     pub fn new() -> Replay

@@ -6,7 +6,7 @@ ghost use Rattle.mdb_bus.specs.declared.scope.Beginning.TheVariants.{PowerOn};
 ghost use Rattle.mdb_bus.specs.declared.scope.Profile.{Profile};
 ghost use Rattle.mdb_follow.specs.Choosing.{Choices};
 ghost use Rattle.mdb_run_search.specs.Tracks.{HasNoStepFrom, IsTrack};
-ghost use Rattle.mdb_run_search.specs.inner.TrackSteps.{IsTrackWithin, Leads};
+ghost use Rattle.mdb_run_search.specs.inner.TracksLed.{IsTrackWithin, Leads};
 
 use mdb_bus::{Act, Beginning, Profile, Rule};
 use mdb_follow::Cell;

@@ -11,9 +11,9 @@ ghost use Rattle.mdb_follow.specs.declared.report.TheConstants.Report.{DEVICES};
 ghost use Rattle.mdb_follow.specs.Cells.{cell_in};
 ghost use Rattle.mdb_follow.specs.Report.{device_facts_of};
 ghost use Rattle.mdb_run_search.specs.Tracks.{AreTracks, track_in};
-ghost use Rattle.mdb_run_search.specs.inner.TrackSteps.{AreTracksWithin, IsTrackWithin};
-ghost use Rattle.mdb_run_search.specs.inner.TrackSteps.{OneLeads, TrackStops, TracksLead};
-ghost use Rattle.mdb_run_search.specs.inner.TrackSteps.{TracksStop};
+ghost use Rattle.mdb_run_search.specs.inner.TracksLed.{AreTracksWithin, IsTrackWithin};
+ghost use Rattle.mdb_run_search.specs.inner.TracksLed.{OneLeads, TrackStops, TracksLead};
+ghost use Rattle.mdb_run_search.specs.inner.TracksLed.{TracksStop};
 
 use crate::track::{self, Track};
 use mdb_bus::{Act, Profile, Rule};

@@ -1,7 +1,7 @@
-pub mod Words
 pub mod JsonLines
+pub mod LinesSoFar
 pub mod OneShowing
 pub mod SameFault
-pub mod ShowSteps
 pub mod ShowTexts
 pub mod Showings
+pub mod Words

@@ -4,7 +4,7 @@ use Rattle.mdb_words.specs.Refusals.{IsRefusal}
 use Rattle.std.specs.Result.{result_transpose}
 use Rattle.mdb_verdict.proofs.Ends.{drawn, part_of_whole, stopped_as, whole_as}
 use Rattle.mdb_verdict.proofs.Rows.{read_with}
-use Rattle.mdb_show.proofs.ShowSteps.{its_list}
+use Rattle.mdb_show.proofs.LinesSoFar.{its_list}
 use Rattle.mdb_show.proofs.ShowTexts.{all_shown}
 
 -- before the first row

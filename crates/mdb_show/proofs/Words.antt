@@ -35,4 +35,4 @@ pub use Rattle.mdb_show.specs.ShowJson.{act_data, block_members, cut_data, deed_
 pub use Rattle.mdb_show.specs.ShowText.{bytes_text}
 pub use Rattle.mdb_show.specs.declared.showing.Lines.{Lines}
 pub use Rattle.mdb_show.specs.inner.JsonLines.{act_json, blame_json, block_json, bytes_json, deed_json, device_json, fault_json, head_json, rows_json, rows_only_json, rule_json}
-pub use Rattle.mdb_show.specs.inner.ShowSteps.{cut_text, ended_text, HasAdded, HasPieces, HasShown, HasStopped, IsAdded, PutsShowing}
+pub use Rattle.mdb_show.specs.inner.RowLines.{cut_text, ended_text, HasAdded, HasPieces, HasShown, HasStopped, IsAdded, PutsShowing}

@@ -1,2 +1,2 @@
 pub mod JsonLines
-pub mod ShowSteps
+pub mod RowLines

@@ -4,7 +4,7 @@ ghost use Rattle.std.specs.Prelude.{◌≡◌, ◌<◌, ◌≤◌, ◌++◌, IfE
 ghost use Rattle.mdb_bus.specs.Pieces.{NamesAReply};
 ghost use Rattle.mdb_follow.specs.declared.follower.TheConstants.{ROWS_MAX};
 ghost use Rattle.mdb_show.specs.Show.{lines_in};
-ghost use Rattle.mdb_show.specs.inner.ShowSteps.{cut_text, ended_text};
+ghost use Rattle.mdb_show.specs.inner.RowLines.{cut_text, ended_text};
 ghost use Rattle.mdb_verdict.specs.Telling.{IsNotTaken};
 ghost use Rattle.mdb_writing.specs.Output.{Puts, output};
 

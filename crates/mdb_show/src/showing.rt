@@ -6,7 +6,7 @@ ghost use Rattle.mdb_bus.specs.Bus.{scope_of};
 ghost use Rattle.mdb_bus.specs.declared.scope.Scope.{Scope};
 ghost use Rattle.mdb_bus.specs.Scopes.{power_on};
 ghost use Rattle.mdb_show.specs.Show.{IsNotWhole, ShowsIn, ShowsText, lines_in};
-ghost use Rattle.mdb_show.specs.inner.ShowSteps.{HasShown, PutsShowing};
+ghost use Rattle.mdb_show.specs.inner.RowLines.{HasShown, PutsShowing};
 ghost use Rattle.mdb_verdict.specs.Telling.{Reads};
 ghost use Rattle.mdb_writing.specs.Output.{begun, output};
 
@@ -135,7 +135,7 @@ struct Showing {
 impl Showing {
     ghost use Rattle.std.specs.Prelude.{[], Option};
     ghost use Rattle.mdb_writing.specs.Output.{begun, output};
-    ghost use Rattle.mdb_show.specs.inner.ShowSteps.{HasShown};
+    ghost use Rattle.mdb_show.specs.inner.RowLines.{HasShown};
 
     /// Before the first row.
     fn new(alloc: Global, scope: &Scope, form: Form) -> Showing
@@ -159,7 +159,7 @@ impl<W: Write> TakeRows<W> for Showing {
     ghost use Rattle.mdb_text.specs.declared.form.Form.{Form};
     ghost use Rattle.mdb_follow.specs.declared.follower.TheConstants.{ROWS_MAX};
     ghost use Rattle.mdb_writing.specs.Output.{begun, output};
-    ghost use Rattle.mdb_show.specs.inner.ShowSteps.{HasShown, HasStopped};
+    ghost use Rattle.mdb_show.specs.inner.RowLines.{HasShown, HasStopped};
 
     type Row = Event;
 
@@ -211,7 +211,7 @@ impl Lines {
     ghost use Rattle.mdb_words.specs.declared.event.Event.{Event};
     ghost use Rattle.mdb_bus.specs.Bus.{StandsFor, scope_of};
     ghost use Rattle.mdb_writing.specs.Output.{Output, output};
-    ghost use Rattle.mdb_show.specs.inner.ShowSteps.{HasAdded, HasPieces, HasShown};
+    ghost use Rattle.mdb_show.specs.inner.RowLines.{HasAdded, HasPieces, HasShown};
 
     /// No lines: before the first row.
     fn new(scope: &Scope) -> Lines

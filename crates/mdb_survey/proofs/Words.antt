@@ -26,4 +26,4 @@ pub use Rattle.mdb_verdict.specs.declared.fault.RunFault.{RunFault}
 pub use Rattle.mdb_verdict.specs.declared.fault.RunFault.TheVariants.{BadRow, Memory, Read, TooLong, Write}
 pub use Rattle.mdb_survey.specs.Survey.{HasAllLines, HasFaultLines, HasLines, IsSurveying, survey_lines_in}
 pub use Rattle.mdb_survey.specs.SurveyJson.{device_member, device_total, devices_total, some_total, stretch_data, summary_data, total_data}
-pub use Rattle.mdb_survey.specs.inner.SurveySteps.{HasAddedEnd, HasAddedLast, HasStopped, HasSurveyed, LeadInto, PutsSurveying}
+pub use Rattle.mdb_survey.specs.inner.SurveyLines.{HasAddedEnd, HasAddedLast, HasStopped, HasSurveyed, LeadInto, PutsSurveying}

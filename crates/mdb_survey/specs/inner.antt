@@ -1,1 +1,1 @@
-pub mod SurveySteps
+pub mod SurveyLines

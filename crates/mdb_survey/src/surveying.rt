@@ -5,7 +5,7 @@ ghost use Rattle.mdb_records.specs.ToCome.{ToCome, found_by};
 ghost use Rattle.mdb_bus.specs.declared.scope.Scope.{Scope};
 ghost use Rattle.mdb_bus.specs.Scopes.{profile_of};
 ghost use Rattle.mdb_survey.specs.Survey.{SurveysIn, survey_lines_in};
-ghost use Rattle.mdb_survey.specs.inner.SurveySteps.{HasSurveyed, PutsSurveying};
+ghost use Rattle.mdb_survey.specs.inner.SurveyLines.{HasSurveyed, PutsSurveying};
 ghost use Rattle.mdb_verdict.specs.Telling.{Reads};
 ghost use Rattle.mdb_writing.specs.Output.{begun, output};
 
@@ -110,7 +110,7 @@ struct Surveying {
 impl Surveying {
     ghost use Rattle.std.specs.Prelude.{Option};
     ghost use Rattle.mdb_writing.specs.Output.{begun, output};
-    ghost use Rattle.mdb_survey.specs.inner.SurveySteps.{HasAddedEnd, HasAddedLast, HasSurveyed};
+    ghost use Rattle.mdb_survey.specs.inner.SurveyLines.{HasAddedEnd, HasAddedLast, HasSurveyed};
 
     /// Before the first row.
     fn new(alloc: Global, scope: &Scope, form: Form) -> Surveying
@@ -166,7 +166,7 @@ impl<W: Write> TakeRows<W> for Surveying {
     ghost use Rattle.mdb_follow.specs.declared.follower.TheConstants.{ROWS_MAX};
     ghost use Rattle.mdb_surveyor.specs.Surveyor.{rows_of};
     ghost use Rattle.mdb_writing.specs.Output.{begun, output};
-    ghost use Rattle.mdb_survey.specs.inner.SurveySteps.{HasSurveyed, HasStopped};
+    ghost use Rattle.mdb_survey.specs.inner.SurveyLines.{HasSurveyed, HasStopped};
 
     type Row = Event;
 

@@ -3,7 +3,7 @@ mod Asked
 mod Leading
 mod Learning
 mod OneSurvey
-mod OptionsTold
+mod FeaturesTold
 pub mod Parts
 mod Standing
 mod Sums

@@ -41,7 +41,7 @@ pub use Rattle.mdb_follow.specs.declared.offence.Offence.{Offence}
 pub use Rattle.mdb_follow.specs.declared.range.Range.{Range}
 pub use Rattle.mdb_follow.specs.declared.report.Report.{Report}
 pub use Rattle.mdb_surveyor.specs.Counts.{counts_of_ended, counts_of_faults}
-pub use Rattle.mdb_surveyor.specs.Learning.{AreKnown, AreOptionsTold, enables_options, options_told_by}
+pub use Rattle.mdb_surveyor.specs.Learning.{AreKnown, AreFeaturesTold, enables_features, features_told_by}
 pub use Rattle.mdb_surveyor.specs.OtherMoney.{OtherMoneyIsAsked, WhoIsAsked, WhoIsAskedBefore}
 pub use Rattle.mdb_surveyor.specs.Parts.{EndBefore, EndInBlock, IsReaderAsked, IsReaderBeyond}
 pub use Rattle.mdb_surveyor.specs.Stretches.{EndsBy, fault_at, first_fault, first_place, GoesOnAfter, IsCutAt, IsSurvey, LeadFrom, left_out_asked, left_out_by_profile, left_out_for, place_after, scope_after, stretch_at, StretchStart}

@@ -22,19 +22,19 @@ pub record AreKnown (begins : Beginning) (setups : Setups) (acts : List Act) : T
   pub reader : (unit : ReaderUnit)
       → config_known setups unit ≡ config_of (facts_of begins unit acts)
 
--- What an act tells of whether a reader's options are told: a break, or a RESET that the reader
+-- What an act tells of whether a reader's features are told: a break, or a RESET that the reader
 -- takes, that they aren't; an ENABLE OPTIONS that it takes, that they are.
-abbrev pub enables_options : Option ReaderCommand → Bool
-enables_options (Some (readers.EnableOptions list)) = true
-enables_options command = false
+abbrev pub enables_features : Option ReaderCommand → Bool
+enables_features (Some (readers.EnableOptions list)) = true
+enables_features command = false
 
-abbrev pub options_told_by : ReaderUnit → Act → Option Bool
-options_told_by unit act =
+abbrev pub features_told_by : ReaderUnit → Act → Option Bool
+features_told_by unit act =
     if powers_on (effect_of unit) act then Some false
-    else if enables_options (own_of unit (taken_by act)) then Some true
+    else if enables_features (own_of unit (taken_by act)) then Some true
     else None
 
 -- Whether they are told after acts: as the last act says that tells it, or else as before.
-abbrev pub AreOptionsTold : ReaderUnit → List Act → Bool → Bool → Type 0
-AreOptionsTold unit acts before after =
-    Some after ≡ or_else (last_told (options_told_by unit) acts) (Some before)
+abbrev pub AreFeaturesTold : ReaderUnit → List Act → Bool → Bool → Type 0
+AreFeaturesTold unit acts before after =
+    Some after ≡ or_else (last_told (features_told_by unit) acts) (Some before)

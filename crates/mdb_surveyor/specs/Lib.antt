@@ -1,14 +1,14 @@
 pub mod Counts
+pub mod Features
 pub mod Halts
 pub mod Learning
-pub mod Options
+pub mod Lines
 pub mod OtherMoney
 pub mod Parts
 pub mod Stretches
 pub mod Summaries
+pub mod SurveyText
 pub mod Surveyor
 pub mod Told
 pub mod Totals
 pub mod Unanswered
-pub mod Lines
-pub mod SurveyText

@@ -22,7 +22,7 @@ use Rattle.mdb_bus.specs.declared.scope.Scope.{Scope}
 use Rattle.mdb_bus.specs.ActLists.{levels_after, levels_told}
 use Rattle.mdb_bus.specs.Scopes.{first_levels, levels_before, profile_of}
 use Rattle.mdb_surveyor.specs.declared.told.Told.{Told}
-use Rattle.mdb_surveyor.specs.Options.{options_after, options_before}
+use Rattle.mdb_surveyor.specs.Features.{features_after, features_before}
 
 -- the setup data that are known before a recording that begins so
 abbrev pub setups_of : Beginning → Setups
@@ -35,7 +35,7 @@ told_before scope = record {
   setups = setups_of scope.begins;
   levels = levels_before scope;
   unanswered = scope.levels;
-  options = options_before scope.begins;
+  features = features_before scope.begins;
 }
 
 -- a config message of a reader answers what the controller told it of its feature level
@@ -65,10 +65,10 @@ learnt_by profile (acts.Reply command reply) told =
     (record told { levels = levels_told profile command reply told.levels })
 learnt_by profile act told = told
 
--- the same with what the act tells of whose options are known, in a recording that begins so
+-- the same with what the act tells of whose features are known, in a recording that begins so
 abbrev pub told_by : Beginning → Act → Told → Told
 told_by begins act told = record (learnt_by (profile_of begins) act told) {
-  options = options_after act told.options;
+  features = features_after act told.features;
 }
 
 -- what is told after an act, if there is one
@@ -94,30 +94,30 @@ asked_on levels =
     else levels.asked
 
 -- What a stretch is told of a reader by the extended profile: the last levels, and whether its
--- options are known.
+-- features are known.
 abbrev pub setup_on : ReaderSetup → ReaderLevels → Bool → ReaderSetup
-setup_on known levels options = record {
+setup_on known levels features = record {
   config = known.config;
   asked = asked_on levels;
   told = levels.told;
-  options = options;
+  features = features;
 }
 
 -- the setup data that a stretch is told
 abbrev pub setups_on : Profile → Told → Setups
 setups_on Base told = told.setups
 setups_on Extended told = record told.setups {
-  first_reader = setup_on told.setups.first_reader told.levels.first told.options.first;
-  second_reader = setup_on told.setups.second_reader told.levels.second told.options.second;
+  first_reader = setup_on told.setups.first_reader told.levels.first told.features.first;
+  second_reader = setup_on told.setups.second_reader told.levels.second told.features.second;
 }
 
--- what is told as a stretch begins so: of setup data and options what it is told, and by the
+-- what is told as a stretch begins so: of setup data and features what it is told, and by the
 -- extended profile of levels too
 abbrev pub told_on : Beginning → Told → Told
 told_on begins told = record told {
   setups = setups_of begins;
   levels = first_levels begins told.levels;
-  options = options_before begins;
+  features = features_before begins;
 }
 
 -- the levels that a stretch is told beside its setup data: by the base profile those of the

@@ -13,8 +13,8 @@
 #![tactic(auto)]
 
 mod counts;
+mod features;
 pub mod laws;
-mod options;
 mod stretch;
 mod summary;
 mod surveyor;

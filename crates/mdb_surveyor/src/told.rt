@@ -8,8 +8,8 @@ ghost use Rattle.mdb_msgs.specs.SetupData.{known_with};
 ghost use Rattle.mdb_bus.specs.declared.scope.Profile.{Profile};
 ghost use Rattle.mdb_surveyor.specs.Told.{answered, asked_on, is_below_2, is_told_below_2, learnt_by, levels_on, setup_on, setups_of, setups_on, told_before, told_by, told_if, told_on, with_answer};
 
-use crate::options::{after, before};
-use mdb_bus::{Act, Beginning, KnownOptions, Levels, Profile, ReaderLevels, Scope};
+use crate::features::{after, before};
+use mdb_bus::{Act, Beginning, KnownFeatures, Levels, Profile, ReaderLevels, Scope};
 use mdb_msgs::{Command, Device, ReaderCommand, ReaderSetup, ReaderUnit, Reply, Setups};
 
 /// What the rows so far tell of how the devices are set up, for the next stretch (this profile).
@@ -24,10 +24,10 @@ pub struct Told {
     /// The level of the last whole SETUP config ask, where no config message of that reader came
     /// after it.
     pub unanswered: Levels,
-    /// Whose options are known: ENABLE OPTIONS was accepted, or was known before the stretch that
+    /// Whose features are known: ENABLE OPTIONS was accepted, or was known before the stretch that
     /// runs, and since then came no break and no accepted RESET. They count by the extended profile
     /// alone.
-    pub options: KnownOptions,
+    pub features: KnownFeatures,
 }
 
 impl Told {
@@ -39,7 +39,7 @@ impl Told {
             setups: setups_of(&scope.begins),
             levels: scope.levels_before(),
             unanswered: scope.levels,
-            options: before(&scope.begins),
+            features: before(&scope.begins),
         }
     }
 
@@ -58,7 +58,7 @@ impl Told {
     pub fn learn(&mut self, begins: &Beginning, act: &Act)
         ensures { self.new ≡ told_by begins.now act.now self.old }
     {
-        self.options = after(self.options, act);
+        self.features = after(self.features, act);
         self.learn_setups(begins.profile(), act);
     }
 
@@ -117,24 +117,24 @@ impl Told {
             setups.first_reader = setup_on(
                 setups.first_reader,
                 self.levels.first,
-                self.options.first,
+                self.features.first,
             );
             setups.second_reader = setup_on(
                 setups.second_reader,
                 self.levels.second,
-                self.options.second,
+                self.features.second,
             );
         }
         setups
     }
 
-    /// Begins a stretch, which is told of setup data and options what its beginning has, and by the
+    /// Begins a stretch, told of setup data and features what its beginning has, and by the
     /// extended profile of levels too.
     pub(crate) fn begin(&mut self, begins: &Beginning)
         ensures { self.new ≡ told_on begins.now self.old }
     {
         self.setups = setups_of(begins);
-        self.options = before(begins);
+        self.features = before(begins);
         if let Beginning::Joined(setups, Profile::Extended) = begins {
             self.levels = Levels::known(setups);
         }
@@ -181,14 +181,14 @@ pub fn setups_of(begins: &Beginning) -> Setups
 }
 
 /// What a stretch is told of a reader by the extended profile, of which this is known.
-fn setup_on(known: ReaderSetup, levels: ReaderLevels, options: bool) -> ReaderSetup
-    ensures { result ≡ setup_on known levels options }
+fn setup_on(known: ReaderSetup, levels: ReaderLevels, features: bool) -> ReaderSetup
+    ensures { result ≡ setup_on known levels features }
 {
     ReaderSetup {
         config: known.config,
         asked: asked_on(levels),
         told: levels.told,
-        options,
+        features,
     }
 }
 

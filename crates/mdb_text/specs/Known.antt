@@ -7,7 +7,7 @@ use Rattle.mdb_msgs.specs.declared.setups.Setups.{Setups}
 -- whether anything is known of a reader
 abbrev pub is_known : ReaderSetup → Bool
 is_known reader = is_some reader.config || is_some reader.asked || is_some reader.told
-    || reader.options
+    || reader.features
 
 -- the devices of which something is known
 abbrev pub known_devices : Setups → DeviceSet

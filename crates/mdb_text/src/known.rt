@@ -22,7 +22,7 @@ pub fn known_devices(setups: &Setups) -> DeviceSet
 fn is_known(reader: ReaderSetup) -> bool
     ensures { result ≡ is_known reader }
 {
-    reader.config.is_some() || reader.asked.is_some() || reader.told.is_some() || reader.options
+    reader.config.is_some() || reader.asked.is_some() || reader.told.is_some() || reader.features
 }
 
 /// A set, with a device more where it is known.

@@ -11,7 +11,7 @@ use Rattle.mdb_bus.specs.ExtendedHaste.{awaited_after}
 use Rattle.mdb_bus.specs.ExtendedMoney.{known_if}
 use Rattle.mdb_bus.specs.shared.Step.{Step}
 use Rattle.mdb_bus.specs.shared.Step as step
-use Rattle.mdb_bus.specs.shared.Steps.{HasAdvanced, asked_after}
+use Rattle.mdb_bus.specs.shared.Leads.{HasAdvanced, asked_after}
 
 -- by a step into foreign traffic, or in it, a bus keeps whether an answer is awaited
 abbrev pub KeepsAwaited : Step → Bool → Bool → Type 0
@@ -25,7 +25,7 @@ pub record HasGone (old : Bus) (next : Step) (row : Event) (new : Bus)
   pub advanced : HasAdvanced (position_at old.place) next (position_at new.place) act
   pub last : new.last ≡ Some row
   pub levels : new.levels ≡ levels_if (profile_of old.scope.begins) act old.levels
-  pub options : new.options ≡ known_if act old.options
+  pub features : new.features ≡ known_if act old.features
   pub asked : new.asked ≡ asked_after old.asked next
   pub awaited : KeepsAwaited next
       (awaited_after row (awaited_at (position_at old.place) old.awaited)) new.awaited

@@ -1,6 +1,5 @@
 -- How the code keeps what is known of a reader by the extended profile. `facts_in` says what a
--- value
--- stands for; the rest serves private functions.
+-- value stands for; the rest serves private functions.
 use Rattle.std.specs.Prelude.{ℕ, ◌-◌, length, take, Bool, true, false, not, ◌||◌, List, [], Option, Some}
 use Rattle.std.specs.Option.{is_none}
 use Rattle.mdb_msgs.specs.declared.command.ReaderCommand.{ReaderCommand}

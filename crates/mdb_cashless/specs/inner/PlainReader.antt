@@ -1,6 +1,5 @@
 -- That a choice which can't stand on an act leads a reader nowhere else than the plain one, and
--- that
--- a reply which approves a sale is no step as one that tells of a restart.
+-- that a reply which approves a sale is no step as one that tells of a restart.
 use Rattle.std.specs.Prelude.{◌≡◌, ◌≢◌, Bool, true, false, List, [], ◌∷◌, ◌++◌, map, Option, Some, None, if◌then◌else◌, refl}
 use Rattle.std.specs.List.{list_any}
 use Rattle.std.proofs.Common.{ap, sym, subst, ◌∙◌, inl, inr}

@@ -1,7 +1,6 @@
 -- That acts of other devices change nothing and tell nothing, that a choice which can't stand on an
 -- act leads nowhere else than the plain one, and that from power-on each act is settled. This
--- proves
--- laws of the trait `Pair` for the readers that follow approvals.
+-- proves laws of the trait `Pair` for the readers that follow approvals.
 use Rattle.std.specs.Prelude.{◌≡◌, ◌≢◌, ◌↔◌, ◌==◌, ℕ, ◌+◌, Bool, true, false, not, ◌&&◌, ◌||◌, List, [], ◌∷◌, Option, Some, None, if◌then◌else◌, length, refl}
 use Rattle.std.specs.List.{list_any}
 use Rattle.std.proofs.Common.{ap, subst, sym, ◌∙◌}

@@ -55,20 +55,6 @@ impl ApprovalFacts {
         }
     }
 
-    /// The same again.
-    pub fn copy(&self) -> ApprovalFacts
-        ensures { result ≡ self.now }
-    {
-        ApprovalFacts {
-            config: self.config,
-            amount: self.amount,
-            told: list_of(self.told.as_slice()),
-            knows_told: self.knows_told,
-            sale: self.sale,
-            earlier: self.earlier,
-        }
-    }
-
     /// The decimal places of the reader's amounts: Z6 of its last config message, where one is
     /// known (MDB/ICP 4.3, cashless device).
     pub fn decimals(&self) -> Option<u8>

@@ -52,18 +52,6 @@ impl ReaderKnown {
         }
     }
 
-    /// The same again.
-    pub fn copy(&self) -> ReaderKnown
-        ensures { result ≡ self.now }
-    {
-        ReaderKnown {
-            facts: self.facts.copy(),
-            knows_asked: self.knows_asked,
-            knows_taken: self.knows_taken,
-            knows_kept: self.knows_kept,
-        }
-    }
-
     /// The decimal places of the reader's amounts: Z6 of its last config message, where one is
     /// known (MDB/ICP 4.3, cashless device).
     pub fn decimals(&self) -> Option<u8>

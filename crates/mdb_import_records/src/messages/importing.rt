@@ -32,7 +32,7 @@ pub fn import_messages<R: Read + Drop, W: Write>(
     reader: R,
     writer: &mut W,
 ) -> Result<Imported, MessagesFault> {
-    let mut reading = Reading {
+    let mut reading = LogReader {
         options,
         times: Times::new(options.unit),
         has_begun: false,
@@ -51,7 +51,7 @@ pub fn import_messages<R: Read + Drop, W: Write>(
 
 /// How far a log is read.
 #[derive(Drop)]
-struct Reading<'a> {
+struct LogReader<'a> {
     options: &'a Options,
     // The times of all messages.
     times: Times,
@@ -66,7 +66,7 @@ struct Reading<'a> {
     messages: u64,
 }
 
-impl Reading<'_> {
+impl LogReader<'_> {
     /// Reads a message, and answers when it begins and who spoke.
     fn read(&mut self, text: &[u8]) -> Result<(u64, Line), MessageFault> {
         let mut front = Front::of(text);
@@ -141,7 +141,7 @@ fn is_passed_over(text: &[u8], is_above: bool) -> bool {
     true
 }
 
-impl<R: Read> Format<Log<R>> for Reading<'_> {
+impl<R: Read> Format<Log<R>> for LogReader<'_> {
     type Fault = MessagesFault;
 
     fn take<W: Write>(

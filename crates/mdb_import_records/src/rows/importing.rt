@@ -27,7 +27,7 @@ pub fn import_records<R: Read + Drop, W: Write>(
     records: &mut Records<R>,
     writer: &mut W,
 ) -> Result<Imported, ImportFault> {
-    let mut reading = Reading {
+    let mut reading = RowsReader {
         options,
         comments: 0,
         has_begun: false,
@@ -42,7 +42,7 @@ pub fn import_records<R: Read + Drop, W: Write>(
 
 /// How far the records are read.
 #[derive(Drop)]
-struct Reading<'a> {
+struct RowsReader<'a> {
     options: &'a Options,
     // How many comments stand at the beginning.
     comments: u64,
@@ -56,7 +56,7 @@ struct Reading<'a> {
     line: Vec<u8>,
 }
 
-impl Reading<'_> {
+impl RowsReader<'_> {
     /// The event of a record whose time this is, nothing where it is a header, or what is wrong
     /// with it. Only the first record after comments may be a header.
     fn event(
@@ -97,7 +97,7 @@ impl Reading<'_> {
     }
 }
 
-impl<R: Read + Drop> Format<Records<R>> for Reading<'_> {
+impl<R: Read + Drop> Format<Records<R>> for RowsReader<'_> {
     type Fault = ImportFault;
 
     fn take<W: Write>(

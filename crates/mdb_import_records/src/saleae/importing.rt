@@ -29,7 +29,7 @@ pub fn import_table<R: Read + Drop, W: Write>(
     records: &mut Records<R>,
     writer: &mut W,
 ) -> Result<Imported, SaleaeFault> {
-    let mut reading = Reading {
+    let mut reading = TableReader {
         options,
         comments: 0,
         columns: None,
@@ -40,7 +40,7 @@ pub fn import_table<R: Read + Drop, W: Write>(
 
 /// How far a table is read.
 #[derive(Drop)]
-struct Reading<'a> {
+struct TableReader<'a> {
     options: &'a Options,
     // How many comments stand before the header.
     comments: u64,
@@ -59,7 +59,7 @@ enum Found {
     Damaged(Place),
 }
 
-impl Reading<'_> {
+impl TableReader<'_> {
     /// Takes the record of a number before the first row: a comment, or the header.
     fn take_header(&mut self, number: u64, record: &Record<'_>) -> Result<(), SaleaeFault> {
         let columns = read_columns(record);
@@ -143,7 +143,7 @@ fn is_break(line: Line, word: Word) -> bool {
     line == Line::Controller && word.byte() == 0 && !word.marked()
 }
 
-impl<R: Read + Drop> Format<Records<R>> for Reading<'_> {
+impl<R: Read + Drop> Format<Records<R>> for TableReader<'_> {
     type Fault = SaleaeFault;
 
     fn take<W: Write>(

@@ -10,7 +10,7 @@ use Rattle.mdb_machine.specs.declared.gains.Gains.{Gains}
 use Rattle.mdb_machine.specs.declared.kept.Part.{Part}
 use Rattle.mdb_machine.specs.Gains.{device_gains, controller_gains}
 use Rattle.mdb_machine.specs.Keeper.{Facts, Tables}
-use Rattle.mdb_machine.specs.KeeperSteps.{AckStep, Conduct, KeeperStep, ReplyStep, VmcAckStep}
+use Rattle.mdb_machine.specs.KeeperConduct.{AckStep, Conduct, KeeperStep, ReplyStep, VmcAckStep}
 use Rattle.mdb_machine.specs.Kept.{IsNew, held, holds_read, kept_of}
 use Rattle.mdb_machine.specs.Steps.{ForOwn}
 use Rattle.std.specs.Prelude.{Bool, true, false, sum_by}

@@ -10,7 +10,7 @@ use Rattle.mdb_machine.specs.declared.gains.Gains.{Gains}
 use Rattle.mdb_machine.specs.declared.kept.Part.{Part}
 use Rattle.mdb_machine.specs.Choices.{CanStand}
 use Rattle.mdb_machine.specs.Keeper.{Facts, Tables}
-use Rattle.mdb_machine.specs.KeeperSteps.{AckStep, Conduct, KeeperStep, ReplyStep, VmcAckStep}
+use Rattle.mdb_machine.specs.KeeperConduct.{AckStep, Conduct, KeeperStep, ReplyStep, VmcAckStep}
 use Rattle.mdb_machine.specs.Kept.{IsNew, has_reset, held, holds_after, holds_read, kept_of}
 use Rattle.mdb_machine.specs.shared.PlainKept.{acked_plain}
 use Rattle.mdb_machine.specs.Steps.{ForOwn}

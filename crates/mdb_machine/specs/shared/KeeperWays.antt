@@ -15,7 +15,7 @@ use Rattle.mdb_machine.specs.declared.past.Effect.TheVariants as effects
 use Rattle.mdb_bus.specs.declared.scope.Beginning.{Beginning}
 use Rattle.mdb_machine.specs.Keeper.{KnownFacts, Tables, asked_by, effect_of, known_of, parts_by, setup_by}
 use Rattle.mdb_machine.specs.Known.{known_before, known_by}
-use Rattle.mdb_machine.specs.KeeperSteps.{Conduct, StepKnowing}
+use Rattle.mdb_machine.specs.KeeperConduct.{Conduct, StepKnowing}
 use Rattle.mdb_machine.specs.KeeperValues.{enabled_after, known_with}
 use Rattle.mdb_machine.specs.PastValues.{known_past_after}
 use Rattle.mdb_machine.specs.KnownMore.{known_more}

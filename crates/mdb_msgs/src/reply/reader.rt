@@ -9,7 +9,7 @@ ghost use Rattle.mdb_msgs.specs.TwoBytes.{two_bytes, four_bytes};
 ghost use Rattle.mdb_msgs.specs.Reader.{head_bytes, reader_msg_bytes, reader_list_bytes, is_display, is_id, is_kept, has_long, ids_of, own_ids, reading_of, session_bytes, tells_level, text_of, AreReaderMsgs, IsReaderList, IsTextOf, NoReaderMsg, ReaderStopsAt, wider};
 ghost use Rattle.mdb_msgs.specs.ReplyFaults.{IsListFault, IsReaderBlock};
 ghost use Rattle.mdb_msgs.specs.ReaderBytes.{foot_bytes, messages_of, no_messages};
-ghost use Rattle.mdb_msgs.specs.inner.ReaderSteps.{IsNextMessage, StandAsMessages};
+ghost use Rattle.mdb_msgs.specs.inner.OneMessage.{IsNextMessage, StandAsMessages};
 
 use super::list::{Bytes, append, list_of};
 use crate::fault::MsgFault;
@@ -438,7 +438,7 @@ impl<'a> Model for ReaderIter<'a> {
     ghost use Rattle.std.specs.Prelude.{List};
     ghost use Rattle.mdb_msgs.specs.declared.reply.reader.ReaderMsg.{ReaderMsg};
     ghost use Rattle.mdb_msgs.specs.ReaderBytes.{messages_of};
-    ghost use Rattle.mdb_msgs.specs.inner.ReaderSteps.{StandAsMessages};
+    ghost use Rattle.mdb_msgs.specs.inner.OneMessage.{StandAsMessages};
 
     ghost Value = { List ReaderMsg };
 

@@ -17,8 +17,8 @@ ghost use Rattle.mdb_surveyor.specs.declared.stretch.Ended.{Ended};
 ghost use Rattle.mdb_surveyor.specs.declared.stretch.Stretch.{Stretch};
 ghost use Rattle.mdb_surveyor.specs.declared.told.Told.{Told};
 ghost use Rattle.mdb_follow.specs.declared.offence.Offence.{Offence};
-ghost use Rattle.mdb_surveyor.specs.Learning.{AreKnown, AreOptionsTold};
-ghost use Rattle.mdb_surveyor.specs.Options.{options_at};
+ghost use Rattle.mdb_surveyor.specs.Learning.{AreKnown, AreFeaturesTold};
+ghost use Rattle.mdb_surveyor.specs.Features.{features_at};
 ghost use Rattle.mdb_surveyor.specs.Parts.{EndBefore, IsReaderAsked, IsReaderBeyond};
 ghost use Rattle.mdb_surveyor.specs.Stretches.{IsCutAt, IsSurvey, LeadFrom, StretchStart, scope_after};
 ghost use Rattle.mdb_surveyor.specs.Told.{asked_on, level_of, levels_at, setups_of, told_after, told_on};
@@ -82,10 +82,10 @@ pub fn left_out_are_those_of_the_start_and_readers_beyond_this_profile()
 /// What the rows tell for the next stretch is what was said last: `levels` the levels that the bus
 /// reads replies by, and `setups` what the machines of the devices know. By the base profile a
 /// level is told on, as `unanswered`, exactly where no config message of its reader came after it.
-/// `options` says when a reader's options are told. `handed_on` says what the bus of the next
-/// stretch knows by the extended profile: these options, and these levels, but for the
+/// `features` says when a reader's features are told. `handed_on` says what the bus of the next
+/// stretch knows by the extended profile: these features, and these levels, but for the
 /// controller's where `asked_on` keeps it back.
-#[tactic(auto, using(crate::proofs::Learning::levels_later, crate::proofs::Learning::setups_after, crate::proofs::OptionsTold::told_last, crate::proofs::OptionsTold::handed_on, crate::proofs::OptionsTold::begun))]
+#[tactic(auto, using(crate::proofs::Learning::levels_later, crate::proofs::Learning::setups_after, crate::proofs::FeaturesTold::told_last, crate::proofs::FeaturesTold::handed_on, crate::proofs::FeaturesTold::begun))]
 pub fn what_is_told_is_what_was_said_last()
     ensures levels { (begins : Beginning) (told : Told) (pieces : List Piece)
         → (told_after begins told (acts_of pieces)).levels
@@ -97,12 +97,12 @@ pub fn what_is_told_is_what_was_said_last()
         (level : ℕ) → (level_of unit (told_after begins told acts).unanswered ≡ Some level)
         ↔ (IsUnanswered unit level acts
         ⊎ (All (IsNeither unit) acts × (level_of unit told.unanswered ≡ Some level))) }
-    ensures options { (begins : Beginning) (told : Told) (acts : List Act) (unit : ReaderUnit)
-        → AreOptionsTold unit acts (options_at unit told.options)
-        (options_at unit (told_after begins told acts).options) }
+    ensures features { (begins : Beginning) (told : Told) (acts : List Act) (unit : ReaderUnit)
+        → AreFeaturesTold unit acts (features_at unit told.features)
+        (features_at unit (told_after begins told acts).features) }
     ensures handed_on { (told : Told) (fault : Offence) (asked : Option ReaderUnit) (scope : Scope)
         → profile_of scope.begins ≡ Extended
-        → (first_known (scope_after told fault asked scope).begins ≡ told.options)
+        → (first_known (scope_after told fault asked scope).begins ≡ told.features)
         × ((unit : ReaderUnit)
         → levels_at unit (levels_before (scope_after told fault asked scope))
         ≡ record (levels_at unit told.levels) { asked = asked_on (levels_at unit told.levels) }) }

@@ -1,9 +1,6 @@
 -- A break brings no config message, and reports no amount.
-use Rattle.mdb_cashless.proofs.ByProfileKnown.{no_config, none_told}
+use Rattle.mdb_cashless.proofs.ByProfileKnown.{none_told}
 use Rattle.mdb_cashless.proofs.laws.breaks_tell_nothing_of_a_reader.Goals as goal
-
-pub returns-clause-config : goal.returns-clause-config
-returns-clause-config c = no_config
 
 pub returns-clause-unvalued : goal.returns-clause-unvalued
 returns-clause-unvalued c = none_told

@@ -7,7 +7,7 @@ use Rattle.mdb_check.proofs.checking.verdict_on.Goals as goal
 pub returns-in-None-clause-answer : goal.returns-in-None-clause-answer
 returns-in-None-clause-answer g c all to_come =
     subst (λ s. IsAnswer s c.args.rows_max all (Ok c.outcome_of.result))
-    (c.read_rows.ensures.keeps ∙ c.scoped-judging.ensures.scope) (verdicts.whole_of
+    (c.read_rows.ensures.keeps ∙ c.scoped-heeding.ensures.scope) (verdicts.whole_of
     (scope_of c.read_rows.new.taker.follower)
     (c.sales_follow_their_approvals.ensures (scope_of c.read_rows.new.taker.follower))
     (rw c.in-None.is at (c.in_ok-read_rows.ensures.ended all to_come)) c.outcome_of.result
@@ -24,7 +24,7 @@ returns-in-Some-clause-judged g c all to_come =
     c.in-Some.met c.spared.result c.spared.ensures
     (subst (λ s. IsStopped IsRow (λ rows row. Meets s c.args.readers
     c.read_rows.new.taker rows row c.in-Some.met) c.args.rows_max all)
-    (c.read_rows.ensures.keeps ∙ c.scoped-judging.ensures.scope)
+    (c.read_rows.ensures.keeps ∙ c.scoped-heeding.ensures.scope)
     (rw c.in-Some.is at (c.in_ok-read_rows.ensures.ended all to_come)))
 
 pub returns-in-Some-clause-answer : goal.returns-in-Some-clause-answer
@@ -34,7 +34,7 @@ returns-in-Some-clause-answer g c all to_come =
 pub returns-in_err-read_rows-clause-answer : goal.returns-in_err-read_rows-clause-answer
 returns-in_err-read_rows-clause-answer g c all to_come =
     let scope = scope_of c.read_rows.new.taker.follower in
-    rw (c.read_rows.ensures.keeps ∙ c.scoped-judging.ensures.scope) at
+    rw (c.read_rows.ensures.keeps ∙ c.scoped-heeding.ensures.scope) at
     (refused_answer scope c.args.readers c.args.rows_max all c.read_rows.new.taker
     (λ rows has. verdicts.reached c.followers_stand_for_reached_rows.ensures rows has.is.follows)
     _ (c.in_err-read_rows.ensures.ended all to_come) c.from_residual.result

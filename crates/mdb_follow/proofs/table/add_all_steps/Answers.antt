@@ -1,7 +1,7 @@
 -- The moves by an act: its plain steps, and those by the other choice that it leaves.
 use Rattle.mdb_follow.proofs.Words.{rules, ◌<◌, ◌++◌, ℕ, All-append, Gains, IsSmall, by_second, plain_only}
 use Rattle.mdb_follow.proofs.Led.{moves-kept, with_moves-append}
-use Rattle.mdb_follow.proofs.TwoSteps.{all-moves, plain-moves}
+use Rattle.mdb_follow.proofs.TwoMoves.{all-moves, plain-moves}
 use Rattle.mdb_follow.proofs.table.add_all_steps.Goals as goal
 
 pub add_all-requires : goal.add_all-requires

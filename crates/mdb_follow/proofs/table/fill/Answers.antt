@@ -1,7 +1,7 @@
 -- The entries after an act that the facts settle: the loop reads those before it one by one.
-use Rattle.mdb_follow.proofs.Words.{rules, ◌<◌, refl, take_all, Contains-get_or, IsSmall, small_moves}
+use Rattle.mdb_follow.proofs.Words.{rules, ◌<◌, refl, take_all, Contains-get_or, IsSmall}
 use Rattle.mdb_follow.proofs.Led.{led-read, moves-kept, within-with_moves}
-use Rattle.mdb_follow.proofs.TwoSteps.{either-moves}
+use Rattle.mdb_follow.proofs.TwoMoves.{either-moves, small-moves}
 use Rattle.mdb_follow.proofs.Ways.{table-led}
 use Rattle.mdb_follow.proofs.table.fill.Goals as goal
 
@@ -19,7 +19,7 @@ loop-code-preserved g c =
     let p = g.P.Pair in
     let moves = c.add_steps.ensures.entries in
     let kept = moves-kept g.row.N _ moves.0 moves.0 c.requires.size refl
-    (small_moves (λ next gains. (next < p.CODES) × IsSmall gains) c.step-plain.result
+    (small-moves (λ next gains. (next < p.CODES) × IsSmall gains) c.step-plain.result
     c.second_step-second.result moves.0 c.step-plain.ensures.below
     c.second_step-second.ensures.below moves.1) in
     record {

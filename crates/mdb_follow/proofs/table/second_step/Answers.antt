@@ -1,6 +1,6 @@
 -- The step by the other choice of an act, where it heeds what is chosen.
 use Rattle.mdb_follow.proofs.Words.{inr}
-use Rattle.mdb_follow.proofs.TwoSteps.{other-or-plain, unheeded}
+use Rattle.mdb_follow.proofs.TwoMoves.{other-or-plain, unheeded}
 use Rattle.mdb_follow.proofs.table.second_step.Goals as goal
 
 pub returns-then-heeds_choice-clause-sound : goal.returns-then-heeds_choice-clause-sound

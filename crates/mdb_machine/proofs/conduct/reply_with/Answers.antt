@@ -1,6 +1,6 @@
 -- A reply steps by its news and by what is held after it. If either is impossible, so is the reply.
 use Rattle.mdb_machine.proofs.Words.{ap, ◌∙◌, device_gains, in_slots, facts_in}
-use Rattle.mdb_machine.proofs.KeeperSteps.{holding, telling, told, impossible, untold}
+use Rattle.mdb_machine.proofs.KeeperConduct.{holding, telling, told, impossible, untold}
 use Rattle.mdb_machine.proofs.Sizes.{summary_fits}
 use Rattle.mdb_machine.proofs.conduct.reply_with.Goals as goal
 

@@ -1,6 +1,6 @@
 -- An ask, an ACK or a reply steps by its kind, and any other act but a break changes nothing.
 use Rattle.mdb_machine.proofs.Words.{sym, ◌∙◌, facts_in}
-use Rattle.mdb_machine.proofs.KeeperSteps.{no_part}
+use Rattle.mdb_machine.proofs.KeeperConduct.{no_part}
 use Rattle.mdb_machine.proofs.conduct.step.Goals as goal
 
 pub returns-in-Some-clause-step : goal.returns-in-Some-clause-step

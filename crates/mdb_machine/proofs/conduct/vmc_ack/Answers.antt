@@ -1,6 +1,6 @@
 -- The ACK of a reply that isn't to POLL changes what the device holds, and no sum.
 use Rattle.mdb_machine.proofs.Words.{sym, ◌∙◌, refl}
-use Rattle.mdb_machine.proofs.KeeperSteps.{acknowledged}
+use Rattle.mdb_machine.proofs.KeeperConduct.{acknowledged}
 use Rattle.mdb_machine.proofs.Sizes.{summary_fits}
 use Rattle.mdb_machine.proofs.conduct.vmc_ack.Goals as goal
 

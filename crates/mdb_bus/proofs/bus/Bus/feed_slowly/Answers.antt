@@ -1,14 +1,13 @@
 -- A row that is taken goes on, and one that is refused has its fault.
-use Rattle.mdb_bus.proofs.Feed.{forgets, has_fault}
+use Rattle.mdb_bus.proofs.Feed.{has_fault}
 use Rattle.mdb_bus.proofs.Verdicts.{covers_same}
 use Rattle.mdb_bus.proofs.bus.Bus.feed_slowly.Goals as goal
 
 pub returns-in-Ok-clause-goes_on : goal.returns-in-Ok-clause-goes_on
 returns-in-Ok-clause-goes_on c pieces stands =
-    let goes = c.in-Ok.ensures.goes_on pieces c.haste_after-haste.result stands
-    (covers_same _ _ c.profile-times.ensures) (λ next leads. c.haste_after-haste.ensures) in
-    forgets (record c.step.new.self { haste = c.haste_after-haste.result }) _ pieces
-    c.args.event.now _ c.awaits_foreign-self.ensures goes
+    c.in-Ok.ensures.goes_on pieces _ c.haste_after-haste.result stands
+    (covers_same _ _ c.profile-times.ensures) c.awaits_foreign-self.ensures
+    (λ next leads. c.haste_after-haste.ensures)
 
 pub returns-in-Err-clause-faults : goal.returns-in-Err-clause-faults
 returns-in-Err-clause-faults c pieces stands =

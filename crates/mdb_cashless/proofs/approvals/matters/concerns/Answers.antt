@@ -1,7 +1,7 @@
 -- An ask that changes nothing, or an ACK by which nothing is taken, leaves the reader as it is.
 use Rattle.mdb_cashless.proofs.Words.{◌∙◌, sym}
-use Rattle.mdb_cashless.proofs.ApprovalSteps.{ack_stays, ask_stays}
-use Rattle.mdb_cashless.proofs.Steps.{denied}
+use Rattle.mdb_cashless.proofs.ApprovalsLeft.{ack_stays, ask_stays}
+use Rattle.mdb_cashless.proofs.ReaderMoves.{denied}
 use Rattle.mdb_cashless.proofs.approvals.matters.concerns.Goals as goal
 
 pub returns-in-Some-clause-still : goal.returns-in-Some-clause-still

@@ -2,8 +2,8 @@
 use Rattle.mdb_cashless.proofs.Words.{◌∙◌, false, sym, Plain, messages_of, part_of, no_restart}
 use Rattle.mdb_cashless.specs.ExtendedReader.{ReplyStep, VmcAckStep}
 use Rattle.mdb_cashless.specs.shared.ApprovalWays.{own_as}
-use Rattle.mdb_cashless.proofs.ApprovalSteps.{ack_unheeded, reply_unheeded}
-use Rattle.mdb_cashless.proofs.Steps.{denied}
+use Rattle.mdb_cashless.proofs.ApprovalsLeft.{ack_unheeded, reply_unheeded}
+use Rattle.mdb_cashless.proofs.ReaderMoves.{denied}
 use Rattle.mdb_cashless.proofs.approvals.matters.heeds_choice.Goals as goal
 
 pub returns-in-VmcAck : goal.returns-in-VmcAck

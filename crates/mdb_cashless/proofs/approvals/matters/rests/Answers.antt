@@ -1,7 +1,7 @@
 -- An ACK to POLL changes nothing of a reader that has nothing to tell again.
 use Rattle.mdb_cashless.proofs.Words.{◌≡◌, ◌∙◌, Some, ap, rules, sym, ReaderCommand}
-use Rattle.mdb_cashless.proofs.ApprovalSteps.{poll_stays}
-use Rattle.mdb_cashless.proofs.Steps.{where_not}
+use Rattle.mdb_cashless.proofs.ApprovalsLeft.{poll_stays}
+use Rattle.mdb_cashless.proofs.ReaderMoves.{where_not}
 use Rattle.mdb_cashless.proofs.approvals.matters.rests.Goals as goal
 
 pub returns-in-Some-Poll : goal.returns-in-Some-Poll

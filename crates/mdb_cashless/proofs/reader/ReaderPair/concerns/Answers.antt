@@ -1,6 +1,6 @@
 -- What changes nothing after any facts changes nothing where not all is known.
 use Rattle.mdb_cashless.proofs.Words.{sym, OnFalse_at, stays}
-use Rattle.mdb_cashless.proofs.Steps.{denied}
+use Rattle.mdb_cashless.proofs.ReaderMoves.{denied}
 use Rattle.mdb_cashless.proofs.reader.ReaderPair.concerns.Goals as goal
 
 pub returns-clause-still : goal.returns-clause-still

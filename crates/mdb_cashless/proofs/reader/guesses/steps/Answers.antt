@@ -1,7 +1,7 @@
 -- The steps are the one by a settled act, or those of the guesses.
 use Rattle.mdb_cashless.proofs.Words.{◌∙◌, ap, length, sym, StepKnowing, known_in}
 use Rattle.mdb_cashless.proofs.Listed.{adds_first, adds_one, none_small, small_one}
-use Rattle.mdb_cashless.proofs.Steps.{knowing_of}
+use Rattle.mdb_cashless.proofs.ReaderMoves.{knowing_of}
 use Rattle.mdb_cashless.proofs.reader.guesses.steps.Goals as goal
 
 pub returns-then-settles-clause-steps : goal.returns-then-settles-clause-steps

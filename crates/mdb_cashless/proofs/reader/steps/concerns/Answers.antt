@@ -1,6 +1,6 @@
 -- An ask concerns a reader where its command may change the view.
 use Rattle.mdb_cashless.proofs.Words.{◌∙◌, sym}
-use Rattle.mdb_cashless.proofs.Steps.{ask_stays, denied}
+use Rattle.mdb_cashless.proofs.ReaderMoves.{ask_stays, denied}
 use Rattle.mdb_cashless.proofs.reader.steps.concerns.Goals as goal
 
 pub returns-in-Some-clause-still : goal.returns-in-Some-clause-still

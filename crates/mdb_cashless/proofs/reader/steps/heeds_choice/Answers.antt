@@ -1,7 +1,7 @@
 -- A choice is heeded where it may lead elsewhere than the plain one.
 use Rattle.mdb_cashless.proofs.Words.{false, sym, ◌∙◌, ◌≡◌, rules, messages_of, part_of, OnFalse_at, no_restart, Command, Act}
 use Rattle.mdb_cashless.proofs.Choices.{unheard, unread, untaken}
-use Rattle.mdb_cashless.proofs.Steps.{denied}
+use Rattle.mdb_cashless.proofs.ReaderMoves.{denied}
 use Rattle.mdb_cashless.proofs.reader.steps.heeds_choice.Goals as goal
 
 pub returns-in-Ack-Reader : goal.returns-in-Ack-Reader

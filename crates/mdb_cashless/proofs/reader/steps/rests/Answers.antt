@@ -1,6 +1,6 @@
 -- An ACK to POLL while nothing is held leaves the state and the sums.
 use Rattle.mdb_cashless.proofs.Words.{◌≡◌, ◌∙◌, Some, ap, rules, sym, ReaderCommand}
-use Rattle.mdb_cashless.proofs.Steps.{poll_rests, where_not}
+use Rattle.mdb_cashless.proofs.ReaderMoves.{poll_rests, where_not}
 use Rattle.mdb_cashless.proofs.reader.steps.rests.Goals as goal
 
 pub returns-in-Some-Poll : goal.returns-in-Some-Poll

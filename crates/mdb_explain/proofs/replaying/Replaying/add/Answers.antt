@@ -1,6 +1,6 @@
 -- A mark is added, or the replay stops at it.
 use Rattle.mdb_explain.proofs.Words.{arith, common_steps, refl}
-use Rattle.mdb_explain.proofs.MarkSteps as steps
+use Rattle.mdb_explain.proofs.EntryByEntry as steps
 use Rattle.mdb_explain.proofs.replaying.Replaying.add.Goals as goal
 
 pub returns-then-rows-gt0-clause-taken : goal.returns-then-rows-gt0-clause-taken

@@ -1,6 +1,6 @@
 -- A row is fed with its mark, or the replay stops at it.
 use Rattle.std.proofs.Common.{arith, inr, refl, sym, ◌∙◌}
-use Rattle.mdb_explain.proofs.MarkSteps as steps
+use Rattle.mdb_explain.proofs.EntryByEntry as steps
 use Rattle.mdb_explain.proofs.OneReplayAnswer.{row_not_mark}
 use Rattle.mdb_explain.proofs.replaying.Replaying.feed.Goals as goal
 

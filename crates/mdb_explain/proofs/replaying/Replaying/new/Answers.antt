@@ -1,6 +1,6 @@
 -- Before the first entry.
 use Rattle.mdb_explain.proofs.Words.{HasMarkedRun, [], from_power_on, refl, subst}
-use Rattle.mdb_explain.proofs.MarkSteps as steps
+use Rattle.mdb_explain.proofs.EntryByEntry as steps
 use Rattle.mdb_explain.proofs.replaying.Replaying.new.Goals as goal
 
 pub returns-clause-none : goal.returns-clause-none

@@ -1,6 +1,6 @@
 -- Why a mark row is refused that is refused by itself.
 use Rattle.mdb_explain.proofs.Words.{arith, common_steps}
-use Rattle.mdb_explain.proofs.MarkSteps as steps
+use Rattle.mdb_explain.proofs.EntryByEntry as steps
 use Rattle.mdb_explain.proofs.replaying.Replaying.refuse_mark.Goals as goal
 
 pub returns-then-eq : goal.returns-then-eq

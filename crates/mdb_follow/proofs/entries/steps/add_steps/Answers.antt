@@ -1,6 +1,6 @@
 -- What two steps make of the entries.
 use Rattle.mdb_follow.proofs.Words.{◌++◌, moves_of}
-use Rattle.mdb_follow.proofs.TwoSteps.{two-moves}
+use Rattle.mdb_follow.proofs.TwoMoves.{two-moves}
 use Rattle.mdb_follow.proofs.Led.{with_moves-append}
 use Rattle.mdb_follow.proofs.entries.steps.add_steps.Goals as goal
 

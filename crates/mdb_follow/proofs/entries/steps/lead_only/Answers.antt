@@ -1,6 +1,6 @@
 -- The entries that two steps from the only one lead to.
 use Rattle.mdb_follow.proofs.Words.{rules, inl, inr, Some, None, [], ◌∷◌}
-use Rattle.mdb_follow.proofs.TwoSteps.{lead-one, two-moves}
+use Rattle.mdb_follow.proofs.TwoMoves.{lead-one, two-moves}
 use Rattle.mdb_follow.proofs.entries.steps.lead_only.Goals as goal
 use Rattle.mdb_follow.proofs.entries.steps.lead_only.Goals.{in_default-via-in-Some-other-2+else-ne, in_default-via-in_default}
 

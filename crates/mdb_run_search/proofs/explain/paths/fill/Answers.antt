@@ -2,7 +2,7 @@
 use Rattle.mdb_run_search.proofs.Words.{arith, rules, no_path, take_all, take_more}
 use Rattle.mdb_run_search.proofs.Chains.{keep-then}
 use Rattle.mdb_run_search.proofs.Paths.{entry-within-kept}
-use Rattle.mdb_run_search.proofs.Steps.{led-push}
+use Rattle.mdb_run_search.proofs.TakenIn.{led-push}
 use Rattle.mdb_run_search.proofs.explain.paths.fill.Goals as goal
 
 pub take_steps-requires : goal.take_steps-requires

@@ -1,6 +1,6 @@
 -- What the step under a choice leads to is taken in.
 use Rattle.mdb_run_search.proofs.Words.{inl, ap, refl, sym, ◌∙◌, ◌+ℤ◌, same_Some, PowerOn, none-some}
-use Rattle.mdb_run_search.proofs.Steps.{takes-nothing, takes-one}
+use Rattle.mdb_run_search.proofs.TakenIn.{takes-nothing, takes-one}
 use Rattle.mdb_run_search.proofs.Weights.{small-sum}
 use Rattle.mdb_run_search.proofs.explain.paths.take_step.Goals as goal
 

@@ -1,7 +1,7 @@
 -- What the steps under all choices lead to is taken in.
 use Rattle.mdb_run_search.proofs.Words.{Some, refl, PowerOn, by_second, plain_only}
-use Rattle.mdb_follow.proofs.TwoSteps.{unheeded}
-use Rattle.mdb_run_search.proofs.Steps.{takes-both, takes-plain}
+use Rattle.mdb_follow.proofs.TwoMoves.{unheeded}
+use Rattle.mdb_run_search.proofs.TakenIn.{takes-both, takes-plain}
 use Rattle.mdb_run_search.proofs.explain.paths.take_steps.Goals as goal
 
 pub returns-then-not-heeds_choice-clause-takes : goal.returns-then-not-heeds_choice-clause-takes

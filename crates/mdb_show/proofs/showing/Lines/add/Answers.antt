@@ -1,6 +1,6 @@
 -- The lines of a row are added, unless it can't be or isn't written.
 use Rattle.mdb_show.proofs.Words.{is_fault, refl}
-use Rattle.mdb_show.proofs.ShowSteps as steps
+use Rattle.mdb_show.proofs.LinesSoFar as steps
 use Rattle.mdb_show.proofs.showing.Lines.add.Goals as goal
 use Rattle.mdb_show.proofs.showing.Lines.add.Goals.{then-ended+in_ok-add_ended, else-ended}
 
