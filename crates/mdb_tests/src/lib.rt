@@ -1,14 +1,16 @@
-//! The tests, of everything that no contract states about the libraries: that a call can succeed at
-//! all, worked cases from outside, and the faults of readers and writers.
+//! Tests of what no contract states about the libraries: that a call can succeed at all, and what is
+//! taken of readers that fail or never end.
 //!
-//! Only the tests of the calls for other programs stand elsewhere. They share this one crate,
-//! because a crate that has tests is proved a second time for them.
+//! They share this one crate, because a crate that has tests is proved a second time for them. What
+//! the built programs and the page's module show is tested on these (docs/testing.md).
 #![tactic(auto)]
 
 #[cfg(test)]
 mod asserts;
 #[cfg(test)]
 mod checking;
+#[cfg(test)]
+mod client;
 #[cfg(test)]
 mod endless;
 #[cfg(test)]

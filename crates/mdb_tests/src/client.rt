@@ -1,6 +1,5 @@
-//! Each call of a maker's client on its happy path.
+//! The calls of a maker's client (`mdb_examples`), each where all goes well.
 
-use super::page::TWICE;
 use mdb_bus::{Blame, Bus, LinkFault, Rule, Scope};
 use mdb_examples::{
     Unread, Untaken, command_in, difference_of, explained, log_row, next_command, printed,
@@ -115,6 +114,16 @@ fn an_impossible_row_is_logged_and_the_survey_goes_on(rt: HostRuntime) {
     assert!(rt; log.starts_with(b"stretch 1 rows 1-1\ndecimals changer - "));
     assert!(rt; log.ends_with(b"\nfault 2 Sum controller\n"));
 }
+
+/// A coin of 25 that the changer reported twice. The controller acknowledged both reports.
+const TWICE: &[u8] =
+    b"1000,M,108\n2200,M,008\n4200,S,100\n24200,M,10B\n25400,M,00B\n27400,S,00B\n28600,S,10B\n\
+30600,M,000\n50600,M,109\n51800,M,009\n53800,S,002\n55000,S,000\n56200,S,001\n\
+57400,S,005\n58600,S,002\n59800,S,000\n61000,S,007\n62200,S,001\n63400,S,002\n\
+64600,S,005\n65800,S,119\n67800,M,000\n87800,M,10C\n89000,M,000\n90200,M,007\n\
+91400,M,000\n92600,M,007\n93800,M,01A\n95800,S,100\n115800,M,10B\n117000,M,00B\n\
+119000,S,052\n120200,S,009\n121400,S,15B\n123400,M,000\n143400,M,10B\n144600,M,00B\n\
+146600,S,052\n147800,S,009\n149000,S,15B\n151000,M,000\n";
 
 #[test]
 fn the_least_of_two_equal_coins_is_explained(rt: HostRuntime) {
