@@ -1,13 +1,10 @@
 -- Explanations: the fewest marks of a run that comes to an end of a range (this profile).
-use Rattle.std.specs.Prelude.{◌≡◌, ℕ, ◌≤◌, List, [], length}
+use Rattle.std.specs.Prelude.{◌≡◌, ℕ, ◌≤◌, List, length}
 use Rattle.mdb_words.specs.declared.event.Event.{Event}
 use Rattle.mdb_bus.specs.declared.scope.Scope.{Scope}
 use Rattle.mdb_follow.specs.declared.goal.Goal.{Goal}
 use Rattle.mdb_follow.specs.GoalEnds.{IsAsFar, goal_value}
-use Rattle.mdb_follow.specs.FirstOffences.{HasOffence}
 use Rattle.mdb_follow.specs.Runs.{AllSums, Run}
-use Rattle.mdb_run_search.specs.declared.explain.ExplainFault.{ExplainFault}
-use Rattle.mdb_run_search.specs.declared.explain.ExplainFault.TheVariants.{Offence, Memory}
 use Rattle.mdb_run_search.specs.declared.mark.Mark.{Mark}
 use Rattle.mdb_run_search.specs.Marks.{MarkedRun}
 
@@ -21,8 +18,3 @@ pub record Explains (scope : Scope) (events : List Event) (goal : Goal)
       → IsAsFar goal.bound (goal_value goal sums) (goal_value goal other)
   pub fewest : (others : List (ℕ × Mark)) (other : AllSums) → MarkedRun scope events others other
       → goal_value goal other ≡ goal_value goal sums → length marks ≤ length others
-
--- the fault of rows that have no explanation: their offence, if it isn't that memory was refused
-abbrev pub IsExplainFault : Scope → List Event → ExplainFault → Type 0
-IsExplainFault scope events (Offence offence) = HasOffence scope [] events offence
-IsExplainFault scope events Memory = Unit {0}

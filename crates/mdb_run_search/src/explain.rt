@@ -1,12 +1,12 @@
 //! Explanations: the fewest marks of a run that reaches a bound.
 
 ghost use Rattle.std.specs.Prelude.{◌<◌, ◌≤◌, ◌+◌, [], ◌∷◌, ℕ, List, length};
-ghost use Rattle.std.specs.Prelude.{IfErr, IfOk, IfSome};
+ghost use Rattle.std.specs.Prelude.{IfOk, IfSome};
 ghost use Rattle.std.specs.Option.{IfNone};
 ghost use Rattle.mdb_msgs.specs.declared.command.Device.{Device};
 ghost use Rattle.mdb_bus.specs.declared.scope.Profile.{Profile};
 ghost use Rattle.mdb_run_search.specs.declared.mark.Mark.{Mark};
-ghost use Rattle.mdb_run_search.specs.Goals.{Explains, IsExplainFault};
+ghost use Rattle.mdb_run_search.specs.Goals.{Explains};
 ghost use Rattle.mdb_bus.specs.Scopes as scopes;
 ghost use Rattle.mdb_bus.specs.ActLists.{Piece};
 ghost use Rattle.mdb_follow.specs.Runs.{IsReached};
@@ -23,53 +23,16 @@ mod seeker;
 use self::all_paths::AllPaths;
 use crate::Mark;
 use mdb_bus::{Profile, Scope, laws as bus_laws};
-use mdb_follow::{Follower, Goal, Offence, ROWS_MAX, Report, laws};
+use mdb_follow::{Goal, ROWS_MAX, Report, laws};
 use mdb_machine::laws as machine_laws;
 use mdb_msgs::DeviceSet;
 use mdb_words::Event;
 use std::alloc::{AllocError, Global};
 
-/// Why a goal is not explained (this profile).
-#[derive(Clone, Copy, PartialEq, Eq, Debug)]
-pub enum ExplainFault {
-    /// The first impossible row.
-    Offence(Offence),
-    /// Memory was refused.
-    Memory,
-}
-
 /// The marks, with the numbers of their rows from 1, of a run of a recording from power-on, by a
 /// profile and with these devices left out, that comes to an end of a range (this profile): no run
-/// goes further, and none that comes there has fewer marks. The rows of the marks rise.
-///
-/// # Errors
-///
-/// The first row that cannot be, or that memory was refused.
-pub fn explain_run(
-    alloc: Global,
-    profile: Profile,
-    without: DeviceSet,
-    events: &[Event],
-    goal: &Goal,
-) -> Result<Vec<(u64, Mark)>, ExplainFault>
-    requires { length events.now ≤ ROWS_MAX }
-    ensures explains { IfOk result
-        (λ marks. Explains (scopes.from_power_on profile without) events.now goal.now
-        marks.items) }
-    ensures offence { IfErr result (IsExplainFault (scopes.from_power_on profile without)
-        events.now) }
-{
-    let mut follower = Follower::scoped(&Scope::from_power_on(profile, without));
-    if let Err(offence) = follower.feed_all(events) {
-        return Err(ExplainFault::Offence(offence));
-    }
-    match explain_reached(alloc, profile, without, events, goal) {
-        Ok(marks) => Ok(marks),
-        Err(_) => Err(ExplainFault::Memory),
-    }
-}
-
-/// Does what [`explain_run`] does, for rows that some run reaches: a follower has taken them.
+/// goes further, and none that comes there has fewer marks. The rows of the marks rise. The
+/// recording is of rows that some run reaches: a follower has taken them.
 ///
 /// # Errors
 ///

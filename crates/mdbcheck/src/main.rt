@@ -21,8 +21,8 @@ fn words(rt: &HostRuntime) -> io::Result<Vec<String>> {
 }
 
 /// Hands the words and the streams to `mdbcheck_run::run_words`, and answers its status. The only
-/// file that is opened is the one that the words name. A long run shows how far it is where standard
-/// error is a terminal.
+/// file that is opened is the one that the words name. A long run shows how far it is where
+/// standard error is a terminal.
 fn run(rt: &HostRuntime, words: &[String], file: Option<&str>) -> u8 {
     let input = match Input::open(rt, rt.stdin(), file) {
         Ok(input) => input,
