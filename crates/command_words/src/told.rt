@@ -66,7 +66,8 @@ fn add_unknown(
     let (word, rest) = parted(told, "' found\n\n");
     match (row, option_told(words, word)) {
         (Some(row), Some(_)) if word.starts_with("--") => add_long(line, program, row, word, rest),
-        (Some(row), Some(option)) => add_short(line, row, option),
+        (Some(row), Some(option)) if option != "-" => add_short(line, row, option),
+        (Some(row), Some(stray)) => add_stray(line, row, stray),
         (Some(row), None) => add_stray(line, row, word),
         (None, Some(option)) => {
             let is_long = word.starts_with("--");

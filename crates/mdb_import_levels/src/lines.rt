@@ -90,13 +90,18 @@ impl Lines {
         })
     }
 
-    /// What is reported of a line, if it is low at rest.
+    /// What is reported of a line, if it is low at rest. An option may have turned the other one:
+    /// what counts there is how it stands in the export.
     fn low_at_rest(&self, line: Line) -> Option<LowAtRest> {
+        let other = match line {
+            Line::Controller => Line::Peripheral,
+            Line::Peripheral => Line::Controller,
+        };
         if !self.side(line).is_low() {
             None
         } else if self.inverted.has(line) {
             Some(LowAtRest::Turned(line))
-        } else if self.controller.is_low() && self.peripheral.is_low() {
+        } else if self.side(other).is_low() != self.inverted.has(other) {
             Some(LowAtRest::Both)
         } else {
             Some(LowAtRest::Alone(line))

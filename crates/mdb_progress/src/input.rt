@@ -2,8 +2,9 @@
 
 ghost use Rattle.std.specs.Io.{ReadsAtMost};
 
+use std::fs;
 use std::fs::{File, Files};
-use std::io::{Read, Result};
+use std::io::{Error, ErrorKind, Read, Result};
 
 /// What a program reads: standard input, or a file in its place. No clause sees its bytes.
 #[derive(Drop)]
@@ -19,13 +20,16 @@ impl<I: Read + Drop, F: Read> Input<I, F> {
     ///
     /// # Errors
     ///
-    /// The file can't be opened.
+    /// The file can't be opened, or it is a directory.
     pub fn open<S: Files<File = F>>(
         system: &S,
         standard: I,
         file: Option<&str>,
     ) -> Result<Input<I, F>> {
         match file {
+            Some(name) if fs::metadata(system, name)?.is_dir() => {
+                Err(Error::from(ErrorKind::IsADirectory))
+            }
             Some(name) => Ok(Input::File(File::open(system, name)?)),
             None => Ok(Input::Standard(standard)),
         }
