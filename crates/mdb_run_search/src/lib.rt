@@ -2,7 +2,7 @@
 //! ACK was lost, or that its reply reports a restart.
 //!
 //! With all its marks, a recording from power-on has only one run. [`explain_reached`] finds the
-//! fewest marks that lead to a bound of a report. A [`Replay`] follows the run that has given marks.
+//! fewest marks that lead to a bound of a report. A [`Replay`] follows the run that has the marks.
 #![tactic(auto)]
 
 mod explain;

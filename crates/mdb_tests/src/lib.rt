@@ -14,16 +14,10 @@ mod client;
 #[cfg(test)]
 mod endless;
 #[cfg(test)]
-mod events;
-#[cfg(test)]
-mod explaining;
-#[cfg(test)]
 mod limits;
 #[cfg(test)]
 mod program;
 #[cfg(test)]
 mod records;
-#[cfg(test)]
-mod replies;
 #[cfg(test)]
 mod streams;

@@ -111,15 +111,6 @@ fn add_poll(text: &mut Vec<u8>, number: u64) -> io::Result<()> {
     write!(text, "{at},M,10B\n{second},M,00B\n{answer},S,100\n")
 }
 
-/// A recording of so many polls.
-pub(crate) fn polls(alloc: Global, count: u64) -> io::Result<Vec<u8>> {
-    let mut text = Vec::new(alloc);
-    for number in 1..=count {
-        add_poll(&mut text, number)?;
-    }
-    Ok(text)
-}
-
 /// Gives the rows of a controller that polls a changer without end, and counts what it gives.
 #[derive(Drop)]
 pub(crate) struct Polling {
