@@ -59,7 +59,7 @@ install:
 	    [ ! -e completions/$$name.bash ] || \
 	        install -m 644 completions/$$name.bash '$(completions)'/$$name || exit 1; \
 	done
-	for page in README.md CHANGELOG.md $$(find docs/ -name '*.md'); do \
+	for page in README.md CHANGELOG.md $$(find docs/ -name '*.md') $$(find crates/ -name CALLING.md); do \
 	    sed -E $(installed) "$$page" | install -D -m 644 /dev/stdin '$(doc)'/"$$page" || exit 1; \
 	done
 	for file in $$(find docs/ -name '*.json' -o -name '*.png'); do \
