@@ -3,6 +3,7 @@
 The page beside the cases (README) says how a case is written. There is no other reader of them.
 """
 
+import json
 import pathlib
 import re
 
@@ -167,8 +168,10 @@ class Case(Rows):
             return None
         out = self.output()
         if "--json" in self.words:
-            members, _, version = out.rstrip("\n").partition(',"verdict":"no"')
-            return '{"fault":' + members + "}" + version
+            no = json.loads(out)
+            fault = {name: no[name] for name in ("blame", "row", "rule")}
+            version = {4: 1, 5: 3}[no["version"]]
+            return json.dumps({"fault": fault, "version": version}, separators=(",", ":"))
         return "fault " + " ".join(line.partition(" ")[2] for line in out.splitlines()[1:])
 
 

@@ -160,7 +160,7 @@ def by_device(name, value):
 
 def text_of_report(report, is_extended):
     """The text that says what an object of JSON says (docs/programs/json.md)."""
-    if report["version"] != (3 if is_extended else 1):
+    if report["version"] not in ((3, 5) if is_extended else (1, 4)):
         return f"version {report['version']}"
     if report["verdict"] == "no":
         return "verdict no\n" + "".join(f"{name} {report[name]}\n" for name in ("row", "rule", "blame"))

@@ -175,6 +175,17 @@ def beyond(data, words, row, blame):
     return f"mdbcheck: row {row}: {why}\n"
 
 
+def members(data, words, row, rule, blame):
+    """The members that `check --json` has beside those of any no."""
+    micros = spared(data, words, row, rule)
+    device = blame if blame != "controller" else DEVICES.get((last_begun(list(rows_of(data))[:row]) or 0) >> 3)
+    return {
+        "unjudged": unjudged(data, words, row, rule, blame),
+        "spared": None if micros is None else {"micros": micros, "after-ret": is_asked_again(data, row)},
+        "unfollowed": device if rule == "Profile" else None,
+    }
+
+
 def aside(data, words, report):
     """What the program writes to standard error where its report, as text, is this: one line, or nothing."""
     found = re.match(r"verdict no\nrow (\d+)\nrule (\w+)\nblame (\S+)\n", report)

@@ -1,15 +1,18 @@
 -- Whether the verdict is judged, by how the reading of rows ended.
 use Rattle.mdb_check.proofs.Words.{Event, HasAccepted, IsAnswer, HasTaken, IsRow, IsSpared, IsStopped, IsTakenWhole, IsYes, Heeding, Levels, List, Meets, Met, Ok, Option, Scope, Some, StandsFor, before_last, last_of, offence_of, refl, sym, ℕ, ◌≡◌}
-use Rattle.std.specs.Prelude.{Err, IfOk, IsErrAnd, Result}
+use Rattle.std.specs.Prelude.{Err, IfOk, IsErrAnd, Result, ◌≢◌}
 use Rattle.mdb_words.specs.Refusals.{IsRefusal}
 use Rattle.mdb_follow.specs.Runs.{IsReached}
 use Rattle.mdb_text.specs.declared.outcome.Outcome.{Outcome}
 use Rattle.mdb_text.specs.declared.outcome.Outcome.TheVariants.{No, Yes}
 use Rattle.mdb_verdict.proofs.Ends.{stopped_as}
 use Rattle.mdb_verdict.proofs.Verdicts.{refused_of}
+use Rattle.mdb_verdict.specs.Answers.{Answers}
 use Rattle.mdb_verdict.specs.Ending.{HasEnded}
 use Rattle.mdb_verdict.specs.declared.fault.RunFault.{RunFault}
-use Rattle.mdb_check.specs.Verdict.{IsJudgedAs, IsJudgedNo, answer_of}
+use Rattle.mdb_verdict.specs.declared.fault.RunFault.TheVariants.{Write}
+use Rattle.mdb_check.specs.Verdict.{IsAnsweredBeside, IsJudgedAs, IsJudgedNo, answer_of}
+use Rattle.mdb_check.specs.declared.beside.Beside.{Beside}
 use Rattle.mdb_check.specs.declared.beside.Spared.{Spared}
 use Rattle.mdb_check.specs.declared.beside.TheConstants.Beside.{NONE}
 use Rattle.mdb_check.specs.declared.checking.Checked.{Checked}
@@ -62,3 +65,35 @@ pub of_answer : (Holds : Outcome → Type 0) (checked : Result Checked RunFault)
     → IfOk checked (λ it. Holds it.outcome) → IfOk (answer_of checked) Holds
 of_answer Holds (Ok checked) holds = holds
 of_answer Holds (Err fault) holds = holds
+
+-- what holds of each answer that it may be holds of the answer
+pub answers_likewise : (Is Holds : Result Outcome RunFault → Type 0) (text : Outcome → List ℕ)
+    {before after : Option (List ℕ)} {result : Result Outcome RunFault}
+    → ((answer : Result Outcome RunFault) → Is answer → Holds answer)
+    → Answers Is text Write before after result → Answers Holds text Write before after result
+answers_likewise Is Holds text law answers = record {
+  answer = law _ answers.answer;
+  cut = λ refused. let cut = answers.cut refused in record {
+    outcome = cut.outcome;
+    is = law (Ok cut.outcome) cut.is;
+    taken = cut.taken;
+  };
+}
+
+-- where there is no verdict, and the writer didn't fail
+pub unanswered : (scope : Scope) (readers : Levels) (limit : ℕ) (all : List (List (List ℕ)))
+    (text : Beside → Outcome → List ℕ) {before after : Option (List ℕ)} (fault : RunFault)
+    → IsAnswer scope limit all (Err fault) → fault ≢ Write → (result : Result Checked RunFault)
+    → IsErrAnd result (λ other. other ≡ fault)
+    → (beside : Beside) × IfOk result (λ checked. checked.beside ≡ beside)
+    × Answers (IsAnsweredBeside scope readers limit all beside) (text beside) Write before after
+    (answer_of result)
+unanswered scope readers limit all text fault is other (Ok checked) err = absurd err
+unanswered scope readers limit all text fault is other (Err it) err = (
+  NONE,
+  tt,
+  record {
+    answer = (rw err is, tt);
+    cut = λ same. absurd (other (cc (same, err)));
+  },
+)

@@ -1,3 +1,4 @@
+pub mod Json
 pub mod Spared
 pub mod Unfollowed
 pub mod Unjudged

@@ -7,15 +7,16 @@ ghost use Rattle.mdb_bus.specs.Scopes.{power_on};
 ghost use Rattle.mdb_bus.specs.JoinedScopes.{all_joined};
 ghost use Rattle.mdb_text.specs.Text.{report_text};
 ghost use Rattle.mdb_verdict.specs.Answers.{Answers, AnswersText, Leaves};
-ghost use Rattle.mdb_verdict.specs.Forms.{answer_text};
 ghost use Rattle.mdb_verdict.specs.Headline.{Headline};
 ghost use Rattle.mdb_verdict.specs.Ending.{HasMet, IsToldAs};
 ghost use Rattle.mdb_verdict.specs.Telling.{HasCause, HasNoRoom};
 ghost use Rattle.mdb_verdict.specs.Verdict.{IsAnswer, IsNoYes};
-ghost use Rattle.mdb_check.specs.Verdict.{IsJudgedAs, IsNo, answer_of};
+ghost use Rattle.mdb_check.specs.Json.{checked_text};
+ghost use Rattle.mdb_check.specs.Verdict.{IsAnsweredBeside, IsJudgedAs, IsNo, answer_of, beside_of};
 
 use super::beside::Beside;
 use super::heeding::Heeding;
+use super::json::checked_in;
 use super::spared::spared;
 use mdb_bus::{Levels, Scope};
 use mdb_follow::{ROWS_MAX, laws};
@@ -23,7 +24,7 @@ use mdb_msgs::{DeviceSet, Setups};
 use mdb_records::Records;
 use mdb_text::{Form, Outcome};
 use mdb_verdict::laws::verdicts_say_the_headline;
-use mdb_verdict::{BYTES_MAX, Batch, RunFault, answer_in, outcome_of, read_rows, records_of};
+use mdb_verdict::{BYTES_MAX, Batch, RunFault, outcome_of, read_rows, records_of};
 use mdb_writing::write_text;
 use std::alloc::Global;
 use std::io::{Read, Write};
@@ -185,15 +186,17 @@ pub fn check_records<R: Read + Drop, W: Write>(
     ensures headline { (all : List (List (List ℕ))) → ToCome R.remaining records.old all
         → IfOk result (λ checked. Headline scope.now rows_max all checked.outcome) }
     ensures answers { (all : List (List (List ℕ))) → ToCome R.remaining records.old all
-        → Answers (IsAnswer scope.now rows_max all) (answer_text form scope.now) RunFault.Write
+        → (beside : Beside) × IfOk result (λ checked. checked.beside ≡ beside)
+        × Answers (IsAnsweredBeside scope.now readers rows_max all beside)
+        (checked_text form scope.now beside) RunFault.Write
         (W.contents writer.old) (W.contents writer.new) (answer_of result) }
     ensures judged { (all : List (List (List ℕ))) → ToCome R.remaining records.old all
         → IfOk result (λ checked. IsJudgedAs scope.now readers rows_max all checked.outcome
         checked.beside) }
     ensures no_other { IfOk result (λ checked.
         IsNo checked.outcome ⊎ (checked.beside ≡ Beside.NONE)) }
-    ensures leaves { Leaves W.contents (answer_text form scope.now) RunFault.Write writer.old
-        writer.new (answer_of result) }
+    ensures leaves { Leaves W.contents (checked_text form scope.now (beside_of result))
+        RunFault.Write writer.old writer.new (answer_of result) }
     ensures whole { IsOverLimit R.remaining records.old → IsNoYes (answer_of result) }
     ensures heard { IfErr result (HasCause (fault_of records.new)) }
     ensures met { fault_of records.old ≡ None → IsSome (fault_of records.new)
@@ -204,7 +207,7 @@ pub fn check_records<R: Read + Drop, W: Write>(
 {
     verdicts_say_the_headline();
     let checked = verdict_on(scope, readers, records, rows_max)?;
-    let Some(text) = answer_in(alloc, form, scope, &checked.outcome) else {
+    let Some(text) = checked_in(alloc, form, scope, &checked) else {
         return Err(RunFault::Memory);
     };
     write_text(writer, text.as_slice())?;

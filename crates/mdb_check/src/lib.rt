@@ -20,6 +20,7 @@
 mod beside;
 mod checking;
 mod heeding;
+mod json;
 mod reported;
 mod spared;
 mod unjudged;

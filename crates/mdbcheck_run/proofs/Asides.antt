@@ -1,5 +1,5 @@
 -- What standard error is told where there is an answer.
-use Rattle.std.proofs.Common.{arith, refl, ◌≡◌, ℕ, List, Option, Result, Ok, Err}
+use Rattle.std.proofs.Common.{refl, subst, tt, ◌≡◌, ℕ, List, Option, Result, Ok, Err}
 use Rattle.std.proofs.lemmas.Option.{IfSome_then}
 use Rattle.std.specs.Prelude.{IfOk, IfSome}
 use Rattle.csv.specs.Reading.{default_config, records, strip_bom}
@@ -9,7 +9,8 @@ use Rattle.mdb_follow.specs.declared.follower.TheConstants.{ROWS_MAX}
 use Rattle.mdb_text.specs.declared.outcome.Outcome.{Outcome}
 use Rattle.mdb_text.specs.declared.outcome.Outcome.TheVariants.{No, Yes}
 use Rattle.mdb_verdict.specs.declared.fault.RunFault.{RunFault}
-use Rattle.mdb_check.specs.Verdict.{IsJudgedAs, answer_of}
+use Rattle.mdb_verdict.specs.Answers.{Leaves}
+use Rattle.mdb_check.specs.Verdict.{IsJudgedAs, answer_of, beside_of}
 use Rattle.mdb_check.specs.declared.beside.Beside.{Beside}
 use Rattle.mdb_check.specs.declared.checking.Checked.{Checked}
 use Rattle.mdbcheck_run.specs.Aside.{IsAsideOfCheck, aside_of, aside_on}
@@ -38,3 +39,14 @@ module _ (scope : Scope) (readers : Levels) (text : Option (List ℕ)) (status :
       told checked.outcome checked.beside is judged
   aside_of_check (Err fault) is judged =
       record { possible = λ e. refl; impossible = λ e. absurd (cc (is, e)) }
+
+-- what a writer has of a verdict, with what is said beside it
+pub leaves_beside : {W : Type 0} (text : Beside → Outcome → List ℕ) (broken : RunFault)
+    (contents : W → Option (List ℕ)) (old new : W) (answer : Result Checked RunFault)
+    (beside : Beside) → IfOk answer (λ checked. checked.beside ≡ beside)
+    → Leaves contents (text (beside_of answer)) broken old new (answer_of answer)
+    → Leaves contents (text beside) broken old new (answer_of answer)
+leaves_beside text broken contents old new (Ok checked) beside same leaves =
+    subst (λ b. Leaves contents (text b) broken old new (Ok checked.outcome)) same leaves
+leaves_beside text broken contents old new (Err fault) beside same leaves =
+    record { written = tt; nothing_written = leaves.nothing_written }

@@ -10,7 +10,6 @@ use Rattle.std.specs.Io.KnownBytes.{Appends}
 use Rattle.csv.specs.Reading.{default_config, records, strip_bom}
 use Rattle.mdb_bus.specs.declared.fault.LinkFault.{LinkFault}
 use Rattle.mdb_bus.specs.declared.levels.Levels.{Levels}
-use Rattle.mdb_follow.specs.declared.follower.TheConstants.{ROWS_MAX}
 use Rattle.mdb_follow.specs.declared.goal.Goal.{Goal}
 use Rattle.mdb_text.specs.declared.outcome.Outcome.{Outcome}
 use Rattle.mdb_text.specs.declared.outcome.Outcome.TheVariants.{Yes, No}
@@ -26,8 +25,7 @@ use Rattle.mdb_verdict.specs.Answers.{Answers, Leaves}
 use Rattle.mdb_show.specs.Show.{IsShowingIn, ShowsIn, lines_in}
 use Rattle.mdb_survey.specs.Survey.{IsSurveyedWhole, IsSurveying, SurveysIn, survey_lines_in}
 use Rattle.mdb_surveyor.specs.declared.summary.Summary.{Summary}
-use Rattle.mdb_verdict.specs.Forms.{answer_text}
-use Rattle.mdb_verdict.specs.Verdict.{IsAnswer, IsNoYes}
+use Rattle.mdb_verdict.specs.Verdict.{IsNoYes}
 use Rattle.mdbcheck_run.specs.declared.task.Task.{Task}
 use Rattle.mdbcheck_run.specs.declared.task.Task.TheVariants.{Check}
 use Rattle.mdb_verdict.specs.declared.verdict.TheConstants.{BYTES_MAX}
@@ -178,8 +176,7 @@ says_of Says known wanted status same says over other = record {
 -- What is said of a text that `check` reads is said of its task.
 pub says_checked : (task : Task) (scope : Scope) (readers : Levels) (form : Form)
     (known before after : Option (List ℕ)) (status : ℕ) → task ≡ Check scope readers form
-    → IfSome known (λ text. SaysAnswered
-    (IsAnswer scope ROWS_MAX (records default_config (strip_bom text))) (answer_text form scope)
-    before after status)
+    → IfSome known (λ text. Says (Check scope readers form)
+    (records default_config (strip_bom text)) before after status)
     → IfSome known (λ text. Says task (records default_config (strip_bom text)) before after status)
 says_checked task scope readers form known before after status is says = rw is says

@@ -22,7 +22,10 @@ use Rattle.mdb_text.specs.declared.outcome.Outcome.TheVariants.{Yes, No}
 use Rattle.mdb_verdict.specs.Answers.{IsCutIn}
 use Rattle.mdb_verdict.specs.Forms.{answer_text}
 use Rattle.mdb_verdict.specs.Headline.{Headline}
-use Rattle.mdb_verdict.specs.Verdict.{IsAnswer, IsImpossible, IsPossible}
+use Rattle.mdb_verdict.specs.Verdict.{IsImpossible, IsPossible}
+use Rattle.mdb_check.specs.declared.beside.Beside.{Beside}
+use Rattle.mdb_check.specs.Json.{checked_text}
+use Rattle.mdb_check.specs.Verdict.{IsAnsweredBeside}
 use Rattle.mdb_verdict.specs.declared.fault.RunFault.{RunFault}
 use Rattle.mdb_verdict.specs.declared.verdict.TheConstants.{BYTES_MAX}
 use Rattle.mdbcheck_run.specs.declared.task.Task.{Task}
@@ -83,7 +86,9 @@ pub record SaysExplained (scope : Scope) (goal : Goal) (records : List (List (Li
 -- the writer held before and after.
 abbrev pub Says : Task → List (List (List ℕ)) → Option (List ℕ) → Option (List ℕ) → ℕ → Type 0
 Says (Check scope readers form) records before after status =
-    SaysAnswered (IsAnswer scope ROWS_MAX records) (answer_text form scope) before after status
+    (beside : Beside)
+    × SaysAnswered (IsAnsweredBeside scope readers ROWS_MAX records beside)
+    (checked_text form scope beside) before after status
 Says (Survey scope form) records before after status =
     SaysSurveyed scope form records before after status
 Says (Show scope form) records before after status =

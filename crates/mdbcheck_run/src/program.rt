@@ -4,7 +4,9 @@ ghost use Rattle.std.specs.Prelude.{◌≡◌, ◌≢◌, ◌<◌, ◌⊎◌, Er
 ghost use Rattle.mdbcheck_run.specs.Aside.{HasToldAside, IsAside, IsAsideOfCheck};
 ghost use Rattle.mdbcheck_run.specs.Complaint.{IsToldCause, excess_line};
 ghost use Rattle.mdb_explain.specs.Replay.{IsReplayAnswer};
-ghost use Rattle.mdb_verdict.specs.Verdict.{IsAnswer};
+ghost use Rattle.mdb_check.specs.declared.beside.Beside.{Beside};
+ghost use Rattle.mdb_check.specs.Json.{checked_text};
+ghost use Rattle.mdb_check.specs.Verdict.{IsAnsweredBeside};
 ghost use Rattle.mdbcheck_run.specs.Program.{HasHeadline, Says, SaysAnswered, SaysExplained, SaysOf, SaysShown};
 ghost use Rattle.mdbcheck_run.specs.Program.{SaysSurveyed, show_status_of, status_of};
 ghost use Rattle.mdbcheck_run.specs.Program.{survey_status_of};
@@ -180,10 +182,12 @@ fn run_check<R: Read + Drop, W: Write, E: Write>(
 ) -> u8
     ensures status { result < 3 }
     ensures headline { IfSome (R.remaining reader) (λ text.
-        SaysAnswered (HasHeadline scope.now (records default_config (strip_bom text)))
-        (answer_text form scope.now) (W.contents out.old) (W.contents out.new) result) }
-    ensures says { SaysOf (λ all. SaysAnswered (IsAnswer scope.now ROWS_MAX all)
-        (answer_text form scope.now) (W.contents out.old) (W.contents out.new))
+        (beside : Beside)
+        × SaysAnswered (HasHeadline scope.now (records default_config (strip_bom text)))
+        (checked_text form scope.now beside) (W.contents out.old) (W.contents out.new) result) }
+    ensures says { SaysOf (λ all status. (beside : Beside)
+        × SaysAnswered (IsAnsweredBeside scope.now readers ROWS_MAX all beside)
+        (checked_text form scope.now beside) (W.contents out.old) (W.contents out.new) status)
         (R.remaining reader) result }
     ensures silent { result < 2 → HasToldAside E.contents err.old err.new
         (IsAsideOfCheck scope.now readers (R.remaining reader) result) }

@@ -9,7 +9,7 @@ use Rattle.mdb_verdict.specs.Answers.{Answers}
 use Rattle.mdb_verdict.specs.Headline.{Headline}
 use Rattle.mdb_verdict.specs.Verdict.{IsAnswer, IsNoYes}
 use Rattle.mdb_verdict.specs.declared.fault.RunFault.TheVariants.{Write}
-use Rattle.mdb_check.proofs.Verdicts.{of_answer}
+use Rattle.mdb_check.proofs.Verdicts.{answers_likewise, of_answer}
 use Rattle.mdb_check.proofs.checking.check_text.Goals as goal
 
 pub returns-clause-headline : goal.returns-clause-headline
@@ -32,7 +32,10 @@ returns-clause-answers g c =
     → Answers (IsAnswer c.args.scope.now c.args.rows_max (records default_config (strip_bom text)))
     (report_text c.args.scope.now) Write (g.W.Write.contents c.args.writer.now)
     (g.W.Write.contents c.check_records-checked.new.writer) c.answer_of.result =
-    λ text to_come. rw c.answer_of.ensures (c.check_records-checked.ensures.answers _ to_come) in
+    λ text to_come. rw c.answer_of.ensures (answers_likewise _
+    (IsAnswer c.args.scope.now c.args.rows_max (records default_config (strip_bom text)))
+    (report_text c.args.scope.now) (λ answer is. is.0)
+    (c.check_records-checked.ensures.answers _ to_come).2) in
     let whole : (text : List ℕ)
     → (c.args.bytes_max < length text
     → IsOverLimit g.R.Read.remaining c.records_of-records.result)

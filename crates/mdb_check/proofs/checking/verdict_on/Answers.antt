@@ -1,5 +1,5 @@
 -- The verdict is that of the rows which were read, and the fault of a reading is handed on.
-use Rattle.mdb_check.proofs.Words.{HasTaken, IsAnswer, IsRow, IsStopped, Meets, Ok, scope_of, subst, ◌∙◌}
+use Rattle.mdb_check.proofs.Words.{IsAnswer, IsRow, IsStopped, Meets, Ok, scope_of, subst, ◌∙◌}
 use Rattle.mdb_verdict.proofs.Verdicts as verdicts
 use Rattle.mdb_check.proofs.Verdicts.{judged_no, refused_answer, whole_judged}
 use Rattle.mdb_check.proofs.checking.verdict_on.Goals as goal
