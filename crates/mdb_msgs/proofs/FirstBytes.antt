@@ -1,5 +1,5 @@
 -- The table of what first bytes tell: each entry is what the first byte alone tells.
-use Rattle.mdb_msgs.proofs.Words.{◌≡◌, cases_eq, nat_tests, common_steps, Device, Need, More, Exactly, Foreign, Outside, device_at, need, need_for, ◌≢◌, ℕ, zero, suc, ◌+◌, ◌<◌, Bool, true, ◌&&◌, nat_eq, get_or, refl, Option, Some, None, inl, inr, arith}
+use Rattle.mdb_msgs.proofs.Words.{◌≡◌, cases_eq, nat_tests, common_steps, Device, Need, More, Exactly, Foreign, Outside, device_at, need, need_for, ◌≢◌, ℕ, zero, suc, ◌+◌, ◌<◌, ◌/◌, ◌%◌, [], Bool, true, ◌&&◌, nat_eq, get_or, refl, Option, Some, None, inl, inr, arith}
 use Rattle.mdb_msgs.specs.declared.command.Device.TheVariants.{Changer}
 use Rattle.mdb_msgs.specs.declared.first_needs.TheConstants.{FIRST}
 
@@ -34,10 +34,12 @@ agree_at f g (suc n) h b lt =
           agree_at f g n both.1 b (omega arith)
     ]
 
-pub first_at : (i c : ℕ) → i ≡ c → c < 256 → get_or FIRST i More ≡ need c None
+pub first_at : (a k c : ℕ) → a ≡ c / 8 → k ≡ c % 8 → c < 256
+    → get_or (get_or FIRST a []) k More ≡ need c None
 unfolding agree_below code
-first_at i c is byte =
-    rw is (agree_at (λ k. get_or FIRST k More) (λ k. need k None) 256 refl c byte)
+first_at a k c address command byte = rw (address, command)
+    (agree_at (λ n. get_or (get_or FIRST (n / 8) []) (n % 8) More) (λ n. need n None) 256 refl c
+    byte)
 
 -- what the first byte tells of its own, the second leaves so
 by_device : (device : Option Device) (first : ℕ) (second : Option ℕ) (told : Need)

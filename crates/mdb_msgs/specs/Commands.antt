@@ -1,6 +1,6 @@
 -- The commands of the controller as bytes (MDB/ICP 4.3, coin changer, bill validator, cashless
 -- device).
-use Rattle.std.specs.Prelude.{◌≡◌, ℕ, ◌+◌, ◌<◌, ◌⊎◌, ◌==◌, Bool, true, false, not, bit_and, IsBitSet, List, [], ◌∷◌, ◌++◌, length, slice_index, All}
+use Rattle.std.specs.Prelude.{◌≡◌, ℕ, ◌+◌, ◌<◌, ◌⊎◌, Bool, true, false, IsBitSet, List, [], ◌∷◌, ◌++◌, length, slice_index, All}
 use Rattle.mdb_words.specs.Block.{block_of}
 use Rattle.mdb_msgs.specs.declared.command.Device.{Device}
 use Rattle.mdb_msgs.specs.declared.command.Device.TheVariants as device

@@ -17,7 +17,7 @@ pub fn need_of(prefix: &[u8]) -> Need
     requires { 0 < length prefix.now }
     ensures { result ≡ needed prefix.now }
 {
-    let told = FIRST[usize::from(prefix[0])];
+    let told = FIRST[usize::from(prefix[0] / 8)][usize::from(prefix[0] % 8)];
     match told {
         Need::More => need_by_second(prefix),
         _ => told,
