@@ -96,6 +96,24 @@ impl Heeding {
                 Err(_) => false,
             };
         }
+        self.feed_each(rows)
+    }
+
+    /// The same of a joined recording, row by row.
+    // Not inlined, so that each loop has the processor's registers to itself.
+    #[inline(never)]
+    fn feed_each(&mut self, rows: &[Event]) -> bool
+        requires room { rows_of self.old.follower + length rows.now ≤ ROWS_MAX }
+        ensures taken { OnTrue result ((scope : Scope) (readers : Levels) (before : List Event)
+            → HasFollowed scope readers self.old before
+            → HasFollowed scope readers self.new (before ++ rows.now)) }
+        ensures refused { OnFalse result ((scope : Scope) (readers : Levels)
+            (before : List Event) → HasFollowed scope readers self.old before
+            → RefusesAmong scope readers self.new before rows.now) }
+        ensures scope { scope_of self.new.follower ≡ scope_of self.old.follower }
+        ensures last { self.new.last ≡ self.old.last }
+        ensures earlier { self.new.earlier ≡ self.old.earlier }
+    {
         for event in rows {
             if !self.take(*event) {
                 return false;

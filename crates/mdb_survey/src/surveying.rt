@@ -9,7 +9,7 @@ ghost use Rattle.mdb_survey.specs.inner.SurveyLines.{HasSurveyed, PutsSurveying}
 ghost use Rattle.mdb_verdict.specs.Telling.{Reads};
 ghost use Rattle.mdb_writing.specs.Output.{begun, output};
 
-use super::form::{add_end, add_ended, add_stretch};
+use super::form::{add_end, add_stretch, end_stretch};
 use mdb_bus::Scope;
 use mdb_follow::{ROWS_MAX, laws};
 use mdb_records::Records;
@@ -201,8 +201,12 @@ impl<W: Write> TakeRows<W> for Surveying {
         if self.surveyor.take(row) {
             return None;
         }
-        let ended = self.surveyor.end_stretch();
-        add_ended(&mut self.printer, self.form, &self.scope, writer, &ended).err()
+        let Surveying {
+            surveyor,
+            printer,
+            ..
+        } = self;
+        end_stretch(surveyor, printer, self.form, &self.scope, writer).err()
     }
 
     ghost counts = { λ surveying before after rows has. has.counted };

@@ -15,11 +15,11 @@ returns-clause-taken g c start earlier has =
     ends_one (survey_lines_in c.args.self.now.form (profile_of c.args.self.now.scope.begins))
     c.args.self.now.scope c.args.self.now.surveyor _ (begun (g.W.Write.contents start)) _ earlier
     c.args.row has
-    (omega (arith, c.end_stretch-ended.ensures.counted, c.if-take.ensures.uncounted))
+    (omega (arith, c.end_stretch.ensures.counted, c.if-take.ensures.uncounted))
     (none_are_reached c.followers_stand_for_reached_rows.ensures
     c.fronts_of_reached_rows_are_reached.ensures)
-    (output (g.W.Write.contents c.add_ended.new.writer) c.add_ended.new.printer.page)
-    c.end_stretch-ended.result
-    (λ scope rows ended on. c.end_stretch-ended.ensures.ended scope rows c.args.row ended
-    (c.if-take.ensures.halted scope rows ended on)) c.add_ended.result c.err.result
-    c.err.ensures.value c.add_ended.ensures.added c.add_ended.ensures.refused
+    (output (g.W.Write.contents c.end_stretch.new.writer) c.end_stretch.new.printer.page)
+    c.end_stretch.ensures.ended.0
+    (λ scope rows ended on. c.end_stretch.ensures.ended.1 scope rows c.args.row ended
+    (c.if-take.ensures.halted scope rows ended on)) c.end_stretch.result c.err.result
+    c.err.ensures.value c.end_stretch.ensures.ended.2 c.end_stretch.ensures.ended.3
