@@ -101,7 +101,7 @@ impl Lines {
             None
         } else if self.inverted.has(line) {
             Some(LowAtRest::Turned(line))
-        } else if self.side(other).is_low() != self.inverted.has(other) {
+        } else if self.side(other).stands_low(self.inverted.has(other)) {
             Some(LowAtRest::Both)
         } else {
             Some(LowAtRest::Alone(line))

@@ -54,4 +54,9 @@ impl Rest {
     pub(crate) fn is_low(&self) -> bool {
         self.low > self.high.max(1)
     }
+
+    /// Whether two high levels or more were long, and more than low ones.
+    pub(crate) fn is_high(&self) -> bool {
+        self.high > self.low.max(1)
+    }
 }

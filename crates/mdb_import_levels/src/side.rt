@@ -139,6 +139,15 @@ impl Side {
         self.rest.is_low()
     }
 
+    /// Whether the line is low at rest in the export, if an option may have turned it.
+    pub(crate) fn stands_low(&self, is_inverted: bool) -> bool {
+        if is_inverted {
+            self.rest.is_high()
+        } else {
+            self.rest.is_low()
+        }
+    }
+
     /// Whether damaged words were left out of the line as it is read.
     pub(crate) fn is_damaged(&self) -> bool {
         self.upright.damaged().count() > 0

@@ -3,11 +3,10 @@
 //! in it costs seconds, and so does each entry of a table that is a constant or is made in the
 //! test.
 
-use super::streams::{Pieces, words_of};
+use super::streams::Pieces;
 use mdb_check::check;
 use mdb_text::Outcome;
 use mdb_verdict::RunFault;
-use mdbcheck_run::run_words;
 use std::alloc::Global;
 use std::fmt::Debug;
 use std::process::Abort;
@@ -38,20 +37,4 @@ pub(crate) fn check_gives(
     let mut out = Vec::new(alloc);
     let answer = check(alloc, reader, &mut out);
     same_at(rt, case, (answer, out.as_slice()), wanted);
-}
-
-/// Ends the test where the program has another status on a command line, or writes something else
-/// to standard output or to standard error.
-pub(crate) fn run_gives(
-    rt: &impl Abort,
-    alloc: Global,
-    words: &str,
-    reader: &mut Pieces,
-    wanted: (u8, &[u8], &[u8]),
-) {
-    let list = words_of(alloc, words).expect(rt, "memory");
-    let mut out = Vec::new(alloc);
-    let mut err = Vec::new(alloc);
-    let status = run_words(alloc, list.as_slice(), reader, &mut out, &mut err);
-    same_at(rt, words, (status, out.as_slice(), err.as_slice()), wanted);
 }

@@ -16,8 +16,6 @@ mod endless;
 #[cfg(test)]
 mod limits;
 #[cfg(test)]
-mod program;
-#[cfg(test)]
 mod records;
 #[cfg(test)]
 mod streams;

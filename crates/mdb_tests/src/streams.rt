@@ -1,6 +1,6 @@
 //! Recordings, readers and writers that the tests of `check` and `show` share.
 
-use std::alloc::{AllocError, Global};
+use std::alloc::Global;
 use std::io;
 use std::io::{ErrorKind, Read, Write};
 
@@ -152,58 +152,4 @@ impl Read for Polling {
         self.given = self.given.saturating_add(count as u64);
         Ok(count)
     }
-}
-
-/// Keeps what is written, counts the writes, and fails at one of them alone.
-#[derive(Drop)]
-pub(crate) struct Sheet {
-    pub(crate) text: Vec<u8>,
-    // The most bytes that a write takes.
-    most: usize,
-    pub(crate) writes: u64,
-    // The number of the write that fails, from 1; 0 for none.
-    failing: u64,
-    kind: ErrorKind,
-}
-
-impl Sheet {
-    /// One that takes a few bytes at a time, and fails for this reason.
-    pub(crate) fn failing(alloc: Global, failing: u64, kind: ErrorKind) -> Sheet {
-        Sheet {
-            text: Vec::new(alloc),
-            most: 3,
-            writes: 0,
-            failing,
-            kind,
-        }
-    }
-
-    pub(crate) fn has_failed(&self) -> bool {
-        0 < self.failing && self.failing <= self.writes
-    }
-}
-
-impl Write for Sheet {
-    fn write(&mut self, buf: &[u8]) -> io::Result<usize> {
-        self.writes = self.writes.saturating_add(1);
-        if self.writes == self.failing {
-            return Err(io::Error::from(self.kind));
-        }
-        let count = buf.len().min(self.most);
-        self.text.extend_from_slice(&buf[..count])?;
-        Ok(count)
-    }
-
-    fn flush(&mut self) -> io::Result<()> {
-        Ok(())
-    }
-}
-
-/// The words of a command line, which blanks part.
-pub(crate) fn words_of(alloc: Global, line: &str) -> Result<Vec<String>, AllocError> {
-    let mut list = Vec::new(alloc);
-    for word in line.split_whitespace() {
-        list.push(String::from_str(alloc, word)?)?;
-    }
-    Ok(list)
 }
