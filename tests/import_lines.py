@@ -33,7 +33,7 @@ LINES = [
     ("--help", f"commands: {COMMANDS}\n"),
     ("rows --help", f"usage: mdbimport {USAGE['rows']}; all: mdbimport manual rows\n"),
     ("help edges", f"usage: mdbimport {USAGE['edges']}; all: mdbimport manual edges\n"),
-    ("--version", "mdbimport 0.13.1\n"),
+    ("--version", "mdbimport 0.14.0\n"),
     ("file", 'unknown command "file"'),
     ("row", 'unknown command "row" (rows?)'),
     ("--unit s rows", 'unknown option "--unit" (rows --unit?)'),

@@ -17,7 +17,7 @@ use std::alloc::{AllocError, Global};
 use std::io::{self, Write};
 
 /// The program's version.
-const VERSION: &str = "0.13.1";
+const VERSION: &str = "0.14.0";
 
 /// The option that says that the recording begins in mid-session.
 const JOINED: &str = "joined";

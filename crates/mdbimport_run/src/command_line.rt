@@ -4,7 +4,7 @@ use super::manual;
 use command_words::{CommandRow, FILE, Program};
 
 /// The program's version.
-pub(crate) const VERSION: &str = "0.13.1";
+pub(crate) const VERSION: &str = "0.14.0";
 
 /// The option that tells the unit of the times.
 pub(crate) const UNIT: &str = "unit";
