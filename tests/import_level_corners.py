@@ -335,7 +335,7 @@ LEVELS = [
     # Both lines upside down.
     ("", BOTH_TURNED, "", f"?6 1060 M {FRAME}{BOTH_LOW}"),
     *((words, BOTH_TURNED, SIX, "") for words in ("--invert", "--invert --invert-line M")),
-    ("--invert-line M", BOTH_TURNED, "", f"?8 3060 S {FRAME}{LOW_S}"),
+    ("--invert-line M", BOTH_TURNED, "", f"?8 3060 S {FRAME}{BOTH_LOW}"),
     ("--skip-damaged", BOTH_TURNED, "", "left out 6 damaged words, the first at 1060 on M, 3060 on S, 5060 on M, 7060 on "
      f"S, 9060 on M{SURVEY}\n{BOTH_LOW[2:]}\n{NO_ROW}"),
     # The right way up, and read upside down.

@@ -269,14 +269,15 @@ def records_in(text, controller, peripheral, unit):
     return Records(table.times, table.levels, range(begin, end), end, fault)
 
 
-def is_low_at_rest(records, letter, is_turned):
-    """Whether two or more levels of a line are low and long, and more than are high and long, from the first time that it is
-    high to its last change."""
+def is_at_rest(level, records, letter, is_turned):
+    """Whether two or more levels of a line are low (0) or high (1) and long, and more than are otherwise and long, from the
+    first time that it is high to its last change."""
     high, long = records.is_high(letter, is_turned), [0, 0]
     changes = [at for at in range(len(high)) if high[at] != (at > 0 and high[at - 1])]  # the first is to high
     for number, (at, until) in enumerate(zip(changes, changes[1:])):
         long[number % 2] += records.times[until] - records.times[at] > 11 * BIT
-    return long[1] >= 2 and long[1] > long[0]
+    most, other = long[not level], long[level]
+    return most >= 2 and most > other
 
 
 class Lines:
@@ -284,7 +285,8 @@ class Lines:
 
     def __init__(self, records, turned, skip):
         self.turned = turned
-        self.low = {letter: is_low_at_rest(records, letter, letter in turned) for letter in "MS"}
+        self.low = {letter: is_at_rest(0, records, letter, letter in turned) for letter in "MS"}
+        self.exported_low = {letter: is_at_rest(letter in turned, records, letter, letter in turned) for letter in "MS"}
         self.read = {letter: line_of(records, letter, letter in turned, skip) for letter in "MS"}
         other = {letter: line_of(records, letter, True, skip) for letter in "MS" if self.low[letter] and not turned}
         stand = [letter for letter, its in other.items() if (self.read[letter].fault or self.read[letter].damaged)
@@ -298,7 +300,7 @@ class Lines:
             return HINT
         if letter in self.turned:
             return f"line {letter} is low at rest as --invert or --invert-line has it read"
-        if all(self.low.values()):
+        if all(self.exported_low.values()):
             return "both lines are low at rest: --invert reads them upside down"
         return f"line {letter} is low at rest: --invert-line {letter} reads it upside down"
 
